@@ -1,0 +1,4 @@
+pub mod Integers
+pub mod Semiring
+pub mod Values
+pub mod Exact

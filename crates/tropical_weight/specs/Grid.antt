@@ -1,0 +1,35 @@
+-- Whole numbers of units as values of single precision, and the test whether a value is one. Definitions only.
+-- Everywhere 1 / 2 ^ j is the unit.
+use Prim.Native.Nat.{ℕ, suc, _*_, _/_, _%_, _^_}
+use mathlib.Core.Bool.{Bool, true, false, not, _&&_, cond}
+use lib.Dec.{leb, eqb}
+use lib.IntN.{ℤ, pos, negsuc, negℤ}
+use lib.Ieee.{Float, binary32, up, down, round, ofBits}
+use lib.Ieee as Ieee
+use Rattle.tropical_weight.specs.Tropical.{Tropical, fin, inf}
+
+-- k / 2 ^ j, rounded to single precision; exact up to 2 ^ 24 units
+unfoldable pub ofK : ℕ → ℤ → Float
+ofK j (pos n) = round binary32 false n (2 ^ j)
+ofK j (negsuc n) = round binary32 true (suc n) (2 ^ j)
+
+abbrev pub ofT : ℕ → Tropical → Float
+ofT j (fin k) = ofK j k
+ofT j inf = Ieee.inf false
+
+-- how many units x has, cut toward zero
+unfoldable pub unitsOf : ℕ → Float → ℤ
+unitsOf j Ieee.nan = pos 0
+unitsOf j (Ieee.inf s) = pos 0
+unitsOf j (Ieee.fin s m e) = cond s (negℤ (pos (m * up e * 2 ^ j / down e))) (pos (m * up e * 2 ^ j / down e))
+
+-- The grid: x is a whole number of units, at most `most` of them either way. NaN, the infinities and negative zero are off it.
+unfoldable pub onGrid : ℕ → ℕ → Float → Bool
+onGrid j most Ieee.nan = false
+onGrid j most (Ieee.inf s) = false
+onGrid j most (Ieee.fin s m e) = eqb (m * up e * 2 ^ j % down e) 0 && leb (m * up e * 2 ^ j / down e) most && not (s && eqb m 0)
+
+-- the same of a bit pattern
+unfoldable pub gridBits : ℕ → ℕ → ℕ → Bool
+unfolding ofBits onGrid
+gridBits j most bits = onGrid j most (ofBits binary32 bits)

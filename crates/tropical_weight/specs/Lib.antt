@@ -1,0 +1,4 @@
+pub mod Limits
+pub mod Tropical
+pub mod Grid
+pub mod Single

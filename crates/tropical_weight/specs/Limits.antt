@@ -1,0 +1,23 @@
+-- The unit and the limits of document 01, each in this one place. Definitions only.
+-- The laws are proved over any unit 2 ^ j with j up to `finest`, and over any limits on nodes and weights whose product is `sumLimit`.
+use Prim.Native.Nat.{ℕ, _^_}
+
+-- a weight is a whole number of 64ths: the unit is 1 / 2 ^ unit
+abbrev pub unit : ℕ
+unit = 6
+
+-- the finest unit that the laws cover is 1 / 2 ^ finest
+abbrev pub finest : ℕ
+finest = 8
+
+-- the most units of a weight, either way
+abbrev pub weightLimit : ℕ
+weightLimit = 4096
+
+-- the most nodes of a machine, and so the most terms of a sum along a reading
+abbrev pub nodeLimit : ℕ
+nodeLimit = 4096
+
+-- the most units of a sum, either way: up to here single precision has every whole number
+abbrev pub sumLimit : ℕ
+sumLimit = 2 ^ 24

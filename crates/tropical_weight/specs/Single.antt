@@ -1,0 +1,36 @@
+-- What the functions of this crate answer, at any values of single precision, and what that is on the grid. Definitions only.
+use Prim.Native.Nat.{ℕ, _≤_, _^_}
+use mathlib.Core.Path.{_≡_}
+use mathlib.Core.Bool.{Bool, _&&_, cond}
+use lib.IntN.{ℤ, pos, natAbs}
+use lib.Ieee.{Float, binary32, add, mul, lt, le, ofInt, toSigned}
+use Rattle.tropical_weight.specs.Limits.{finest, sumLimit}
+use Rattle.tropical_weight.specs.Tropical.{Tropical, Within}
+use Rattle.tropical_weight.specs.Grid.{ofK, ofT}
+
+-- ---- by the operations of single precision
+-- the lesser, and the first where neither is less
+unfoldable pub lesser : Float → Float → Float
+lesser a b = cond (lt b a) b a
+
+-- each is at most the other and delta
+unfoldable pub approxEqual : Float → Float → Float → Bool
+approxEqual a b delta = le a (add binary32 b delta) && le b (add binary32 a delta)
+
+-- x in units of 1 / 2 ^ j as an i32: cut toward zero, held to the range, and 0 for a NaN, as the Rust's `as` does
+unfoldable pub costOf : ℕ → Float → ℤ
+costOf j x = toSigned 31 (mul binary32 x (ofInt binary32 (pos (2 ^ j))))
+
+-- ---- on the grid: for values v and w of the semiring, in any unit that the laws cover
+abbrev pub OnValues : {A : Type 0} → Float → Float → (ℕ → Tropical → Tropical → A) → A → Type 0
+OnValues a b answer r = (j : ℕ) → j ≤ finest → (v w : Tropical) → Within sumLimit v → Within sumLimit w → a ≡ ofT j v → b ≡ ofT j w → r ≡ answer j v w
+
+-- r is what `single` answers at a and b, and on the grid the value of v `op` w
+pub record Computes (single : Float → Float → Float) (op : Tropical → Tropical → Tropical) (a b r : Float) : Type 0 where
+  pub same : r ≡ single a b
+  pub exact : OnValues a b (λ j v w. ofT j (op v w)) r
+
+-- r is what `single` answers at a and b, and on the grid what `test` answers at v and w
+pub record Decides (single : Float → Float → Bool) (test : Tropical → Tropical → Bool) (a b : Float) (r : Bool) : Type 0 where
+  pub same : r ≡ single a b
+  pub exact : OnValues a b (λ j v w. test v w) r
