@@ -1,6 +1,6 @@
 -- Whole numbers of units as values of single precision, and the test whether a value is one. Definitions only.
 -- Everywhere 1 / 2 ^ j is the unit.
-use Prim.Native.Nat.{ℕ, suc, _*_, _/_, _%_, _^_}
+use Prim.Native.Nat.{ℕ, suc, _+_, _-_, _*_, _/_, _%_, _^_, min}
 use mathlib.Core.Bool.{Bool, true, false, not, _&&_, cond}
 use lib.Dec.{leb, eqb}
 use lib.IntN.{ℤ, pos, negsuc, negℤ}
@@ -33,3 +33,12 @@ onGrid j most (Ieee.fin s m e) = eqb (m * up e * 2 ^ j % down e) 0 && leb (m * u
 unfoldable pub gridBits : ℕ → ℕ → ℕ → Bool
 unfolding ofBits onGrid
 gridBits j most bits = onGrid j most (ofBits binary32 bits)
+
+-- ---- the fields of a bit pattern
+-- the 24 digits of a finite value with the exponent's field e and the stored digits t: where e is 0 the leading digit is 0
+unfoldable pub significand : ℕ → ℕ → ℕ
+significand e t = cond (eqb e 0) t (2 ^ 23 + t)
+
+-- how many low digits of the significand lie below the unit, held between 0 and 24
+unfoldable pub gridShift : ℕ → ℕ → ℕ
+gridShift j e = min 24 (150 - j - e)

@@ -2,6 +2,7 @@
 use Prim.Native.Nat.{ℕ, _≤_, _^_}
 use mathlib.Core.Path.{_≡_}
 use mathlib.Core.Bool.{Bool, _&&_, cond}
+use mathlib.Core.List.{List, [], _∷_}
 use lib.IntN.{ℤ, pos, natAbs}
 use lib.Ieee.{Float, binary32, add, mul, lt, le, ofInt, toSigned}
 use Rattle.tropical_weight.specs.Limits.{finest, sumLimit}
@@ -21,6 +22,11 @@ approxEqual a b delta = le a (add binary32 b delta) && le b (add binary32 a delt
 unfoldable pub costOf : ℕ → Float → ℤ
 costOf j x = toSigned 31 (mul binary32 x (ofInt binary32 (pos (2 ^ j))))
 
+-- the sum along a list, from its front, onto a
+unfoldable pub addAll : Float → List Float → Float
+addAll a [] = a
+addAll a (x ∷ xs) = addAll (add binary32 a x) xs
+
 -- ---- on the grid: for values v and w of the semiring, in any unit that the laws cover
 abbrev pub OnValues : {A : Type 0} → Float → Float → (ℕ → Tropical → Tropical → A) → A → Type 0
 OnValues a b answer r = (j : ℕ) → j ≤ finest → (v w : Tropical) → Within sumLimit v → Within sumLimit w → a ≡ ofT j v → b ≡ ofT j w → r ≡ answer j v w
@@ -34,3 +40,8 @@ pub record Computes (single : Float → Float → Float) (op : Tropical → Trop
 pub record Decides (single : Float → Float → Bool) (test : Tropical → Tropical → Bool) (a b : Float) (r : Bool) : Type 0 where
   pub same : r ≡ single a b
   pub exact : OnValues a b (λ j v w. test v w) r
+
+-- r is the cost of x in units of 1 / 2 ^ j, and k where x is k units within the limit of sums
+pub record Costs (j : ℕ) (x : Float) (r : ℤ) : Type 0 where
+  pub same : r ≡ costOf j x
+  pub exact : (k : ℤ) → natAbs k ≤ sumLimit → x ≡ ofK j k → r ≡ k

@@ -3,13 +3,25 @@
 // A weight is an f32. On the grid it is a whole number of units, and what these functions answer is
 // exact: sums are sums of whole numbers, tests are tests of whole numbers.
 ghost use mathlib.Core.Path.{_≡_};
-ghost use Prim.Native.Nat.{ℕ, _≤_};
+ghost use Prim.Native.Nat.{ℕ, _≤_, _<_};
 ghost use lib.Ieee.{Float, binary32, add, lt, ofBits, toBits};
 ghost use Rattle.tropical_weight.specs.Limits.{unit, finest, weightLimit};
 ghost use Rattle.tropical_weight.specs.Tropical as Tropical;
 ghost use Rattle.tropical_weight.specs.Tropical.{_⊕_, _⊗_, ltT, eqT};
-ghost use Rattle.tropical_weight.specs.Grid.{ofT, gridBits};
-ghost use Rattle.tropical_weight.specs.Single.{lesser, Computes, Decides};
+ghost use Rattle.tropical_weight.specs.Grid.{ofT, gridBits, gridShift, significand};
+ghost use Rattle.tropical_weight.specs.Single.{lesser, Computes, Decides, Costs};
+
+// The unit is 1 / 2 ^ UNIT: weights are whole numbers of 64ths.
+pub const UNIT: u32 = 6;
+
+// How many units are 1.
+const UNITS: f32 = 64.0;
+
+// The most units of a weight, either way.
+pub const WEIGHT_LIMIT: u32 = 4096;
+
+// The exponent's field of the values from 2 ^ 23 units up to 2 ^ 24, whose last digit is the unit.
+const LAST_IS_UNIT: u32 = 150 - UNIT;
 
 // The semiring's zero, neutral for `plus`: infinity.
 pub fn zero() -> f32
@@ -44,4 +56,85 @@ pub fn natural_less(a: f32, b: f32) -> bool
     ensures { λ r. ⌜ Decides lt ltT a b r ⌝ }
 {
     a < b
+}
+
+// How many low digits of a significand lie below the unit, held between 0 and 24.
+fn grid_shift(exponent: u32) -> u32
+    ensures { λ r. ⌜ r ≡ gridShift unit exponent ⌝ }
+{
+    if LAST_IS_UNIT <= exponent {
+        return 0;
+    }
+    let below = LAST_IS_UNIT - exponent;
+    if 24 < below { 24 } else { below }
+}
+
+// The 24 digits of a finite value, by its exponent's field and its stored digits.
+fn significand_of(exponent: u32, digits: u32) -> u32
+    requires { ⌜ digits < 0x80_0000 ⌝ }
+    ensures { λ r. ⌜ r ≡ significand exponent digits ⌝ }
+{
+    if exponent == 0 {
+        digits
+    } else {
+        0x80_0000 + digits
+    }
+}
+
+// The grid test: whether `bits` is the pattern of a whole number of units within the limit. NaN,
+// the infinities and negative zero are off the grid.
+pub fn on_grid(bits: u32) -> bool
+    ensures { λ r. ⌜ r ≡ gridBits unit weightLimit bits ⌝ }
+{
+    let exponent = bits / 0x80_0000 % 0x100;
+    if LAST_IS_UNIT < exponent {
+        return false;
+    }
+    let digits = significand_of(exponent, bits % 0x80_0000);
+    let shift = grid_shift(exponent);
+    let units = digits >> shift;
+    if units << shift != digits {
+        return false;
+    }
+    if WEIGHT_LIMIT < units {
+        return false;
+    }
+    bits != 0x8000_0000
+}
+
+// The value of a bit pattern; a NaN's is a NaN, of no particular pattern.
+pub fn from_bits(bits: u32) -> f32
+    ensures { λ r. ⌜ r ≡ ofBits binary32 bits ⌝ }
+{
+    if 0x7f80_0000 < bits % 0x8000_0000 {
+        return 0.0 / 0.0;
+    }
+    f32::from_bits(bits)
+}
+
+// The bit pattern of a value; of a NaN it is 7FC00000 hexadecimal.
+pub fn to_bits(value: f32) -> u32
+    ensures { λ r. ⌜ r ≡ toBits binary32 value ⌝ }
+{
+    if value != value {
+        return 0x7fc0_0000;
+    }
+    f32::to_bits(value)
+}
+
+// The cost in units, as an i32: cut toward zero, held to the range, and 0 for a NaN.
+pub fn cost(weight: f32) -> i32
+    ensures { λ r. ⌜ Costs unit weight r ⌝ }
+{
+    let units = weight * UNITS;
+    if units >= 2147483648.0 {
+        return 2147483647;
+    }
+    if units > -2147483648.0 {
+        return std::num::truncating_f32_to_i64(units) as i32;
+    }
+    if units != units {
+        return 0;
+    }
+    -2147483648
 }

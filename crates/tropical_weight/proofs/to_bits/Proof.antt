@@ -1,0 +1,28 @@
+use mathlib.Core.Path.{_≡_, sym, ap, _∙_, subst}
+use mathlib.Core.Bool.{Bool, true, false, not}
+use lib.Dec.{T}
+use lib.Ieee.{Float, nan, inf, fin, binary32, isNan, ne, toBits}
+use lib.Ieee.Compare.{differs-from-itself, nan-differs}
+use borrow.Author.Needs.{needs}
+use Rattle.tropical_weight.proofs.to_bits.Statement.{statement}
+use Rattle.tropical_weight.proofs.to_bits.Tie as tie
+
+returns : tie.Need-returns
+unfolding toBits
+returns c = ap (toBits binary32) (sym (differs-from-itself (c .before .args .value) (subst T (sym (c .if1 .taken)) tt)))
+
+-- what equals itself is no NaN
+no-nan : (x : Float) → ne x x ≡ false → T (not (isNan x))
+unfolding isNan
+no-nan nan e = absurd (subst T (sym nan-differs ∙ e) tt)
+no-nan (inf s) e = tt
+no-nan (fin s m e) p = tt
+
+float-to-bits-result : tie.Need-float-to-bits-result
+float-to-bits-result c = no-nan (c .before .args .value) (c .if1 .left)
+
+returns-2 : tie.Need-returns-2
+returns-2 c = search needs
+
+pub to-bits-spec : {M : Type 1} → statement M
+to-bits-spec = tie.close (tie.spec returns float-to-bits-result returns-2)
