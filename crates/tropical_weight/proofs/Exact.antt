@@ -204,7 +204,7 @@ module _ (j : ℕ) (h : j ≤ finest) where
   pub bits-back : (v : Tropical) → ofBits binary32 (toBits binary32 (ofT j v)) ≡ ofT j v
   bits-back v = ofBits-toBits binary32 (ofT j v) (ofT-fits v)
 
--- ---- zero and one, and what the contracts say of an operation and of a test
+  -- ---- zero and one, and what the contracts say of an operation and of a test
   pub one-ofT : Ieee.fin false 0 (pos 0) ≡ ofT j one
   unfolding fits
   one-ofT = value-unique (Ieee.fin false 0 (pos 0)) (ofK j (pos 0)) false 0 (2 ^ j) (pow-pos j) tt (ofK-fits j (pos 0)) (refl, zero-mul (2 ^ j)) (ofK-value j h (pos 0) (lit≤ tt))

@@ -2,7 +2,8 @@ pub mod Integers
 pub mod Semiring
 pub mod Values
 pub mod Exact
+pub mod Sums
+pub mod Near
 pub mod Grid
 pub mod Fields
-pub mod Sums
 pub mod Units

@@ -108,6 +108,17 @@ pub ⊕-greatest : {a b c : Tropical} → c ≼ a → c ≼ b → c ≼ a ⊕ b
     go true = k
     go false = h
 
+-- the natural order of a semiring with these laws, as the Rust takes it: a is the sum of the two, and they differ
+pub natural-ltT : (a b : Tropical) → eqT (a ⊕ b) a && not (eqT a b) ≡ ltT a b
+natural-ltT a b = go (leT a b) (leT b a) refl refl
+  where
+    go : (x y : Bool) → leT a b ≡ x → leT b a ≡ y → eqT (a ⊕ b) a && not (eqT a b) ≡ ltT a b
+    go true y p q = ap (λ (t : Bool). eqT (cond t b a) a && not (leT a b && leT b a)) (ltT-not b a ∙ ap not p) ∙ ap (λ (t : Bool). t && not (leT a b && leT b a)) (eq-eqT a a refl) ∙ ap (λ (t : Bool). not (t && leT b a)) p ∙ sym (ltT-not a b)
+    go false y p q =
+        let s : ltT b a ≡ true = ltT-not b a ∙ ap not p in
+        let up : leT b a ≡ true = is-true (leT b a) (not-le a b (subst (λ (t : Bool). T (not t)) (sym p) tt)) in
+        ap (λ (t : Bool). eqT (cond t b a) a && not (leT a b && leT b a)) s ∙ (λ i. up i && p i && not (p i && up i)) ∙ sym (ltT-not a b ∙ ap not up)
+
 -- ---- the semiring's laws, by those of the order
 pub ⊕-comm : (a b : Tropical) → a ⊕ b ≡ b ⊕ a
 ⊕-comm a b = ≼-antisym (⊕-greatest (⊕-right a b) (⊕-left a b)) (⊕-greatest (⊕-right b a) (⊕-left b a))

@@ -1,6 +1,7 @@
 -- How large a sum of weights gets, and so: along a reading every partial sum is exact. Over any unit, and over any limits on the number of terms and
 -- on the units of a term whose product is the limit of sums. Assumes nothing.
 use mathlib.Core.Path.{_≡_, refl, sym, ap, _∙_, subst}
+use mathlib.Core.Bool.{Bool, true, false, cond}
 use mathlib.Core.List.{List, [], _∷_, _++_, map, Memᴰ·append-left, List·Memᴰ, List·Memᴰ·head, List·Memᴰ·tail}
 use Prim.Native.Nat.{ℕ, zero, suc, _+_, _*_, _≤_}
 use native.Mathlib.Nat.{le-trans, le-of-eq, add-mul, mul-le-mul-right, add-zero, zero-add}
@@ -10,7 +11,7 @@ use lib.IntN.{ℤ, pos, natAbs}
 use lib.ListN.{length, length-append}
 use lib.Ieee.{Float, binary32, add}
 use Rattle.tropical_weight.specs.Limits.{finest, sumLimit, nodeLimit, weightLimit}
-use Rattle.tropical_weight.specs.Tropical.{Tropical, fin, inf, one, _⊗_, timesAll, Within}
+use Rattle.tropical_weight.specs.Tropical.{Tropical, fin, inf, ltT, one, _⊕_, _⊗_, timesAll, Within}
 use Rattle.tropical_weight.specs.Grid.{ofT}
 use Rattle.tropical_weight.specs.Single.{addAll}
 use Rattle.tropical_weight.proofs.Integers.{natAbs-add}
@@ -25,6 +26,13 @@ pub within-⊗ : (a b : ℕ) (v w : Tropical) → Within a v → Within b w → 
 within-⊗ a b (fin i) (fin k) h l = omega (arith, natAbs-add i k)
 within-⊗ a b (fin i) inf h l = l
 within-⊗ a b inf w h l = h
+
+pub within-⊕ : (a : ℕ) (v w : Tropical) → Within a v → Within a w → Within a (v ⊕ w)
+within-⊕ a v w p q = go (ltT w v)
+  where
+    go : (t : Bool) → Within a (cond t w v)
+    go true = q
+    go false = p
 
 pub within-one : (a : ℕ) → Within a one
 within-one a = omega arith
@@ -53,8 +61,7 @@ module _ (nodes most : ℕ) (product : nodes * most ≡ sumLimit) where
     onto (w ∷ ws) n v l p each =
         let one-more : n + 1 + length ws ≡ n + suc (length ws) = omega arith in
         let head : Within (1 * most) w = within-mono most (1 * most) w (omega arith) (each w (List·Memᴰ·head refl)) in
-        let r = onto ws (n + 1) (v ⊗ w) (omega arith) (terms-⊗ most n 1 v w p head) (λ x m. each x (List·Memᴰ·tail m)) in
-        (
+        let r = onto ws (n + 1) (v ⊗ w) (omega arith) (terms-⊗ most n 1 v w p head) (λ x m. each x (List·Memᴰ·tail m)) in (
           ap (λ (x : Float). addAll x (map (ofT j) ws)) (times-ofT j h v w (terms-within n (omega arith) v p) (terms-within 1 (omega arith) w head)) ∙ r .0,
           subst (λ (x : ℕ). Within (x * most) (timesAll (v ⊗ w) ws)) one-more (r .1),
         )

@@ -4,18 +4,19 @@
 // exact: sums are sums of whole numbers, tests are tests of whole numbers.
 ghost use mathlib.Core.Path.{_≡_};
 ghost use Prim.Native.Nat.{ℕ, _≤_, _<_};
+ghost use lib.IntN.{natAbs};
 ghost use lib.Ieee.{Float, binary32, add, lt, ofBits, toBits};
 ghost use Rattle.tropical_weight.specs.Limits.{unit, finest, weightLimit};
 ghost use Rattle.tropical_weight.specs.Tropical as Tropical;
 ghost use Rattle.tropical_weight.specs.Tropical.{_⊕_, _⊗_, ltT, eqT};
 ghost use Rattle.tropical_weight.specs.Grid.{ofT, gridBits, gridShift, significand};
-ghost use Rattle.tropical_weight.specs.Single.{lesser, Computes, Decides, Costs};
+ghost use Rattle.tropical_weight.specs.Single.{lesser, Computes, Decides, Approx, Costs};
 
 // The unit is 1 / 2 ^ UNIT: weights are whole numbers of 64ths.
 pub const UNIT: u32 = 6;
 
 // How many units are 1.
-const UNITS: f32 = 64.0;
+const UNITS: f32 = (1u32 << UNIT) as f32;
 
 // The most units of a weight, either way.
 pub const WEIGHT_LIMIT: u32 = 4096;
@@ -56,6 +57,13 @@ pub fn natural_less(a: f32, b: f32) -> bool
     ensures { λ r. ⌜ Decides lt ltT a b r ⌝ }
 {
     a < b
+}
+
+// Whether the two are equal within delta, as the Rust tests it.
+pub fn approx_equal(a: f32, b: f32, delta: f32) -> bool
+    ensures { λ r. ⌜ Approx a b delta r ⌝ }
+{
+    a <= b + delta && b <= a + delta
 }
 
 // How many low digits of a significand lie below the unit, held between 0 and 24.
@@ -137,4 +145,16 @@ pub fn cost(weight: f32) -> i32
         return 0;
     }
     -2147483648
+}
+
+// The magnitude of a cost, which a u32 holds at every i32.
+pub fn magnitude(cost: i32) -> u32
+    ensures { λ r. ⌜ r ≡ natAbs cost ⌝ }
+{
+    if cost < 0 {
+        // -cost does not fit at the least i32, so one is added after the cast
+        ((-1 - cost) as u32) + 1
+    } else {
+        cost as u32
+    }
 }
