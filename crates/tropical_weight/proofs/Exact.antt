@@ -1,21 +1,21 @@
 -- Whole numbers of units, up to 2 ^ 24 either way, as values of single precision: sums, tests and bits are exact, in any unit. Assumes nothing.
 use mathlib.Core.Path.{_≡_, refl, sym, ap, _∙_, subst}
 use mathlib.Core.Logic.{_⊎_, inl, inr}
-use mathlib.Core.Bool.{Bool, true, false, not, _&&_, _||_, Bool·beq, cond}
-use Prim.Native.Nat.{ℕ, zero, suc, _+_, _-_, _*_, _^_, _≤_, _<_}
-use native.Mathlib.Nat.{zero-mul, le-antisymm, lt-of-lt-of-le, mul-assoc, one-mul, eq-or-lt-of-le, zero-lt-suc}
+use mathlib.Core.Bool.{Bool, true, false, not, _&&_, cond}
+use Prim.Native.Nat.{ℕ, suc, _+_, _-_, _*_, _^_, _≤_, _<_}
+use native.Mathlib.Nat.{zero-mul, le-antisymm, lt-of-lt-of-le, mul-assoc, one-mul, eq-or-lt-of-le}
 use native.Mathlib.Omega.{arith}
 use lib.Dec.{T, ltb, leb, eqb, ltb→lt, lt→ltb, nltb→le, leb→le, le→leb, eqb→eq, not-T, leb·suc-suc, lit<, lit≤}
 use lib.Pow.{pow-add, pow-pos, pow-mono, pow-lt, shl-lt}
 use lib.IntN.{ℤ, pos, negsuc, natAbs, subℕ, _+ℤ_}
 use lib.Signed.{leZ, ltZ}
-use lib.Ieee.{Float, nan, binary32, round, sum, add, below, level, lt, eq, le, fits, isNan, ofBits, toBits}
+use lib.Ieee.{Float, nan, binary32, round, sum, add, below, level, lt, eq, fits, isNan, ofBits, toBits}
 use lib.Ieee as Ieee
 use lib.Ieee.Bits.{is-true, is-false, ofBits-toBits}
 use lib.Ieee.Exact.{HasValue, round-exact}
 use lib.Ieee.Fits.{round-fits, inf-fits, and-i, and-l, and-r, eq→eqb}
 use Rattle.tropical_weight.specs.Limits.{finest, sumLimit}
-use Rattle.tropical_weight.specs.Tropical.{Tropical, fin, inf, leT, ltT, eqT, one, _⊕_, _⊗_, Within}
+use Rattle.tropical_weight.specs.Tropical.{Tropical, fin, inf, ltT, eqT, one, _⊕_, _⊗_, Within}
 use Rattle.tropical_weight.specs.Grid.{ofK, ofT}
 use Rattle.tropical_weight.specs.Single.{lesser, Computes, Decides}
 use Rattle.tropical_weight.proofs.Semiring.{eqT-eq, eq-eqT}

@@ -5,11 +5,11 @@ use mathlib.Core.Bool.{Bool, true, false, not, _&&_, cond}
 use Prim.Native.Nat.{ℕ, zero, suc, _+_, _-_, _*_, _/_, _%_, _^_, _≤_, _<_, min}
 use native.Mathlib.Nat.{le-trans, lt-of-le-of-lt, div-mul-le-self, div-add-mod', lt-of-lt-of-le, le-of-lt, mul-assoc, mul-le-mul-left, mul-le-mul-right, one-mul, zero-lt-suc, mod-eq-of-lt, div-eq-of-lt, min-eq-left, min-eq-right, min-le-left}
 use native.Mathlib.Omega.{arith}
-use lib.Dec.{T, leb, ltb, eqb, leb→le, le→leb, eqb→eq, ltb→lt, nltb→le, eqb·suc-zero, lit≤}
+use lib.Dec.{T, leb, ltb, eqb, leb→le, eqb→eq, ltb→lt, nltb→le, eqb·suc-zero, lit≤}
 use lib.Pow.{pow-add, pow-pos, pow-mono}
-use lib.Ieee.{Float, nan, inf, fin, binary32, odd, ofFields, ofBits}
+use lib.Ieee.{nan, inf, binary32, odd, ofFields, ofBits}
 use lib.Ieee.Exact.{HasValue, odd-sign}
-use lib.Ieee.Fits.{eq→eqb, and-i, and-l, and-r}
+use lib.Ieee.Fits.{eq→eqb, and-l, and-r}
 use borrow.Author.Tests.{lt-leb, eq-eqb, ne-eqb, eqb-true, eqb-false}
 use Rattle.tropical_weight.specs.Limits.{finest}
 use Rattle.tropical_weight.specs.Grid.{onGrid, gridBits, gridShift, significand}

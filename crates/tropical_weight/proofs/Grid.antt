@@ -3,21 +3,21 @@ use mathlib.Core.Path.{_≡_, refl, sym, ap, _∙_, subst}
 use mathlib.Core.Logic.{_↔_}
 use mathlib.Core.Bool.{Bool, true, false, not, _&&_, cond, false≢true}
 use Prim.Native.Nat.{ℕ, zero, suc, _+_, _*_, _/_, _%_, _^_, _≤_, _<_}
-use native.Mathlib.Nat.{le-trans, lt-irrefl, add-zero, zero-mul, mul-one, one-mul, mul-comm, mul-assoc, mul-right-comm, add-mul, mul-div-cancel, mul-mod-left, mul-pos, div-add-mod', zero-lt-suc}
+use native.Mathlib.Nat.{le-trans, lt-irrefl, add-zero, zero-mul, mul-one, one-mul, mul-comm, mul-assoc, mul-right-comm, add-mul, mul-pos, div-add-mod', zero-lt-suc}
 use native.Mathlib.Omega.{arith}
 use lib.Dec.{T, leb, eqb, leb→le, le→leb, eqb→eq, eqb·suc-zero}
 use lib.Pow.{pow-pos}
 use lib.IntN.{ℤ, pos, negsuc, negℤ, natAbs}
-use lib.Ieee.{Float, nan, inf, fin, binary32, up, down, round, fits, isNan, ofBits, toBits}
-use lib.Ieee.Bits.{is-true, ofBits-toBits, toBits-ofBits, ofBits-fits}
+use lib.Ieee.{Float, nan, inf, fin, binary32, up, down, fits, isNan, ofBits, toBits}
+use lib.Ieee.Bits.{is-true, toBits-ofBits, ofBits-fits}
 use lib.Ieee.Exact.{HasValue}
 use lib.Ieee.Fits.{down-pos, up-pos, and-i, and-l, and-r, eq→eqb}
 use lib.Ieee.Nearest.{div-same}
 use Rattle.tropical_weight.specs.Limits.{finest, sumLimit}
 use Rattle.tropical_weight.specs.Tropical as Tropical
 use Rattle.tropical_weight.specs.Grid.{ofK, unitsOf, onGrid, gridBits}
-use Rattle.tropical_weight.proofs.Values.{same-eqb, value-unique, rescale}
-use Rattle.tropical_weight.proofs.Exact.{negative, ofK-value, ofK-fits, ofT-no-nan, bits-back, round-value}
+use Rattle.tropical_weight.proofs.Values.{same-eqb, value-unique}
+use Rattle.tropical_weight.proofs.Exact.{negative, ofK-value, ofK-fits, ofT-no-nan, bits-back}
 
 -- ---- equal fractions X / d and Y / c leave remainders that are 0 together
 same-rest : (X d Y c : ℕ) → 0 < d → 0 < c → X * c ≡ Y * d → eqb (X % d) 0 ≡ eqb (Y % c) 0

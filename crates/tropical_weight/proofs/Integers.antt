@@ -1,14 +1,12 @@
 -- The order of the whole numbers by its tests, and how large a sum gets. Assumes nothing.
-use mathlib.Core.Path.{_≡_, refl, sym, ap, _∙_, subst}
-use mathlib.Core.Logic.{_⊎_, inl, inr}
-use mathlib.Core.Bool.{Bool, true, false, not, _&&_, cond}
+use mathlib.Core.Path.{_≡_, refl, sym, ap, _∙_}
+use mathlib.Core.Bool.{Bool, true, false, not, cond}
 use Prim.Native.Nat.{ℕ, zero, suc, _+_, _-_, _≤_, _<_}
 use native.Mathlib.Nat.{le-antisymm}
 use native.Mathlib.Omega.{arith}
-use lib.Dec.{T, leb, ltb, eqb, leb→le, le→leb, ltb→lt, nltb→le, nleb→lt, leb·zero, leb·suc-zero, leb·suc-suc}
+use lib.Dec.{T, leb, ltb, leb→le, le→leb, ltb→lt, nltb→le, nleb→lt, leb·zero, leb·suc-zero, leb·suc-suc}
 use lib.IntN.{ℤ, pos, negsuc, natAbs, subℕ, sucℤ, predℤ, _+ℤ_, suc-pred, +ℤ-idr, -ℤ-one, +ℤ-sucℤ, +ℤ-predℤ}
 use lib.Signed.{leZ, ltZ}
-use Rattle.tropical_weight.proofs.Values.{same-test}
 
 -- ---- a linear order
 pub leZ-refl : (a : ℤ) → T (leZ a a)

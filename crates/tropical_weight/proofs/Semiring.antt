@@ -2,13 +2,8 @@
 use mathlib.Core.Path.{_≡_, refl, sym, ap, _∙_, subst}
 use mathlib.Core.Logic.{_⊎_, inl, inr}
 use mathlib.Core.Bool.{Bool, true, false, not, _&&_, cond}
-use mathlib.Core.List.{List, [], _∷_}
-use Prim.Native.Nat.{ℕ, suc, _+_, _*_, _≤_}
-use native.Mathlib.Nat.{le-trans}
-use native.Mathlib.Omega.{arith}
 use lib.Dec.{T}
-use lib.IntN.{ℤ, pos, _+ℤ_, +ℤ-assoc, +ℤ-comm, +ℤ-idl}
-use lib.Signed.{leZ, ltZ}
+use lib.IntN.{ℤ, +ℤ-assoc, +ℤ-comm, +ℤ-idl}
 use lib.Ieee.Fits.{and-l, and-r, and-i}
 use lib.Ieee.Bits.{is-true}
 use Rattle.tropical_weight.specs.Tropical.{Tropical, fin, inf, leT, ltT, eqT, _≼_, _⊕_, _⊗_, zero, one}

@@ -3,13 +3,11 @@
 use mathlib.Core.Path.{_≡_, refl, sym, ap, _∙_, subst}
 use mathlib.Core.Bool.{Bool, true, false, cond}
 use mathlib.Core.List.{List, [], _∷_, _++_, map, Memᴰ·append-left, List·Memᴰ, List·Memᴰ·head, List·Memᴰ·tail}
-use Prim.Native.Nat.{ℕ, zero, suc, _+_, _*_, _≤_}
-use native.Mathlib.Nat.{le-trans, le-of-eq, add-mul, mul-le-mul-right, add-zero, zero-add}
+use Prim.Native.Nat.{ℕ, suc, _+_, _*_, _≤_}
+use native.Mathlib.Nat.{le-trans, le-of-eq, add-mul, mul-le-mul-right, add-zero}
 use native.Mathlib.Omega.{arith}
-use lib.Dec.{lit≤}
-use lib.IntN.{ℤ, pos, natAbs}
 use lib.ListN.{length, length-append}
-use lib.Ieee.{Float, binary32, add}
+use lib.Ieee.{Float}
 use Rattle.tropical_weight.specs.Limits.{finest, sumLimit, nodeLimit, weightLimit}
 use Rattle.tropical_weight.specs.Tropical.{Tropical, fin, inf, ltT, one, _⊕_, _⊗_, timesAll, Within}
 use Rattle.tropical_weight.specs.Grid.{ofT}

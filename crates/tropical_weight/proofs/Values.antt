@@ -1,16 +1,16 @@
 -- Sums and comparisons of finite values of single precision, by the fractions that they equal, over any common denominator; and a value that
 -- fits is known by its fraction. Assumes nothing.
 use mathlib.Core.Path.{_≡_, refl, sym, ap, _∙_, subst}
-use mathlib.Core.Bool.{Bool, true, false, not, _&&_, _||_, Bool·beq, cond}
-use Prim.Native.Nat.{ℕ, zero, suc, _+_, _-_, _*_, _%_, _^_, _≤_, _<_}
-use native.Mathlib.Nat.{lt-irrefl, zero-mul, mul-one, one-mul, mul-zero, mul-assoc, mul-comm, mul-left-comm, mul-right-comm, add-mul, mul-sub, mul-pos, zero-lt-suc, pow-suc, mul-lt-mul-of-pos-right, lt-of-mul-lt-mul-right, eq-of-mul-eq-mul-right}
+use mathlib.Core.Bool.{Bool, true, false, _&&_, _||_, Bool·beq}
+use Prim.Native.Nat.{ℕ, zero, suc, _+_, _-_, _*_, _%_, _^_, _<_}
+use native.Mathlib.Nat.{lt-irrefl, zero-mul, mul-one, one-mul, mul-assoc, mul-comm, mul-right-comm, add-mul, mul-sub, mul-pos, zero-lt-suc, pow-suc, mul-lt-mul-of-pos-right, lt-of-mul-lt-mul-right, eq-of-mul-eq-mul-right}
 use native.Mathlib.Omega.{arith}
 use lib.Dec.{T, ltb, leb, eqb, ltb→lt, lt→ltb, eqb→eq}
 use lib.Pow.{pow-add, pow-pos}
 use lib.IntN.{ℤ, pos, negsuc}
-use lib.Ieee.{Float, nan, inf, fin, binary32, prec, emax, low, up, down, round, sum, add, below, level, lt, eq, le, fits}
+use lib.Ieee.{Float, nan, inf, fin, binary32, prec, emax, low, up, down, sum, add, below, level, lt, eq, le, fits}
 use lib.Ieee.Exact.{HasValue}
-use lib.Ieee.Fits.{down-pos, up-pos, and-l, eq→eqb}
+use lib.Ieee.Fits.{down-pos, and-l, eq→eqb}
 use lib.Ieee.Scale.{round-same}
 
 -- two tests that imply each other are the same

@@ -1,5 +1,5 @@
 use mathlib.Core.Path.{_≡_, refl, sym, _∙_, subst}
-use mathlib.Core.Bool.{Bool, true, false, not}
+use mathlib.Core.Bool.{Bool, true, not}
 use lib.Dec.{T}
 use lib.Ieee.{Float, nan, inf, fin, binary32, isNan, ofBits, div}
 use lib.Ieee.Bits.{nanBits-is, nanBits-above}
