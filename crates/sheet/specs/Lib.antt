@@ -1,0 +1,4 @@
+pub mod Below
+pub mod Words
+pub mod Sheet
+pub mod Machine
