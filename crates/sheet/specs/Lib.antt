@@ -2,3 +2,4 @@ pub mod Below
 pub mod Words
 pub mod Sheet
 pub mod Machine
+pub mod Records

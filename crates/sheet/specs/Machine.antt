@@ -47,5 +47,5 @@ unfolding ofBits unitsOf listBelow sourcesBelow
 machineOf p = record {
   links = listBelow (linkCount p) (λ l. record { source = getD (sourcesBelow p (nodeCount p)) l 0; ilabel = ilabel p l; olabel = olabel p l; weight = weightOf (linkBits p l); next = next p l });
   finals = listBelow (nodeCount p) (λ v. finalOf (mark p v) (finalBits p v));
-  start = startOf (p .start)
+  start = startOf (p .start);
 }

@@ -103,7 +103,7 @@ unfolding word words
 partsOf bytes = record {
   links = words bytes 0 (4 * statedLinks bytes);
   nodes = words bytes (16 * statedLinks bytes) (3 * statedNodes bytes);
-  start = trailerField bytes 4
+  start = trailerField bytes 4;
 }
 
 -- length and offsets

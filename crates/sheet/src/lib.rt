@@ -1,1 +1,4 @@
-// Sheets.
+// Sheets: what a service laptop hands over, damaged or not. Links first, then nodes, then a trailer
+// that points back; every field is 32-bit and little-endian.
+pub mod tr;
+pub mod words;

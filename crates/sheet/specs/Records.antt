@@ -1,0 +1,27 @@
+-- The records that the code reads, by the fields that they hold. Definitions only.
+use Prim.Native.Nat.{ℕ, _+_, _*_}
+use mathlib.Core.List.{List}
+use lib.Ieee.{binary32, ofBits}
+use Rattle.sheet.specs.declared.tr.Link.{Link}
+use Rattle.sheet.specs.declared.tr.Trailer.{Trailer}
+use Rattle.sheet.specs.Words.{word}
+use Rattle.sheet.specs.Sheet.{trailerField}
+
+-- link number l of a sheet
+abbrev pub linkAt : List ℕ → ℕ → Link
+linkAt bytes l = record {
+  ilabel = word bytes (16 * l);
+  olabel = word bytes (16 * l + 4);
+  weight = ofBits binary32 (word bytes (16 * l + 8));
+  nextstate = word bytes (16 * l + 12);
+}
+
+-- the trailer of a sheet
+abbrev pub trailerAt : List ℕ → Trailer
+trailerAt bytes = record {
+  «link_offset» = trailerField bytes 0;
+  «node_offset» = trailerField bytes 1;
+  nodes = trailerField bytes 2;
+  links = trailerField bytes 3;
+  start = trailerField bytes 4;
+}

@@ -1,0 +1,55 @@
+// The records of a sheet (tr.rs of rustfst).
+ghost use mathlib.Core.Path.{_≡_};
+ghost use Prim.Native.Nat.{_+_, _*_, _≤_, _<_};
+ghost use lib.ListN.{length};
+ghost use Rattle.sheet.specs.Records.{linkAt, trailerAt};
+use crate::words::word;
+
+// A link: two labels, a weight and the node it leads to.
+pub struct Link {
+    pub ilabel: u32,
+    pub olabel: u32,
+    pub weight: f32,
+    pub nextstate: u32,
+}
+
+// The trailer: the offsets of links and nodes, their numbers, and the start.
+pub struct Trailer {
+    pub link_offset: u32,
+    pub node_offset: u32,
+    pub nodes: u32,
+    pub links: u32,
+    pub start: u32,
+}
+
+// The bytes of a trailer.
+pub const TRAILER: usize = 20;
+
+// Link number l.
+pub fn link_at(sheet: &[u8], l: usize) -> Link
+    requires { ⌜ 16 * l + 16 ≤ length (now sheet) ⌝ }
+    ensures { λ r. ⌜ r ≡ linkAt (now (sheet .entry)) l ⌝ }
+{
+    let at = 16 * l;
+    Link {
+        ilabel: word(sheet, at),
+        olabel: word(sheet, at + 4),
+        weight: tropical_weight::from_bits(word(sheet, at + 8)),
+        nextstate: word(sheet, at + 12),
+    }
+}
+
+// The trailer of a sheet.
+pub fn trailer_of(sheet: &[u8]) -> Trailer
+    requires { ⌜ 20 ≤ length (now sheet) ⌝ }
+    ensures { λ r. ⌜ r ≡ trailerAt (now (sheet .entry)) ⌝ }
+{
+    let at = sheet.len() - TRAILER;
+    Trailer {
+        link_offset: word(sheet, at),
+        node_offset: word(sheet, at + 4),
+        nodes: word(sheet, at + 8),
+        links: word(sheet, at + 12),
+        start: word(sheet, at + 16),
+    }
+}
