@@ -3,3 +3,4 @@ pub mod Words
 pub mod Sheet
 pub mod Machine
 pub mod Records
+pub mod Tests
