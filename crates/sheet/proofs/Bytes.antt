@@ -1,13 +1,13 @@
 -- Fields and their bytes: written and read back, a word is itself; stores one after the other are one run of stores. Assumes nothing.
-use mathlib.Core.Path.{_≡_, refl, sym, ap, _∙_, subst}
-use mathlib.Core.List.{List, [], _∷_, _++_, append-assoc, append-nil}
-use Prim.Native.Nat.{ℕ, zero, suc, _+_, _*_, _/_, _%_, _^_, _≤_, _<_}
+use mathlib.Core.Path.{_≡_, refl, sym, ap, _∙_}
+use mathlib.Core.List.{List, [], _∷_, _++_, append-assoc}
+use Prim.Native.Nat.{ℕ, suc, _+_, _*_, _<_}
 use native.Mathlib.Nat.{add-zero}
 use native.Mathlib.Numerals.{add-one}
 use native.Mathlib.Omega.{arith}
-use lib.ListN.{length, take, drop, getD, set, length-append}
-use lib.Seq.{sets, take-suc, length-take-le, getD-append-add, getD-append-seam}
-use Rattle.sheet.specs.Words.{word, words, bytesOf, bytesOfAll}
+use lib.ListN.{length, take, getD, set}
+use lib.Seq.{sets, take-suc, length-take-le}
+use Rattle.sheet.specs.Words.{bytesOf, bytesOfAll}
 
 -- ---- a run of stores in two
 pub sets-append : (l : List ℕ) (at : ℕ) (xs ys : List ℕ) → sets l at (xs ++ ys) ≡ sets (sets l at xs) (at + length xs) ys

@@ -1,3 +1,5 @@
 pub mod Bytes
 pub mod Passes
+pub mod Fields
+pub mod Writing
 pub mod Bench

@@ -1,15 +1,13 @@
 -- What the passes find is what the tests say, and the number that follows is the verdict. Assumes nothing.
 use mathlib.Core.Path.{_≡_, refl, sym, ap, _∙_}
-use mathlib.Core.Bool.{Bool, true, false, not, _&&_, _||_, cond}
-use Prim.Native.Nat.{ℕ, zero, suc, _+_, _*_, _≤_, _<_}
+use mathlib.Core.Bool.{Bool, true, false, not, cond}
+use Prim.Native.Nat.{ℕ, _+_, _*_, _≤_, _<_}
 use native.Mathlib.Numerals.{add-one}
 use native.Mathlib.Omega.{arith}
-use lib.Dec.{ltb, eqb}
 use Rattle.sheet.specs.declared.tests.NodeTests.{NodeTests}
 use Rattle.sheet.specs.declared.tests.LinkTests.{LinkTests}
 use Rattle.sheet.specs.Below.{allBelow, sumBelow}
-use Rattle.sheet.specs.Sheet.{wellMarked, startFits, onGridBits}
-use Rattle.sheet.specs.Tests.{withNode, withLink, nodeTests, linkTests, judged}
+use Rattle.sheet.specs.Tests.{withNode, withLink, nodeTests, linkTests}
 
 -- ---- one record more, as a turn of the code's loop has it
 pub node-turn : (v : ℕ) (count mark bits : ℕ → ℕ) (t r : NodeTests) (x y z : ℕ)

@@ -4,3 +4,4 @@ pub mod Sheet
 pub mod Machine
 pub mod Records
 pub mod Tests
+pub mod Answers

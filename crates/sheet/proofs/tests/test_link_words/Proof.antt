@@ -1,9 +1,8 @@
-use mathlib.Core.Path.{_≡_, refl, sym, ap, _∙_}
+use mathlib.Core.Path.{_≡_, refl, ap, _∙_}
 use Prim.Native.Nat.{ℕ, _+_, _-_, _*_, _≤_}
 use native.Mathlib.Omega.{arith}
 use borrow.Author.Needs.{needs}
 use denote.Ref.{now}
-use mathlib.Core.List.{List}
 use lib.ListN.{getD}
 use Rattle.sheet.specs.Tests.{linkTests}
 use Rattle.sheet.proofs.Passes.{link-turn, linkTests-none}

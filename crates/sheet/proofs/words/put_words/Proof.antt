@@ -1,10 +1,10 @@
-use mathlib.Core.Path.{_≡_, refl, sym, ap, _∙_}
+use mathlib.Core.Path.{_≡_, ap, _∙_}
 use mathlib.Core.List.{List}
 use denote.Ref.{now}
 use Prim.Native.Nat.{ℕ, _+_, _-_, _*_, _≤_}
 use native.Mathlib.Omega.{arith}
 use lib.ListN.{length, take, getD}
-use lib.Seq.{sets, length-sets, take-length}
+use lib.Seq.{sets, take-length}
 use borrow.Author.Needs.{needs}
 use Rattle.sheet.specs.Words.{bytesOf, bytesOfAll}
 use Rattle.sheet.proofs.Bytes.{sets-word}
