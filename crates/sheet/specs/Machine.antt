@@ -42,10 +42,20 @@ startOf start = cond (eqb start noStart) none (some start)
 abbrev pub finalOf : ℕ → ℕ → Option Tropical
 finalOf mark bits = cond (eqb mark 0) none (some (weightOf bits))
 
+-- link number l
+abbrev pub linkOf : Parts → ℕ → Link
+linkOf p l = record {
+  source = getD (sourcesBelow p (nodeCount p)) l 0;
+  ilabel = ilabel p l;
+  olabel = olabel p l;
+  weight = weightOf (linkBits p l);
+  next = next p l;
+}
+
 unfoldable pub machineOf : Parts → Machine
 unfolding ofBits unitsOf listBelow sourcesBelow
 machineOf p = record {
-  links = listBelow (linkCount p) (λ l. record { source = getD (sourcesBelow p (nodeCount p)) l 0; ilabel = ilabel p l; olabel = olabel p l; weight = weightOf (linkBits p l); next = next p l });
+  links = listBelow (linkCount p) (linkOf p);
   finals = listBelow (nodeCount p) (λ v. finalOf (mark p v) (finalBits p v));
   start = startOf (p .start);
 }

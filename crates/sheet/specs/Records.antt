@@ -3,7 +3,9 @@ use Prim.Native.Nat.{ℕ, _+_, _*_}
 use mathlib.Core.List.{List}
 use lib.Ieee.{binary32, ofBits}
 use Rattle.sheet.specs.declared.tr.Link.{Link}
+use Rattle.sheet.specs.declared.tr.Node.{Node}
 use Rattle.sheet.specs.declared.tr.Trailer.{Trailer}
+use Rattle.sheet.specs.Below.{sumBelow}
 use Rattle.sheet.specs.Words.{word}
 use Rattle.sheet.specs.Sheet.{trailerField}
 
@@ -15,6 +17,18 @@ linkAt bytes l = record {
   weight = ofBits binary32 (word bytes (16 * l + 8));
   nextstate = word bytes (16 * l + 12);
 }
+
+-- node number v of a sheet with so many links
+abbrev pub nodeAt : List ℕ → ℕ → ℕ → Node
+nodeAt bytes links v = record {
+  links = word bytes (16 * links + 12 * v);
+  mark = word bytes (16 * links + 12 * v + 4);
+  weight = ofBits binary32 (word bytes (16 * links + 12 * v + 8));
+}
+
+-- the number of its first link
+abbrev pub firstLink : List ℕ → ℕ → ℕ → ℕ
+firstLink bytes links v = sumBelow v (λ u. word bytes (16 * links + 12 * u))
 
 -- the trailer of a sheet
 abbrev pub trailerAt : List ℕ → Trailer

@@ -1,8 +1,8 @@
 // The records of a sheet (tr.rs of rustfst).
 ghost use mathlib.Core.Path.{_≡_};
-ghost use Prim.Native.Nat.{_+_, _*_, _≤_, _<_};
+ghost use Prim.Native.Nat.{_+_, _*_, _≤_};
 ghost use lib.ListN.{length};
-ghost use Rattle.sheet.specs.Records.{linkAt, trailerAt};
+ghost use Rattle.sheet.specs.Records.{linkAt, nodeAt, firstLink, trailerAt};
 use crate::words::word;
 
 // A link: two labels, a weight and the node it leads to.
@@ -11,6 +11,13 @@ pub struct Link {
     pub olabel: u32,
     pub weight: f32,
     pub nextstate: u32,
+}
+
+// A node: how many links leave it, its final mark, 0 or 1, and its final weight.
+pub struct Node {
+    pub links: u32,
+    pub mark: u32,
+    pub weight: f32,
 }
 
 // The trailer: the offsets of links and nodes, their numbers, and the start.
@@ -37,6 +44,33 @@ pub fn link_at(sheet: &[u8], l: usize) -> Link
         weight: tropical_weight::from_bits(word(sheet, at + 8)),
         nextstate: word(sheet, at + 12),
     }
+}
+
+// Node number v of a sheet with so many links.
+pub fn node_at(sheet: &[u8], links: usize, v: usize) -> Node
+    requires { ⌜ 16 * links + 12 * v + 12 ≤ length (now sheet) ⌝ }
+    ensures { λ r. ⌜ r ≡ nodeAt (now (sheet .entry)) links v ⌝ }
+{
+    let at = 16 * links + 12 * v;
+    Node {
+        links: word(sheet, at),
+        mark: word(sheet, at + 4),
+        weight: tropical_weight::from_bits(word(sheet, at + 8)),
+    }
+}
+
+// The number of the first link of node v: how many links the nodes before it have.
+pub fn first_link(sheet: &[u8], links: usize, v: u32) -> u64
+    requires { ⌜ 16 * links + 12 * v ≤ length (now sheet) ⌝ }
+    ensures { λ r. ⌜ r ≡ firstLink (now (sheet .entry)) links v ⌝ }
+{
+    let mut sum = 0u64;
+    let mut u = 0u32;
+    while u < v {
+        sum += word(sheet, 16 * links + 12 * (u as usize)) as u64;
+        u += 1;
+    }
+    sum
 }
 
 // The trailer of a sheet.
