@@ -1,0 +1,101 @@
+#!/usr/bin/env python3
+"""Writes the cases that crates/replay_sheets replays: a line a case, the number that reading must answer (0: accepted), the bytes in
+hexadecimal, and what the case is. The numbers come from `number` below, which follows the text of the requirements with exact fractions
+and shares nothing with the library.
+
+    python3 tools/sheet_cases.py > crates/replay_sheets/stdin
+"""
+import itertools, math, random, struct
+from fractions import Fraction
+
+NONE = 0xFFFFFFFF
+
+def on_grid(bits):
+    x = struct.unpack('<f', struct.pack('<I', bits))[0]
+    if not math.isfinite(x) or bits == 0x80000000: return False
+    k = Fraction(x) * 64
+    return k.denominator == 1 and abs(k) <= 4096
+
+def number(b):
+    if len(b) < 20: return 1
+    link_offset, node_offset, n, t, start = struct.unpack('<5I', b[-20:])
+    if link_offset != 0 or node_offset != 16 * t or len(b) != 16 * t + 12 * n + 20: return 1
+    links = [struct.unpack_from('<4I', b, 16 * l) for l in range(t)]
+    nodes = [struct.unpack_from('<3I', b, 16 * t + 12 * v) for v in range(n)]
+    for count, mark, bits in nodes:
+        if mark not in (0, 1) or (mark == 0 and bits != 0): return 1
+    if sum(count for count, _, _ in nodes) != t: return 1
+    if not (start < n or start == NONE): return 2
+    if any(nxt >= n for _, _, _, nxt in links): return 3
+    if any(not on_grid(bits) for _, _, bits, _ in links): return 4
+    if any(mark == 1 and not on_grid(bits) for _, mark, bits in nodes): return 4
+    return 0
+
+def f(x): return struct.unpack('<I', struct.pack('<f', x))[0]
+
+def sheet(links, nodes, start):
+    ws = [w for l in links for w in l] + [w for v in nodes for w in v] + [0, 16 * len(links), len(nodes), len(links), start]
+    return struct.pack('<%dI' % len(ws), *ws)
+
+def with_word(b, i, w): return b[:4 * i] + struct.pack('<I', w) + b[4 * i + 4:]
+
+A = sheet([(1, 1, f(1), 1), (2, 2, f(.5), 2), (3, 3, f(.25), 3), (5, 5, f(0), 2), (4, 4, f(.75), 3)],
+          [(2, 0, 0), (2, 0, 0), (1, 0, 0), (0, 1, f(.5))], 0)
+EMPTY = sheet([], [], NONE)
+ONE = sheet([], [(0, 1, f(-2))], 0)
+TWO = sheet([(7, 9, f(3), 1)], [(1, 0, 0), (0, 1, f(1))], 0)
+LOOP = sheet([(1, 1, f(1), 0), (2, 2, f(2), 0)], [(2, 1, 0), (0, 0, 0)], 1)
+BASES = [('A', A), ('empty', EMPTY), ('one node', ONE), ('two nodes', TWO), ('links that do not climb', LOOP)]
+
+GRID = [f(64), f(64) + 0x800, f(-64), f(-64) + 0x800, f(64) - 0x1000, f(64) + 1, f(1 / 64), f(-1 / 64), f(1 / 128), f(3 / 128), 0x3dcccccd,
+        f(262144), 0, 0x80000000, 1, 0x807fffff, 0x7f7fffff, 0x7f800000, 0xff800000, 0x7fc00000, 0x7f800001, NONE]
+
+def name(b, i):
+    n, t = struct.unpack('<2I', b[-12:-4])
+    if i < 4 * t: return f"link {i // 4} {['input label', 'output label', 'weight', 'next'][i % 4]}"
+    if i < 4 * t + 3 * n: return f"node {(i - 4 * t) // 3} {['count', 'mark', 'weight'][(i - 4 * t) % 3]}"
+    return ['link offset', 'node offset', 'node count', 'link count', 'start'][i - 4 * t - 3 * n]
+
+def bad(b, i):
+    """a value that breaks field i, or for a label one that does not"""
+    w = struct.unpack_from('<I', b, 4 * i)[0]
+    what = name(b, i)
+    if 'mark' in what: return 2
+    if 'weight' in what: return 0x7fc00000
+    if 'next' in what or what == 'start': return 77
+    return w + 1 & NONE
+
+cases = []
+def case(what, b): cases.append((number(b), b, what))
+
+for n in range(41):
+    case(f'{n} zero bytes', bytes(n)); case(f'{n} bytes of FF', b'\xff' * n)
+case('P6: 19 bytes', EMPTY[1:])
+for what, b in BASES:
+    case(what, b)
+    for short in (1, 2, 4, 12, 16): case(f'{what}, {short} short at its end', b[:-short]); case(f'{what}, {short} short at its front', b[short:])
+    for more in (1, 4, 12, 16): case(f'{what}, {more} more at its end', b + bytes(more)); case(f'{what}, {more} more at its front', bytes(more) + b)
+    for i in range(len(b) // 4):
+        w = struct.unpack_from('<I', b, 4 * i)[0]
+        for v in sorted({0, 1, 2, w + 1 & NONE, w - 1 & NONE, w ^ 0x80000000, bad(b, i), NONE} - {w}):
+            if b is A and v not in (0, bad(b, i), NONE): continue
+            case(f'{what}, {name(b, i)} {v:08x}', with_word(b, i, v))
+for b, what in ((TWO, 'two nodes'),):
+    for i, j in itertools.combinations(range(len(b) // 4), 2):
+        case(f'{what}, {name(b, i)} and {name(b, j)} broken', with_word(with_word(b, i, bad(b, i)), j, bad(b, j)))
+random.seed(1)
+for i, j in random.sample(list(itertools.combinations(range(len(A) // 4), 2)), 60):
+    case(f'A, {name(A, i)} and {name(A, j)} broken', with_word(with_word(A, i, bad(A, i)), j, bad(A, j)))
+for w in GRID:
+    case(f'P7: two nodes, link weight {w:08x}', with_word(TWO, 2, w))
+    case(f'two nodes, final weight {w:08x}', with_word(TWO, 9, w))
+    case(f'two nodes, weight {w:08x} where the mark is 0', with_word(TWO, 6, w))
+t = len(TWO) // 4 - 2
+for v in (1 << 28, 1 << 29, 1 << 31, (1 << 28) + 1): case(f'two nodes, link count {v:x}: 16 times it wraps', with_word(with_word(TWO, t, v), t - 2, 16 * v & NONE))
+for v in (1 << 30, (1 << 30) + 2, 0x55555557): case(f'two nodes, node count {v:x}: 12 times it wraps', with_word(TWO, t - 1, v))
+case('two nodes, counts that sum past 2^32', with_word(with_word(TWO, 4, 1 << 31), 7, (1 << 31) + 1))
+case('two nodes, counts 0 and 1', with_word(with_word(TWO, 4, 0), 7, 1))
+seen, out = set(), []
+for k, b, what in cases:
+    if b not in seen: seen.add(b); out.append((k, b, what))
+for k, b, what in out: print(k, b.hex(), '#', what)
