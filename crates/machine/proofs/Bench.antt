@@ -1,0 +1,74 @@
+-- Machines by computation: Sheet A of document 01, equal links, a start above other nodes, and no start. Assumes nothing.
+use mathlib.Core.Path.{_≡_, refl}
+use mathlib.Core.Bool.{true, false}
+use mathlib.Core.Option.{none, some}
+use mathlib.Core.List.{[], _∷_, map}
+use Prim.Native.Nat.{ℕ}
+use lib.IntN.{pos}
+use lib.ListN.{length}
+use Rattle.tropical_weight.specs.Tropical.{fin, inf}
+use Rattle.sheet.specs.Machine.{Link, Machine}
+use Rattle.machine.specs.Readings.{Reading, link, readings, readingsBelow, readingCost, runCost}
+use Rattle.machine.specs.Climbs.{climbs, climbsFrom}
+use Rattle.machine.specs.Distance.{total, relax, reach, reached, distances}
+use Rattle.machine.specs.Parents.{best}
+use Rattle.machine.specs.Demand.{sort}
+
+-- a link with equal labels, and its weight a number of units
+abbrev arc : ℕ → ℕ → ℕ → ℕ → Link
+arc s label units n = record { source = s; ilabel = label; olabel = label; weight = fin (pos units); next = n }
+
+-- ---- Sheet A
+abbrev pub machineA : Machine
+machineA = record { links = arc 0 1 64 1 ∷ arc 0 2 32 2 ∷ arc 1 3 16 3 ∷ arc 1 5 0 2 ∷ arc 2 4 48 3 ∷ []; finals = none ∷ none ∷ none ∷ some (fin (pos 32)) ∷ []; start = some 0 }
+
+climbs-A : climbs machineA ≡ true
+unfolding climbsFrom
+climbs-A = refl
+
+readings-A : map (λ (x : Reading). x .run) (readings machineA) ≡ (0 ∷ 2 ∷ []) ∷ (1 ∷ 4 ∷ []) ∷ (0 ∷ 3 ∷ 4 ∷ []) ∷ []
+unfolding readingsBelow
+readings-A = refl
+
+costs-A : map (readingCost machineA) (readings machineA) ≡ fin (pos 112) ∷ fin (pos 112) ∷ fin (pos 144) ∷ []
+unfolding readingsBelow runCost
+costs-A = refl
+
+distances-A : (distances machineA ≡ fin (pos 0) ∷ fin (pos 64) ∷ fin (pos 32) ∷ fin (pos 80) ∷ []) × (relax machineA 5 ≡ distances machineA) × (total machineA ≡ fin (pos 112))
+unfolding distances relax total
+distances-A = (refl, refl, refl)
+
+best-A : best machineA ≡ some (record { run = 0 ∷ 2 ∷ []; end = 3 })
+unfolding best
+best-A = refl
+
+labels-A : map (λ (l : ℕ). link machineA l .ilabel) (0 ∷ 2 ∷ []) ≡ 1 ∷ 3 ∷ []
+labels-A = refl
+
+-- ---- two equal links, then three: six readings, and the parents are the lowest of each
+machineB : Machine
+machineB = record { links = arc 0 1 0 1 ∷ arc 0 1 0 1 ∷ arc 1 1 0 2 ∷ arc 1 1 0 2 ∷ arc 1 1 0 2 ∷ []; finals = none ∷ none ∷ some (fin (pos 0)) ∷ []; start = some 0 }
+
+ties-B : (length (readings machineB) ≡ 6) × (best machineB ≡ some (record { run = 0 ∷ 2 ∷ []; end = 2 }))
+unfolding machineB readingsBelow best
+ties-B = (refl, refl)
+
+-- ---- from node 1 of four: nodes 0 and 3 are not reached, though 0 links to 1; both finals cost the same, and the lower wins
+machineC : Machine
+machineC = record { links = arc 0 1 7 1 ∷ arc 1 2 4 2 ∷ []; finals = some (fin (pos 0)) ∷ some (fin (pos 4)) ∷ some (fin (pos 0)) ∷ some (fin (pos 0)) ∷ []; start = some 1 }
+
+below-C : (map (reached machineC) (0 ∷ 1 ∷ 2 ∷ 3 ∷ []) ≡ false ∷ true ∷ true ∷ false ∷ []) × (distances machineC ≡ inf ∷ fin (pos 0) ∷ fin (pos 4) ∷ []) × (best machineC ≡ some (record { run = []; end = 1 }))
+unfolding machineC reach distances best
+below-C = (refl, refl, refl)
+
+-- ---- no start: no reading and no distance
+machineD : Machine
+machineD = record { links = []; finals = some (fin (pos 0)) ∷ []; start = none }
+
+none-D : (readings machineD ≡ []) × (distances machineD ≡ []) × (best machineD ≡ none) × (total machineD ≡ inf)
+unfolding machineD readingsBelow distances best total
+none-D = (refl, refl, refl, refl)
+
+sorted : sort (fin (pos 3) ∷ inf ∷ fin (pos 1) ∷ fin (pos 2) ∷ []) ≡ fin (pos 1) ∷ fin (pos 2) ∷ fin (pos 3) ∷ inf ∷ []
+unfolding sort
+sorted = refl

@@ -1,0 +1,80 @@
+-- Runs have fewer links than there are nodes, so that every sum along a reading is within the limit of sums. Over any limits on
+-- nodes and on weights whose product is that limit. Assumes nothing.
+use mathlib.Core.Path.{_≡_, sym, ap, subst}
+use mathlib.Core.Option.{some}
+use mathlib.Core.List.{List, [], _∷_, map}
+use Prim.Native.Nat.{ℕ, suc, _+_, _-_, _*_, _≤_, _<_}
+use native.Mathlib.Nat.{mul-le-mul-right}
+use native.Mathlib.Omega.{arith}
+use lib.ListN.{getD, length}
+use Rattle.tropical_weight.specs.Limits.{sumLimit}
+use Rattle.tropical_weight.specs.Tropical.{Tropical, inf, _⊗_, Within}
+use Rattle.tropical_weight.proofs.Sums.{within-mono, within-one, terms-⊗, terms-within}
+use Rattle.sheet.specs.Machine.{Machine}
+use Rattle.machine.specs.Readings.{link, final, finalWeight, IsRun, runCost, ways, Reading, IsReading, readingCost}
+use Rattle.machine.specs.Climbs.{Climbs, Small}
+use Rattle.machine.specs.Distance.{dist, relax}
+use Rattle.machine.proofs.Lists.{mem-map}
+use Rattle.machine.proofs.Sums.{plusAll-within}
+use Rattle.machine.proofs.Runs.{run-length, ways-sound}
+use Rattle.machine.proofs.Readings.{final-in}
+use Rattle.machine.proofs.Relax.{distOver, row-is}
+
+one-term : (most : ℕ) (w : Tropical) → Within most w → Within (1 * most) w
+one-term most w h = within-mono most (1 * most) w (omega arith) h
+
+module _ (m : Machine) (c : Climbs m) (most : ℕ) (b : Small most m) where
+  -- as many terms as links, and no more links than nodes are passed
+  pub run-within : (r : List ℕ) (u v : ℕ) → IsRun m u r v → Within (length r * most) (runCost m r)
+  unfolding runCost
+  run-within [] u v h = within-one (0 * most)
+  run-within (l ∷ r) u v h =
+      subst (λ (n : ℕ). Within (n * most) (link m l .weight ⊗ runCost m r)) (let z : 1 + length r ≡ suc (length r) = omega arith in z)
+      (terms-⊗ most 1 (length r) (link m l .weight) (runCost m r) (one-term most (link m l .weight) (b .onLink l (h .0))) (run-within r (link m l .next) v (h .2)))
+
+  pub run-climb-within : (r : List ℕ) (u v : ℕ) → IsRun m u r v → Within ((v - u) * most) (runCost m r)
+  run-climb-within r u v h = within-mono (length r * most) ((v - u) * most) (runCost m r) (mul-le-mul-right most (let z : length r ≤ v - u = omega (arith, run-length m c r u v h) in z)) (run-within r u v h)
+
+  -- ⊕ over the runs to v, over any first links
+  dist-over-within : (l v : ℕ) → l ≤ length (m .links) → Within (v * most) (distOver m l v)
+  dist-over-within l v k = plusAll-within (v * most) (map (runCost m) (ways m l v)) (λ a h.
+      let x = mem-map (runCost m) (ways m l v) h in
+      let y = ways-sound m l v (x .0) k (x .1) .0 in
+      let z : v - y .0 ≤ v = omega arith in
+      subst (Within (v * most)) (sym (x .2)) (within-mono ((v - y .0) * most) (v * most) (runCost m (x .0)) (mul-le-mul-right most z) (run-climb-within (x .0) (y .0) v (y .2))))
+
+  pub dist-within : (v : ℕ) → Within (v * most) (dist m v)
+  unfolding dist
+  dist-within v = dist-over-within (length (m .links)) v (omega arith)
+
+  pub row-within : (l v : ℕ) → l ≤ length (m .links) → v < length (m .finals) → Within (v * most) (getD (relax m l) v inf)
+  row-within l v k h = subst (Within (v * most)) (sym (row-is m c l v k h)) (dist-over-within l v k)
+
+  final-within : (v : ℕ) (w : Tropical) → final m v ≡ some w → Within (1 * most) (finalWeight (final m v))
+  final-within v w e = subst (Within (1 * most)) (sym (ap finalWeight e)) (one-term most w (b .onFinal v w e))
+
+  -- what is still to come from u, in v - u links and the final weight
+  pub rest-within : (r : List ℕ) (u v : ℕ) (w : Tropical) → IsRun m u r v → final m v ≡ some w → Within ((v - u + 1) * most) (runCost m r ⊗ finalWeight (final m v))
+  rest-within r u v w h e = terms-⊗ most (v - u) 1 (runCost m r) (finalWeight (final m v)) (run-climb-within r u v h) (final-within v w e)
+
+  module _ (nodes : ℕ) (product : nodes * most ≡ sumLimit) (few : length (m .finals) ≤ nodes) where
+    -- a step of relaxation
+    pub step-within : (l v : ℕ) → l ≤ length (m .links) → v < length (m .finals) → (k : ℕ) → k < length (m .links) → Within sumLimit (getD (relax m l) v inf ⊗ link m k .weight)
+    step-within l v h i k j =
+        terms-within nodes most product (v + 1) (omega arith) (getD (relax m l) v inf ⊗ link m k .weight)
+        (terms-⊗ most v 1 (getD (relax m l) v inf) (link m k .weight) (row-within l v h i) (one-term most (link m k .weight) (b .onLink k j)))
+
+    pub dist-limit : (v : ℕ) → v < length (m .finals) → Within sumLimit (dist m v)
+    dist-limit v h = terms-within nodes most product v (omega arith) (dist m v) (dist-within v)
+
+    -- a cost on the way back from a final node, and a rank
+    pub rest-limit : (r : List ℕ) (u v : ℕ) (w : Tropical) → IsRun m u r v → final m v ≡ some w → Within sumLimit (runCost m r ⊗ finalWeight (final m v))
+    rest-limit r u v w h e = terms-within nodes most product (v - u + 1) (omega (arith, final-in m v w e)) (runCost m r ⊗ finalWeight (final m v)) (rest-within r u v w h e)
+
+    pub rank-limit : (r : List ℕ) (u v : ℕ) (w : Tropical) → IsRun m u r v → final m v ≡ some w → Within sumLimit (dist m u ⊗ (runCost m r ⊗ finalWeight (final m v)))
+    rank-limit r u v w h e =
+        let rest = runCost m r ⊗ finalWeight (final m v) in
+        terms-within nodes most product (u + (v - u + 1)) (omega (arith, final-in m v w e, run-length m c r u v h)) (dist m u ⊗ rest) (terms-⊗ most u (v - u + 1) (dist m u) rest (dist-within u) (rest-within r u v w h e))
+
+    pub reading-limit : (x : Reading) → IsReading m x → Within sumLimit (readingCost m x)
+    reading-limit x i = rest-limit (x .run) (i .from) (x .end) (i .weight) (i .runs) (i .marked)

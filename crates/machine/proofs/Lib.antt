@@ -1,0 +1,15 @@
+pub mod Tests
+pub mod Lists
+pub mod Sums
+pub mod Sort
+pub mod Climb
+pub mod Runs
+pub mod Readings
+pub mod Distance
+pub mod Relax
+pub mod Reached
+pub mod Bounds
+pub mod Parents
+pub mod Fold
+pub mod Demand
+pub mod Bench

@@ -1,0 +1,74 @@
+-- Mohri's distance, the least total, relaxation, and the distances that are written. Definitions only.
+use mathlib.Core.Bool.{Bool, _&&_, _||_, cond}
+use mathlib.Core.Option.{Option, none, some}
+use mathlib.Core.List.{List, [], _∷_, map}
+use Prim.Native.Nat.{ℕ, zero, suc}
+use lib.Dec.{eqb}
+use lib.ListN.{getD, length, set, replicate}
+use Rattle.tropical_weight.specs.Tropical.{Tropical, inf, one, _⊕_, _⊗_}
+use Rattle.sheet.specs.Below.{listBelow}
+use Rattle.sheet.specs.Machine.{Link, Machine}
+use Rattle.machine.specs.Readings.{link, final, finalWeight, isAt, runCost, ways, waysTo}
+
+-- ⊕ along a list
+unfoldable pub plusAll : List Tropical → Tropical
+plusAll [] = inf
+plusAll (a ∷ l) = a ⊕ plusAll l
+
+-- the distance of v: ⊕, over the runs from the start to v, of their ⊗
+unfoldable pub dist : Machine → ℕ → Tropical
+unfolding ways runCost plusAll
+dist m v = plusAll (map (runCost m) (waysTo m v))
+
+-- the least cost of a run from the start that ends in link l
+abbrev pub via : Machine → ℕ → Tropical
+via m l = dist m (link m l .source) ⊗ link m l .weight
+
+-- the least cost of a reading that ends at v
+abbrev pub totalAt : Machine → ℕ → Tropical
+totalAt m v = dist m v ⊗ finalWeight (final m v)
+
+-- the least total: ⊕ over the final nodes
+unfoldable pub total : Machine → Tropical
+unfolding plusAll dist listBelow
+total m = plusAll (listBelow (length (m .finals)) (totalAt m))
+
+-- ---- relaxation: a row of values, one a node, and the links in sheet order
+-- the row before the first link: 0 at the start, infinity elsewhere
+abbrev pub startRow : Option ℕ → ℕ → List Tropical
+startRow none n = replicate n inf
+startRow (some s) n = set (replicate n inf) s one
+
+-- the row r after link k
+abbrev pub relaxed : Link → List Tropical → List Tropical
+relaxed k r = set r (k .next) (getD r (k .next) inf ⊕ getD r (k .source) inf ⊗ k .weight)
+
+-- the row after the first l links
+unfoldable pub relax : Machine → ℕ → List Tropical
+relax m zero = startRow (m .start) (length (m .finals))
+relax m (suc l) = relaxed (link m l) (relax m l)
+
+-- ---- which nodes are reached, whatever the weights
+-- whether some run over the first l links leads from the start to v
+unfoldable pub reach : Machine → ℕ → ℕ → Bool
+reach m zero v = isAt (m .start) v
+reach m (suc l) v = reach m l v || (eqb (link m l .next) v && reach m l (link m l .source))
+
+-- whether some run leads from the start to v
+abbrev pub reached : Machine → ℕ → Bool
+reached m v = reach m (length (m .links)) v
+
+-- one more than the highest reached node below n, or 0
+unfoldable pub heightBelow : Machine → ℕ → ℕ
+unfolding reach
+heightBelow m zero = 0
+heightBelow m (suc v) = cond (reached m v) (suc v) (heightBelow m v)
+
+-- how many distances are written
+abbrev pub height : Machine → ℕ
+height m = heightBelow m (length (m .finals))
+
+-- one value per node up to the highest reached, infinity for an unreached one; no start gives none
+unfoldable pub distances : Machine → List Tropical
+unfolding dist heightBelow listBelow
+distances m = listBelow (height m) (dist m)

@@ -1,0 +1,5 @@
+pub mod Readings
+pub mod Climbs
+pub mod Distance
+pub mod Parents
+pub mod Demand

@@ -1,0 +1,1 @@
+// Machines: runs of links, readings, distances and parents. Definitions and laws; no code.
