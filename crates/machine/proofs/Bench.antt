@@ -7,7 +7,9 @@ use Prim.Native.Nat.{ℕ}
 use lib.IntN.{pos}
 use lib.ListN.{length}
 use Rattle.tropical_weight.specs.Tropical.{fin, inf}
-use Rattle.sheet.specs.Machine.{Link, Machine}
+use Rattle.sheet.specs.Sheet.{partsOf}
+use Rattle.sheet.specs.Machine.{Link, Machine, machineOf}
+use Rattle.sheet.proofs.Bench.{sheetA}
 use Rattle.machine.specs.Readings.{Reading, link, readings, readingsBelow, readingCost, runCost}
 use Rattle.machine.specs.Climbs.{climbs, climbsFrom}
 use Rattle.machine.specs.Distance.{total, relax, reach, reached, distances}
@@ -21,6 +23,11 @@ arc s label units n = record { source = s; ilabel = label; olabel = label; weigh
 -- ---- Sheet A
 abbrev pub machineA : Machine
 machineA = record { links = arc 0 1 64 1 ∷ arc 0 2 32 2 ∷ arc 1 3 16 3 ∷ arc 1 5 0 2 ∷ arc 2 4 48 3 ∷ []; finals = none ∷ none ∷ none ∷ some (fin (pos 32)) ∷ []; start = some 0 }
+
+-- it is the machine of Sheet A's 148 bytes
+of-sheet : machineOf (partsOf sheetA) ≡ machineA
+unfolding sheetA partsOf machineOf
+of-sheet = refl
 
 climbs-A : climbs machineA ≡ true
 unfolding climbsFrom

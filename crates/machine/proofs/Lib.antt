@@ -12,4 +12,5 @@ pub mod Bounds
 pub mod Parents
 pub mod Fold
 pub mod Demand
+pub mod Input
 pub mod Bench

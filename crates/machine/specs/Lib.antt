@@ -3,3 +3,4 @@ pub mod Climbs
 pub mod Distance
 pub mod Parents
 pub mod Demand
+pub mod Input

@@ -1,11 +1,14 @@
 -- The verdict on a sheet, by the fields that the passes take. Assumes nothing.
-use mathlib.Core.Path.{_≡_, refl, sym, ap, _∙_}
+use mathlib.Core.Path.{_≡_, refl, sym, ap, _∙_, subst}
+use mathlib.Core.Logic.{_⊎_, inl, inr}
 use mathlib.Core.Bool.{Bool, true, false, _&&_, _||_}
 use mathlib.Core.List.{List}
 use Prim.Native.Nat.{ℕ, zero, suc, _+_, _*_, _/_, _≤_, _<_}
-use native.Mathlib.Nat.{add-zero}
+use native.Mathlib.Nat.{add-zero, eq-or-lt-of-le}
 use native.Mathlib.Omega.{arith}
-use lib.Dec.{ltb, eqb}
+use lib.Dec.{T, ltb, eqb}
+use lib.Ieee.Bits.{is-true}
+use lib.Ieee.Fits.{and-l, and-r}
 use lib.ListN.{length, getD}
 use borrow.Author.Tests.{lt-leb, le-leb}
 use Rattle.sheet.specs.Below.{allBelow, sumBelow}
@@ -19,6 +22,16 @@ pub allBelow-same : (n : ℕ) (p q : ℕ → Bool) → ((i : ℕ) → i < n → 
 unfolding allBelow
 allBelow-same zero p q e = refl
 allBelow-same (suc n) p q e = λ i. allBelow-same n p q (λ k h. e k (omega arith)) i && e n (omega arith) i
+
+-- a test that passes at each number, at one of them
+pub allBelow-at : (n : ℕ) (p : ℕ → Bool) → allBelow n p ≡ true → (i : ℕ) → i < n → p i ≡ true
+unfolding allBelow
+allBelow-at zero p e i h = absurd (omega arith)
+allBelow-at (suc n) p e i h = go (eq-or-lt-of-le (let k : i ≤ n = omega arith in k)) (λ k. allBelow-at n p (is-true (allBelow n p) (and-l (allBelow n p) (p n) (subst T (sym e) tt))) i k)
+  where
+    go : (i ≡ n) ⊎ (i < n) → (i < n → p i ≡ true) → p i ≡ true
+    go (inl k) r = ap p k ∙ is-true (p n) (and-r (allBelow n p) (p n) (subst T (sym e) tt))
+    go (inr k) r = r k
 
 pub sumBelow-same : (n : ℕ) (f g : ℕ → ℕ) → ((i : ℕ) → i < n → f i ≡ g i) → sumBelow n f ≡ sumBelow n g
 unfolding sumBelow

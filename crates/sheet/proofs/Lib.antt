@@ -4,4 +4,5 @@ pub mod Fields
 pub mod Writing
 pub mod Round
 pub mod Sources
+pub mod Reading
 pub mod Bench

@@ -23,7 +23,7 @@ length-listBelow zero f = refl
 length-listBelow (suc n) f = length-append (listBelow n f) (f n ∷ []) ∙ omega (arith, length-listBelow n f)
 
 -- an index in the first list or past it
-split-at : (a b : ℕ) → (a < b) ⊎ (b ≤ a)
+pub split-at : (a b : ℕ) → (a < b) ⊎ (b ≤ a)
 split-at a b = go (ltb a b) (ltb→lt a b) (nltb→le a b)
   where
     go : (t : Bool) → (T t → a < b) → (T (not t) → b ≤ a) → (a < b) ⊎ (b ≤ a)

@@ -5,3 +5,4 @@ pub mod Machine
 pub mod Records
 pub mod Tests
 pub mod Answers
+pub mod Reading

@@ -1,16 +1,16 @@
 -- Machines, and the machine of a sheet. Definitions only.
 use Prim.Native.Nat.{ℕ, zero, suc}
-use mathlib.Core.Bool.{Bool, true, false, cond}
+use mathlib.Core.Bool.{cond}
 use mathlib.Core.Option.{Option, none, some}
 use mathlib.Core.List.{List, [], _++_}
 use lib.Dec.{eqb}
 use lib.ListN.{getD, replicate}
 use lib.Ieee.{binary32, ofBits}
 use Rattle.tropical_weight.specs.Limits.{unit}
-use Rattle.tropical_weight.specs.Tropical.{Tropical, fin, inf}
+use Rattle.tropical_weight.specs.Tropical.{Tropical, fin}
 use Rattle.tropical_weight.specs.Grid.{unitsOf}
 use Rattle.sheet.specs.Below.{listBelow}
-use Rattle.sheet.specs.Sheet.{Parts, noStart, linkCount, nodeCount, ilabel, olabel, linkBits, next, count, mark, finalBits, partsOf}
+use Rattle.sheet.specs.Sheet.{Parts, noStart, linkCount, nodeCount, ilabel, olabel, linkBits, next, count, mark, finalBits}
 
 -- A link leaves its source for its next node.
 pub record Link : Type 0 where

@@ -1,6 +1,6 @@
 -- What the passes over nodes and links find, and the number that follows from it. Definitions only.
 use Prim.Native.Nat.{ℕ, _+_}
-use mathlib.Core.Bool.{Bool, not, _&&_, _||_, cond}
+use mathlib.Core.Bool.{not, _&&_, _||_, cond}
 use lib.Dec.{ltb, eqb}
 use Rattle.sheet.specs.declared.tests.NodeTests.{NodeTests}
 use Rattle.sheet.specs.declared.tests.LinkTests.{LinkTests}

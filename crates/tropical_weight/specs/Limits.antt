@@ -18,6 +18,10 @@ weightLimit = 4096
 abbrev pub nodeLimit : ℕ
 nodeLimit = 4096
 
+-- the most links of a machine
+abbrev pub linkLimit : ℕ
+linkLimit = 16384
+
 -- the most units of a sum, either way: up to here single precision has every whole number
 abbrev pub sumLimit : ℕ
 sumLimit = 2 ^ 24

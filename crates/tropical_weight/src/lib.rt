@@ -24,6 +24,9 @@ pub const WEIGHT_LIMIT: u32 = 4096;
 // The most nodes of a machine, and so the most terms of a sum along a reading.
 pub const NODE_LIMIT: usize = 4096;
 
+// The most links of a machine.
+pub const LINK_LIMIT: usize = 16384;
+
 // The exponent's field of the values from 2 ^ 23 units up to 2 ^ 24, whose last digit is the unit.
 const LAST_IS_UNIT: u32 = 150 - UNIT;
 

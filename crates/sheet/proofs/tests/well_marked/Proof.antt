@@ -1,5 +1,5 @@
-use mathlib.Core.Path.{_≡_, refl, sym, ap}
-use mathlib.Core.Bool.{Bool, true, false, _||_}
+use mathlib.Core.Path.{sym, ap}
+use mathlib.Core.Bool.{or-false}
 use Prim.Native.Nat.{ℕ}
 use lib.Dec.{eqb}
 use borrow.Author.Tests.{eq-eqb, ne-eqb}
@@ -8,10 +8,6 @@ use Rattle.sheet.proofs.tests.well_marked.Tie as tie
 
 returns : tie.Need-returns
 returns c = simp (ap (λ (m : ℕ). eqb m 1) (c .if1 .taken), eq-eqb _ _ (c .if1 .taken))
-
-or-false : (b : Bool) → b || false ≡ b
-or-false true = refl
-or-false false = refl
 
 returns-2 : tie.Need-returns-2
 returns-2 c = sym (simp (ne-eqb _ _ (c .if1 .left)) (or-false (eqb (c .before .args .mark) 1)))
