@@ -12,5 +12,6 @@ pub mod Bounds
 pub mod Parents
 pub mod Fold
 pub mod Demand
-pub mod Input
+pub mod Accepted
+pub mod Testing
 pub mod Bench

@@ -4,3 +4,4 @@ pub mod Distance
 pub mod Parents
 pub mod Demand
 pub mod Input
+pub mod Answers

@@ -5,6 +5,7 @@ use mathlib.Core.Bool.{Bool, true, false, _&&_, _||_}
 use mathlib.Core.List.{List}
 use Prim.Native.Nat.{ℕ, zero, suc, _+_, _*_, _/_, _≤_, _<_}
 use native.Mathlib.Nat.{add-zero, eq-or-lt-of-le}
+use native.Mathlib.Numerals.{add-one}
 use native.Mathlib.Omega.{arith}
 use lib.Dec.{T, ltb, eqb}
 use lib.Ieee.Bits.{is-true}
@@ -32,6 +33,18 @@ allBelow-at (suc n) p e i h = go (eq-or-lt-of-le (let k : i ≤ n = omega arith 
     go : (i ≡ n) ⊎ (i < n) → (i < n → p i ≡ true) → p i ≡ true
     go (inl k) r = ap p k ∙ is-true (p n) (and-r (allBelow n p) (p n) (subst T (sym e) tt))
     go (inr k) r = r k
+
+-- a test that passes below i and at i, and one that fails at i
+pub allBelow-more : (i : ℕ) (p : ℕ → Bool) → allBelow i p ≡ true → p i ≡ true → allBelow (i + 1) p ≡ true
+unfolding allBelow
+allBelow-more i p e h = ap (λ (k : ℕ). allBelow k p) (add-one i) ∙ λ j. e j && h j
+
+pub allBelow-fails : (n : ℕ) (p : ℕ → Bool) (i : ℕ) → i < n → p i ≡ false → allBelow n p ≡ false
+allBelow-fails n p i h e = go (allBelow n p) refl
+  where
+    go : (b : Bool) → allBelow n p ≡ b → b ≡ false
+    go false q = refl
+    go true q = sym (allBelow-at n p q i h) ∙ e
 
 pub sumBelow-same : (n : ℕ) (f g : ℕ → ℕ) → ((i : ℕ) → i < n → f i ≡ g i) → sumBelow n f ≡ sumBelow n g
 unfolding sumBelow
@@ -86,7 +99,7 @@ module _ (bytes : List ℕ) where
   at-field : (from n i k : ℕ) → i < n → from + 4 * i ≡ k → getD (words bytes from n) i 0 ≡ word bytes k
   at-field from n i k h e = getD-words bytes from n i h ∙ ap (word bytes) e
 
-  read-fields : Fields (partsOf bytes) (statedLinks bytes) (statedNodes bytes)
+  pub read-fields : Fields (partsOf bytes) (statedLinks bytes) (statedNodes bytes)
       (λ v. word bytes (16 * statedLinks bytes + 12 * v)) (λ v. word bytes (16 * statedLinks bytes + 12 * v + 4)) (λ v. word bytes (16 * statedLinks bytes + 12 * v + 8))
       (λ l. word bytes (16 * l + 8)) (λ l. word bytes (16 * l + 12))
   unfolding partsOf
