@@ -10,7 +10,7 @@ use native.Mathlib.Omega.{arith}
 use lib.Dec.{T, leb, ltb, eqb, leb→le, ltb→lt, lit≤}
 use lib.ListN.{length, getD, List·getD-eq-default}
 use lib.Ieee.{binary32, ofBits}
-use lib.Ieee.Bits.{is-true, ofBits-fits}
+use lib.Ieee.Bits.{ofBits-fits}
 use lib.Ieee.Fits.{and-l, and-r}
 use borrow.Author.Tests.{eqb-true, eqb-false}
 use Rattle.tropical_weight.specs.Limits.{unit, weightLimit, nodeLimit, linkLimit}
@@ -20,10 +20,12 @@ use Rattle.tropical_weight.proofs.Grid.{onGrid-whole}
 use Rattle.sheet.specs.Below.{allBelow}
 use Rattle.sheet.specs.Sheet.{Parts, noStart, linkCount, nodeCount, mark, finalBits, linkBits, next, startFits, onGridBits, nodesFit, nextsFit, weightsFit, verdict, partsOf, sizesFit, readNumber}
 use Rattle.sheet.specs.Machine.{machineOf, sourcesBelow, weightOf, linkOf}
-use Rattle.sheet.proofs.Fields.{allBelow-at}
-use Rattle.sheet.proofs.Sources.{sources-rise, length-sources, counts-sum, machine-link, machine-links, machine-final, machine-nodes, split-at}
+use Rattle.sheet.proofs.Below.{allBelow-at}
+use Rattle.sheet.proofs.Below.{split-at}
+use Rattle.sheet.proofs.Sources.{sources-rise, length-sources, counts-sum, machine-link, machine-links, machine-final, machine-nodes}
 use Rattle.machine.specs.Readings.{link, final, noLink}
 use Rattle.machine.specs.Climbs.{Climbs, Finite, Small}
+use Rattle.machine.proofs.Tests.{both}
 use Rattle.machine.specs.Input.{countsFit, linksClimb, boundsNumber, inputNumber}
 
 -- ---- a weight's field on the grid
@@ -51,9 +53,6 @@ all-four true true true false e = absurd (omega arith)
 all-four true true false d e = absurd (omega arith)
 all-four true false c d e = absurd (omega arith)
 all-four false b c d e = absurd (omega arith)
-
-both : (a b : Bool) → a && b ≡ true → (a ≡ true) × (b ≡ true)
-both a b e = (is-true a (and-l a b (subst T (sym e) tt)), is-true b (and-r a b (subst T (sym e) tt)))
 
 pub verdict-passes : (laidOut : Bool) (p : Parts) → verdict laidOut p ≡ 0 → (laidOut ≡ true) × (nodesFit p ≡ true) × (startFits (nodeCount p) (p .start) ≡ true) × (nextsFit p ≡ true) × (weightsFit p ≡ true)
 unfolding verdict

@@ -5,7 +5,7 @@ use mathlib.Core.List.{List, [], _∷_, _++_, map, List·Memᴰ·head, List·Mem
 use Prim.Native.Nat.{ℕ, zero, suc, _<_}
 use native.Mathlib.Decide.{ℕ-discrete}
 use native.Mathlib.Omega.{arith}
-use lib.ListN.{length, length-append}
+use lib.ListN.{length}
 use Rattle.sheet.specs.Below.{listBelow}
 use Rattle.machine.specs.Demand.{_∈_, NoDup}
 
@@ -46,11 +46,6 @@ mem-below {A} f (suc n) {a} m = go (λ q. mem-below f n q) (List·Memᴰ·append
     go : (a ∈ listBelow n f → (v : ℕ) × (v < n) × (a ≡ f v)) → a ∈ listBelow n f ⊎ a ∈ (f n ∷ []) → (v : ℕ) × (v < suc n) × (a ≡ f v)
     go ih (inl q) = let r = ih q in (r .0, omega (arith, r .1), r .2)
     go ih (inr q) = (n, omega arith, List·Memᴰ·eq-of-singleton q)
-
-pub length-below : {A : Type 0} (f : ℕ → A) (n : ℕ) → length (listBelow n f) ≡ n
-unfolding listBelow
-length-below f zero = refl
-length-below f (suc n) = omega (arith, length-append (listBelow n f) (f n ∷ []), length-below f n)
 
 -- ---- maps
 pub map-append : {A B : Type 0} (f : A → B) (l k : List A) → map f (l ++ k) ≡ map f l ++ map f k

@@ -9,8 +9,8 @@ use native.Mathlib.Decide.{ℕ-discrete}
 use native.Mathlib.Omega.{arith}
 use lib.Dec.{eqb}
 use lib.IntN.{ℤ}
-use lib.ListN.{getD, length, take, length-take, List·getD-append}
-use lib.Seq.{getD-take, getD-at, ext-getD}
+use lib.ListN.{length, take, length-take}
+use lib.Seq.{getD-take, ext-getD}
 use Rattle.tropical_weight.specs.Tropical.{fin, inf}
 use Rattle.tropical_weight.proofs.Semiring.{≼-eq, ≼-trans, ≼-antisym, ≼-inf, ≼-fin}
 use Rattle.sheet.specs.Below.{listBelow}
@@ -20,19 +20,11 @@ use Rattle.machine.specs.Climbs.{Climbs, Finite}
 use Rattle.machine.specs.Distance.{dist, relax, reach, reached, heightBelow, height, distances}
 use Rattle.machine.specs.Demand.{_∈_}
 use Rattle.machine.proofs.Tests.{not-both}
-use Rattle.machine.proofs.Lists.{here, map-mem, mem-map, length-below}
+use Rattle.machine.proofs.Lists.{here, map-mem, mem-map}
+use Rattle.sheet.proofs.Below.{length-listBelow, getD-listBelow}
 use Rattle.machine.proofs.Runs.{FromStart, over, more, ends, run-last, run-length, ways-are}
 use Rattle.machine.proofs.Distance.{run-finite, dist-le, dist-greatest, dist-attained}
 use Rattle.machine.proofs.Relax.{row-size, relax-is}
-
-getD-below : {A : Type 0} (f : ℕ → A) (n i : ℕ) (d : A) → i < n → getD (listBelow n f) i d ≡ f i
-unfolding listBelow
-getD-below f zero i d h = absurd (omega arith)
-getD-below {A} f (suc n) i d h = go (ℕ-discrete i n) (getD-below f n i d)
-  where
-    go : Dec (i ≡ n) → (i < n → getD (listBelow n f) i d ≡ f i) → getD (listBelow n f ++ (f n ∷ [])) i d ≡ f i
-    go (yes e) ih = getD-at (listBelow n f) (f n) [] d i (length-below f n ∙ sym e) ∙ ap f (sym e)
-    go (no e) ih = List·getD-append (listBelow n f) (f n ∷ []) d i (omega (arith, length-below f n, e)) ∙ ih (omega (arith, e))
 
 module _ (m : Machine) where
   -- ---- the test looks for a run of the enumeration
@@ -170,6 +162,6 @@ module _ (m : Machine) where
         let n = height m in
         let row = relax m (length (m .links)) in
         let size : length (take n row) ≡ n = length-take n row ∙ omega (arith, row-size m (length (m .links)), height-le) in
-        ext-getD inf (listBelow n (dist m)) (take n row) (length-below (dist m) n ∙ sym size) (λ i h.
-        let b : i < n = omega (arith, length-below (dist m) n) in
-        getD-below (dist m) n i inf b ∙ sym (getD-take n row i inf b ∙ relax-is m c i (omega (arith, height-le))))
+        ext-getD inf (listBelow n (dist m)) (take n row) (length-listBelow n (dist m) ∙ sym size) (λ i h.
+        let b : i < n = omega (arith, length-listBelow n (dist m)) in
+        getD-listBelow n (dist m) i inf b ∙ sym (getD-take n row i inf b ∙ relax-is m c i (omega (arith, height-le))))

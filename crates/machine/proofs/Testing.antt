@@ -18,8 +18,10 @@ use Rattle.sheet.specs.Sheet.{nodeCount, count, next, partsOf, sizesFit, readNu
 use Rattle.sheet.specs.Machine.{sourcesBelow}
 use Rattle.sheet.specs.Records.{trailerAt}
 use Rattle.sheet.specs.Answers.{tested, testedBy}
-use Rattle.sheet.proofs.Fields.{read-fields, read-unfit, allBelow-same, sumBelow-same}
-use Rattle.sheet.proofs.Sources.{source-is, sum-mono, counts-sum}
+use Rattle.sheet.proofs.Below.{allBelow-same, sumBelow-same}
+use Rattle.sheet.proofs.Fields.{read-fields, read-unfit}
+use Rattle.sheet.proofs.Below.{sum-mono}
+use Rattle.sheet.proofs.Sources.{source-is, counts-sum}
 use Rattle.machine.specs.Input.{countsFit, linksClimb, boundsNumber, inputNumber}
 use Rattle.machine.specs.Answers.{nodesClimb, inputAnswer}
 use Rattle.machine.proofs.Accepted.{verdict-passes}

@@ -1,55 +1,19 @@
 -- The verdict on a sheet, by the fields that the passes take. Assumes nothing.
-use mathlib.Core.Path.{_≡_, refl, sym, ap, _∙_, subst}
-use mathlib.Core.Logic.{_⊎_, inl, inr}
+use mathlib.Core.Path.{_≡_, refl, sym, ap, _∙_}
 use mathlib.Core.Bool.{Bool, true, false, _&&_, _||_}
 use mathlib.Core.List.{List}
 use Prim.Native.Nat.{ℕ, zero, suc, _+_, _*_, _/_, _≤_, _<_}
-use native.Mathlib.Nat.{add-zero, eq-or-lt-of-le}
-use native.Mathlib.Numerals.{add-one}
+use native.Mathlib.Nat.{add-zero}
 use native.Mathlib.Omega.{arith}
 use lib.Dec.{T, ltb, eqb}
-use lib.Ieee.Bits.{is-true}
-use lib.Ieee.Fits.{and-l, and-r}
 use lib.ListN.{length, getD}
 use borrow.Author.Tests.{lt-leb, le-leb}
 use Rattle.sheet.specs.Below.{allBelow, sumBelow}
 use Rattle.sheet.specs.Words.{word, words}
 use Rattle.sheet.specs.Sheet.{Parts, linkCount, nodeCount, count, mark, finalBits, linkBits, next, wellMarked, startFits, onGridBits, nodesFit, nextsFit, weightsFit, verdict, partsOf, sizesFit, readNumber, statedLinks, statedNodes, trailerField, trailerLength}
 use Rattle.sheet.specs.Tests.{nodeTests, linkTests, judged}
+use Rattle.sheet.proofs.Below.{allBelow-same, sumBelow-same}
 use Rattle.sheet.proofs.Passes.{firstFailing}
-
--- ---- tests and sums that agree below the bound
-pub allBelow-same : (n : ℕ) (p q : ℕ → Bool) → ((i : ℕ) → i < n → p i ≡ q i) → allBelow n p ≡ allBelow n q
-unfolding allBelow
-allBelow-same zero p q e = refl
-allBelow-same (suc n) p q e = λ i. allBelow-same n p q (λ k h. e k (omega arith)) i && e n (omega arith) i
-
--- a test that passes at each number, at one of them
-pub allBelow-at : (n : ℕ) (p : ℕ → Bool) → allBelow n p ≡ true → (i : ℕ) → i < n → p i ≡ true
-unfolding allBelow
-allBelow-at zero p e i h = absurd (omega arith)
-allBelow-at (suc n) p e i h = go (eq-or-lt-of-le (let k : i ≤ n = omega arith in k)) (λ k. allBelow-at n p (is-true (allBelow n p) (and-l (allBelow n p) (p n) (subst T (sym e) tt))) i k)
-  where
-    go : (i ≡ n) ⊎ (i < n) → (i < n → p i ≡ true) → p i ≡ true
-    go (inl k) r = ap p k ∙ is-true (p n) (and-r (allBelow n p) (p n) (subst T (sym e) tt))
-    go (inr k) r = r k
-
--- a test that passes below i and at i, and one that fails at i
-pub allBelow-more : (i : ℕ) (p : ℕ → Bool) → allBelow i p ≡ true → p i ≡ true → allBelow (i + 1) p ≡ true
-unfolding allBelow
-allBelow-more i p e h = ap (λ (k : ℕ). allBelow k p) (add-one i) ∙ λ j. e j && h j
-
-pub allBelow-fails : (n : ℕ) (p : ℕ → Bool) (i : ℕ) → i < n → p i ≡ false → allBelow n p ≡ false
-allBelow-fails n p i h e = go (allBelow n p) refl
-  where
-    go : (b : Bool) → allBelow n p ≡ b → b ≡ false
-    go false q = refl
-    go true q = sym (allBelow-at n p q i h) ∙ e
-
-pub sumBelow-same : (n : ℕ) (f g : ℕ → ℕ) → ((i : ℕ) → i < n → f i ≡ g i) → sumBelow n f ≡ sumBelow n g
-unfolding sumBelow
-sumBelow-same zero f g e = refl
-sumBelow-same (suc n) f g e = λ i. sumBelow-same n f g (λ k h. e k (omega arith)) i + e n (omega arith) i
 
 -- ---- words one after the other
 pub length-words : (bytes : List ℕ) (at n : ℕ) → length (words bytes at n) ≡ n

@@ -1,3 +1,4 @@
+pub mod Below
 pub mod Bytes
 pub mod Passes
 pub mod Fields

@@ -2,55 +2,19 @@
 -- link up to the next node's. Assumes nothing.
 use mathlib.Core.Path.{_≡_, refl, sym, ap, _∙_, subst}
 use mathlib.Core.Logic.{_⊎_, inl, inr}
-use mathlib.Core.Bool.{Bool, true, false, not}
-use mathlib.Core.List.{List, [], _∷_, _++_}
+use mathlib.Core.Bool.{true}
+use mathlib.Core.List.{_++_}
 use mathlib.Core.Option.{none}
 use Prim.Native.Nat.{ℕ, zero, suc, _+_, _-_, _≤_, _<_}
-use native.Mathlib.Nat.{le-of-eq, eq-or-lt-of-le}
+use native.Mathlib.Nat.{eq-or-lt-of-le}
 use native.Mathlib.Omega.{arith}
-use lib.Dec.{T, ltb, eqb, eqb→eq, ltb→lt, nltb→le}
+use lib.Dec.{T, eqb, eqb→eq}
 use lib.ListN.{length, getD, replicate, length-append, length-replicate, getD-replicate, List·getD-append}
-use lib.Seq.{getD-append-add}
 use lib.Ieee.Fits.{and-r}
-use Rattle.sheet.specs.Below.{allBelow, sumBelow, listBelow}
+use Rattle.sheet.specs.Below.{allBelow, sumBelow}
 use Rattle.sheet.specs.Sheet.{Parts, linkCount, nodeCount, count, mark, finalBits, wellMarked, nodesFit}
+use Rattle.sheet.proofs.Below.{split-at, getD-past, length-listBelow, getD-listBelow, sum-mono}
 use Rattle.sheet.specs.Machine.{Link, machineOf, sourcesBelow, linkOf, finalOf}
-
--- ---- lists over the numbers below a bound
-pub length-listBelow : {A : Type 0} (n : ℕ) (f : ℕ → A) → length (listBelow n f) ≡ n
-unfolding listBelow
-length-listBelow zero f = refl
-length-listBelow (suc n) f = length-append (listBelow n f) (f n ∷ []) ∙ omega (arith, length-listBelow n f)
-
--- an index in the first list or past it
-pub split-at : (a b : ℕ) → (a < b) ⊎ (b ≤ a)
-split-at a b = go (ltb a b) (ltb→lt a b) (nltb→le a b)
-  where
-    go : (t : Bool) → (T t → a < b) → (T (not t) → b ≤ a) → (a < b) ⊎ (b ≤ a)
-    go true h k = inl (h tt)
-    go false h k = inr (k tt)
-
-getD-past : {A : Type 0} (xs ys : List A) (i : ℕ) (d : A) → length xs ≤ i → getD (xs ++ ys) i d ≡ getD ys (i - length xs) d
-getD-past xs ys i d h = ap (λ (k : ℕ). getD (xs ++ ys) k d) (let e : i ≡ length xs + (i - length xs) = omega arith in e) ∙ getD-append-add xs ys (i - length xs) d
-
-pub getD-listBelow : {A : Type 0} (n : ℕ) (f : ℕ → A) (i : ℕ) (d : A) → i < n → getD (listBelow n f) i d ≡ f i
-unfolding listBelow
-getD-listBelow zero f i d h = absurd (omega arith)
-getD-listBelow (suc n) f i d h = go (eq-or-lt-of-le (let k : i ≤ n = omega arith in k)) (λ l. getD-listBelow n f i d l)
-  where
-    go : (i ≡ n) ⊎ (i < n) → (i < n → getD (listBelow n f) i d ≡ f i) → getD (listBelow n f ++ (f n ∷ [])) i d ≡ f i
-    go (inl e) r = getD-past (listBelow n f) (f n ∷ []) i d (omega (arith, length-listBelow n f)) ∙ ap (λ (k : ℕ). getD (f n ∷ []) k d) (let z : i - length (listBelow n f) ≡ 0 = omega (arith, length-listBelow n f) in z) ∙ ap f (sym e)
-    go (inr l) r = List·getD-append (listBelow n f) (f n ∷ []) d i (omega (arith, length-listBelow n f)) ∙ r l
-
-pub sum-mono : (f : ℕ → ℕ) (b a : ℕ) → a ≤ b → sumBelow a f ≤ sumBelow b f
-unfolding sumBelow
-sum-mono f zero zero h = omega arith
-sum-mono f zero (suc a) h = absurd (omega arith)
-sum-mono f (suc b) a h = go (eq-or-lt-of-le h) (λ k. sum-mono f b a k)
-  where
-    go : (a ≡ suc b) ⊎ (a < suc b) → (a ≤ b → sumBelow a f ≤ sumBelow b f) → sumBelow a f ≤ sumBelow b f + f b
-    go (inl e) r = le-of-eq (ap (λ (k : ℕ). sumBelow k f) e)
-    go (inr l) r = let k : sumBelow a f ≤ sumBelow b f = r (omega arith) in omega arith
 
 -- ---- the sources
 module _ (p : Parts) where

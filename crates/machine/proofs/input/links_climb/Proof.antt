@@ -9,8 +9,8 @@ use denote.Ref.{now}
 use borrow.Author.Tests.{not-true, not-false}
 use Rattle.sheet.specs.Below.{allBelow, sumBelow}
 use Rattle.sheet.specs.Words.{word}
-use Rattle.sheet.proofs.Fields.{allBelow-more, allBelow-fails}
-use Rattle.sheet.proofs.Sources.{sum-mono}
+use Rattle.sheet.proofs.Below.{allBelow-more, allBelow-fails}
+use Rattle.sheet.proofs.Below.{sum-mono}
 use borrow.Author.Needs.{needs}
 use Rattle.machine.proofs.input.links_climb.Statement.{statement}
 use Rattle.machine.proofs.input.links_climb.Tie as tie

@@ -7,7 +7,7 @@ use denote.Ref.{now}
 use borrow.Author.Tests.{lt-ltb, le-ltb}
 use Rattle.sheet.specs.Below.{allBelow}
 use Rattle.sheet.specs.Words.{word}
-use Rattle.sheet.proofs.Fields.{allBelow-more, allBelow-fails}
+use Rattle.sheet.proofs.Below.{allBelow-more, allBelow-fails}
 use borrow.Author.Needs.{needs}
 use Rattle.machine.proofs.input.node_climbs.Statement.{statement}
 use Rattle.machine.proofs.input.node_climbs.Tie as tie
