@@ -119,7 +119,7 @@ module _ (p : Parts) (t : Passes p) where
         subst (λ x. x .source ≤ link (machineOf p) l .source) (sym (link-at k i)) (subst (λ x. getD (sourcesBelow p (nodeCount p)) k 0 ≤ x .source) (sym (link-at l j)) (sources-rise p (nodeCount p) k l o (omega (arith, sources))));
   }
 
-  link-grid : (l : ℕ) → l < linkCount p → onGridBits (linkBits p l) ≡ true
+  pub link-grid : (l : ℕ) → l < linkCount p → onGridBits (linkBits p l) ≡ true
   unfolding weightsFit
   link-grid l h = allBelow-at (linkCount p) (λ l. onGridBits (linkBits p l)) (both (allBelow (linkCount p) (λ l. onGridBits (linkBits p l))) (allBelow (nodeCount p) (λ v. eqb (mark p v) 0 || onGridBits (finalBits p v))) (t .weights-fit) .0) l h
 

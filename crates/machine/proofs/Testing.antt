@@ -8,13 +8,13 @@ use native.Mathlib.Omega.{arith}
 use lib.Dec.{T, leb, ltb, eqb, eqb→eq}
 use lib.Ieee.Fits.{and-r}
 use lib.ListN.{length, getD}
-use borrow.Author.Tests.{eqb-true}
+use borrow.Author.Tests.{eqb-true, eq-eqb}
 use Rattle.tropical_weight.specs.Limits.{nodeLimit, linkLimit}
 use Rattle.sheet.specs.declared.read.Tested.the-variants.{Accepted, Refused}
 use Rattle.sheet.specs.declared.tr.Trailer.{Trailer}
 use Rattle.sheet.specs.Below.{allBelow, sumBelow}
 use Rattle.sheet.specs.Words.{word}
-use Rattle.sheet.specs.Sheet.{nodeCount, count, next, partsOf, sizesFit, readNumber, statedLinks, statedNodes, nodesFit, trailerField, trailerLength}
+use Rattle.sheet.specs.Sheet.{nodeCount, count, next, partsOf, sizesFit, startFits, nextsFit, weightsFit, verdict, readNumber, statedLinks, statedNodes, nodesFit, trailerField, trailerLength}
 use Rattle.sheet.specs.Machine.{sourcesBelow}
 use Rattle.sheet.specs.Records.{trailerAt}
 use Rattle.sheet.specs.Answers.{tested, testedBy}
@@ -54,12 +54,36 @@ module _ (bytes : List ℕ) where
       go true q h = let z : _≡_ {A = ℕ} 0 1 = cc in absurd (omega arith)
       go false q h = sym (ap (λ (b : Bool). testedBy (eqb (cond (not b) (readNumber bytes) (boundsNumber (partsOf bytes))) 0) bytes (cond (not b) (readNumber bytes) (boundsNumber (partsOf bytes)))) q)
 
-  pub accepted-reading : (t : Trailer) → tested bytes ≡ Accepted t → (readNumber bytes ≡ 0) × (t ≡ trailerAt bytes)
-  accepted-reading t e = go (eqb (readNumber bytes) 0) refl e
+  -- by the number of the refusal, or 0
+  pub accepted-number : (n : ℕ) (t : Trailer) → testedBy (eqb n 0) bytes n ≡ Accepted t → (n ≡ 0) × (t ≡ trailerAt bytes)
+  accepted-number n t e = go (eqb n 0) refl e
     where
-      go : (b : Bool) → eqb (readNumber bytes) 0 ≡ b → testedBy b bytes (readNumber bytes) ≡ Accepted t → (readNumber bytes ≡ 0) × (t ≡ trailerAt bytes)
-      go true q h = (eqb-true (readNumber bytes) 0 q, cc)
+      go : (b : Bool) → eqb n 0 ≡ b → testedBy b bytes n ≡ Accepted t → (n ≡ 0) × (t ≡ trailerAt bytes)
+      go true q h = (eqb-true n 0 q, cc)
       go false q h = let z : _≡_ {A = ℕ} 0 1 = cc in absurd (omega arith)
+
+  pub refused-number : (n k : ℕ) → testedBy (eqb n 0) bytes n ≡ Refused k → (n ≡ k) × (k ≡ 0 → ⊥)
+  refused-number n k e = go (eqb n 0) refl e
+    where
+      go : (b : Bool) → eqb n 0 ≡ b → testedBy b bytes n ≡ Refused k → (n ≡ k) × (k ≡ 0 → ⊥)
+      go true q h = let z : _≡_ {A = ℕ} 0 1 = cc in absurd (omega arith)
+      go false q h = let same : n ≡ k = cc in (same, λ z. absurd (subst T (sym (eq-eqb n 0 (same ∙ z)) ∙ q) tt))
+
+  -- the numbers are those of tests 1 to 6
+  pub input-most : inputNumber bytes ≤ 6
+  unfolding inputNumber readNumber verdict boundsNumber
+  input-most =
+      let p = partsOf bytes in
+      let bounds : boundsNumber p ≤ 6 = most (not (countsFit p)) 5 (cond (not (linksClimb p)) 6 0) (omega arith) (most (not (linksClimb p)) 6 0 (omega arith) (omega arith)) in
+      let weights : cond (not (weightsFit p)) 4 0 ≤ 6 = most (not (weightsFit p)) 4 0 (omega arith) (omega arith) in
+      let nexts : cond (not (nextsFit p)) 3 (cond (not (weightsFit p)) 4 0) ≤ 6 = most (not (nextsFit p)) 3 (cond (not (weightsFit p)) 4 0) (omega arith) weights in
+      let start : cond (not (startFits (nodeCount p) (p .start))) 2 (cond (not (nextsFit p)) 3 (cond (not (weightsFit p)) 4 0)) ≤ 6 = most (not (startFits (nodeCount p) (p .start))) 2 (cond (not (nextsFit p)) 3 (cond (not (weightsFit p)) 4 0)) (omega arith) nexts in
+      let read : readNumber bytes ≤ 6 = most (not (sizesFit bytes && nodesFit p)) 1 (cond (not (startFits (nodeCount p) (p .start))) 2 (cond (not (nextsFit p)) 3 (cond (not (weightsFit p)) 4 0))) (omega arith) start in
+      most (not (eqb (readNumber bytes) 0)) (readNumber bytes) (boundsNumber p) read bounds
+    where
+      most : (b : Bool) (x y : ℕ) → x ≤ 6 → y ≤ 6 → cond b x y ≤ 6
+      most true x y h k = h
+      most false x y h k = k
 
   module _ (read : readNumber bytes ≡ 0) where
     pub fits : sizesFit bytes ≡ true
@@ -95,7 +119,7 @@ module _ (bytes : List ℕ) where
     unfolding readNumber
     nodes-fit = verdict-passes (sizesFit bytes) (partsOf bytes) read .1
 
-    counts-words : (v : ℕ) → v ≤ nodeCount (partsOf bytes) → sumBelow v (count (partsOf bytes)) ≡ sumBelow v (λ u. word bytes (16 * statedLinks bytes + 12 * u))
+    pub counts-words : (v : ℕ) → v ≤ nodeCount (partsOf bytes) → sumBelow v (count (partsOf bytes)) ≡ sumBelow v (λ u. word bytes (16 * statedLinks bytes + 12 * u))
     counts-words v h = sumBelow-same v (count (partsOf bytes)) (λ u. word bytes (16 * statedLinks bytes + 12 * u)) (λ u k. read-fields bytes .count-is u (omega (arith, read-fields bytes .nodes-are)))
 
     -- the counts add up to the links

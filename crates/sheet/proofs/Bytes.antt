@@ -25,7 +25,7 @@ unfolding bytesOfAll bytesOf
 length-bytesOfAll [] = refl
 length-bytesOfAll (w ∷ ws) = omega (arith, length-bytesOfAll ws)
 
-bytesOfAll-one : (w : ℕ) → bytesOfAll (w ∷ []) ≡ bytesOf w
+pub bytesOfAll-one : (w : ℕ) → bytesOfAll (w ∷ []) ≡ bytesOf w
 unfolding bytesOfAll bytesOf
 bytesOfAll-one w = refl
 

@@ -15,14 +15,14 @@ use Rattle.sheet.specs.Sheet.{partsOf, readNumber, statedLinks, statedNodes}
 use Rattle.sheet.specs.Records.{trailerAt}
 use Rattle.machine.specs.Input.{countsFit, linksClimb}
 use Rattle.machine.specs.Answers.{nodesClimb}
-use Rattle.machine.proofs.Testing.{refused-reading, accepted-reading, input-5, input-6, input-passes, counts-are, counts-total, climb-same, in-sheet}
+use Rattle.machine.proofs.Testing.{refused-reading, accepted-number, input-5, input-6, input-passes, counts-are, counts-total, climb-same, in-sheet}
 use borrow.Author.Needs.{needs}
 use Rattle.machine.proofs.input.input.Statement.{statement}
 use Rattle.machine.proofs.input.input.Tie as tie
 
 -- what reading found where it accepted
 reading : (c : tie.After-read2) → (readNumber (now (c .before .before .before .before .args .sheet)) ≡ 0) × (c .read2 .given .0 .0 ≡ trailerAt (now (c .before .before .before .before .args .sheet)))
-reading c = accepted-reading (now (c .before .before .before .before .args .sheet)) (c .read2 .given .0 .0) (sym (c .before .before .read .ensures) ∙ c .read2 .given .1)
+reading c = accepted-number (now (c .before .before .before .before .args .sheet)) (readNumber (now (c .before .before .before .before .args .sheet))) (c .read2 .given .0 .0) (sym (c .before .before .read .ensures) ∙ c .read2 .given .1)
 
 -- the limits, where both tests passed
 within : (c : tie.Else2) → countsFit (partsOf (now (c .before .before .before .before .before .before .before .args .sheet))) ≡ true

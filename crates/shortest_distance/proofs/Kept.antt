@@ -1,0 +1,142 @@
+-- Relaxing links and heads keeps what `Sound` says, and what a turn of the loop makes. Assumes nothing.
+use mathlib.Core.Path.{_≡_, refl, sym, ap, _∙_, subst}
+use mathlib.Core.Logic.{_⊎_, inl, inr}
+use mathlib.Core.Bool.{Bool, true, false, not, _||_, cond}
+use mathlib.Core.List.{List}
+use Prim.Native.Nat.{ℕ, zero, suc, _+_, _-_, _*_, _≤_, _<_}
+use native.Mathlib.Omega.{arith}
+use lib.Dec.{eqb}
+use lib.ListN.{set, length-set}
+use lib.Seq.{getD-set-other}
+use lib.Ieee.{Float, binary32, ofBits}
+use borrow.Author.Tests.{eqb-true}
+use Rattle.tropical_weight.specs.Limits.{nodeLimit}
+use Rattle.sheet.specs.declared.tr.Link.{Link}
+use Rattle.sheet.specs.Below.{sumBelow}
+use Rattle.sheet.specs.Records.{linkAt}
+use Rattle.sheet.proofs.Below.{sum-mono}
+use Rattle.state_order_queue.specs.declared.Queue.{Queue}
+use Rattle.state_order_queue.specs.Queues.{holds, isEmpty, enqueued, dequeued}
+use Rattle.state_order_queue.proofs.Flags.{and-true}
+use Rattle.state_order_queue.proofs.Sets.{enqueued-full, enqueued-holds, enqueued-valid, dequeued-full, dequeued-valid, dequeued-holds, front-held}
+use Rattle.shortest_distance.specs.Slots.{distanceWord, firstWord, countAt}
+use Rattle.shortest_distance.specs.Relaxation.{State, reaches, relaxLink, relaxLinks, relaxHead, relaxHeads}
+use Rattle.shortest_distance.specs.Sound.{Sound}
+
+either : (a b : Bool) → a || b ≡ true → (a ≡ true) ⊎ (b ≡ true)
+either true b h = inl refl
+either false b h = inr h
+
+-- distances are stored at words 0 of slots, first links at words 1
+first-kept : (work : List ℕ) (u v x : ℕ) → firstWord (set work (8 * u) x) v ≡ firstWord work v
+first-kept work u v x = getD-set-other work (8 * u) (8 * v + 1) x 0 (λ e. omega arith)
+
+module _ (bytes : List ℕ) (links nodes : ℕ) where
+  abbrev pub Kept : State → Type 0
+  Kept s = Sound bytes links nodes (s .work) (s .queue)
+
+  -- a node put in
+  put-kept : (work : List ℕ) (q : Queue) (v : ℕ) → v < nodes → Sound bytes links nodes work q → Sound bytes links nodes work (enqueued q v)
+  put-kept work q v l h =
+      let small : v < nodeLimit = omega (arith, h .few) in
+      record {
+        laid-out = h .laid-out;
+        slots = h .slots;
+        few = h .few;
+        counted = h .counted;
+        inside = h .inside;
+        firsts = h .firsts;
+        full = enqueued-full q v ∙ h .full;
+        valid = enqueued-valid q v (h .full) small (h .valid);
+        held = λ u e. new u (either (eqb u v) (holds q u) (sym (enqueued-holds q v (h .full) small u) ∙ e));
+      }
+    where
+      new : (u : ℕ) → (eqb u v ≡ true) ⊎ (holds q u ≡ true) → u < nodes
+      new u (inl e) = omega (arith, eqb-true u v e)
+      new u (inr e) = h .held u e
+
+  -- a distance stored
+  store-kept : (work : List ℕ) (q : Queue) (v x : ℕ) → Sound bytes links nodes work q → Sound bytes links nodes (set work (8 * v) x) q
+  store-kept work q v x h = record {
+    laid-out = h .laid-out;
+    slots = omega (arith, h .slots, length-set work (8 * v) x);
+    few = h .few;
+    counted = h .counted;
+    inside = h .inside;
+    firsts = λ u l. first-kept work v u x ∙ h .firsts u l;
+    full = h .full;
+    valid = h .valid;
+    held = h .held;
+  }
+
+  pub link-kept : (k : Link) (distance : Float) (s : State) → k .nextstate < nodes → Kept s → Kept (relaxLink k distance s)
+  link-kept k distance s l h = store-kept (s .work) _ (k .nextstate) _ (go (reaches (distanceWord (s .work) (k .nextstate)) distance (k .weight)))
+    where
+      go : (b : Bool) → Sound bytes links nodes (s .work) (cond b (enqueued (s .queue) (k .nextstate)) (s .queue))
+      go true = put-kept (s .work) (s .queue) (k .nextstate) l h
+      go false = h
+
+  pub links-kept : (first : ℕ) (distance : Float) (n : ℕ) (s : State) → first + n ≤ links → Kept s → Kept (relaxLinks bytes first distance n s)
+  unfolding relaxLinks
+  links-kept first distance zero s l h = h
+  links-kept first distance (suc n) s l h = link-kept (linkAt bytes (first + n)) distance (relaxLinks bytes first distance n s) (h .inside (first + n) (omega arith)) (links-kept first distance n s (omega arith) h)
+
+  -- ---- a head
+  module _ (s : State) (h : Kept s) (filled : isEmpty (s .queue) ≡ false) where
+    pub front-below : s .queue .front < nodes
+    front-below = h .held (s .queue .front) (front-held (s .queue) (h .full) (h .valid) filled)
+
+    pub head-taken : Kept (record { work = s .work; queue = dequeued (s .queue) })
+    head-taken = record {
+      laid-out = h .laid-out;
+      slots = h .slots;
+      few = h .few;
+      counted = h .counted;
+      inside = h .inside;
+      firsts = h .firsts;
+      full = dequeued-full (s .queue) (h .full);
+      valid = dequeued-valid (s .queue) (h .full) (h .valid);
+      held = λ v e. h .held v (and-true (not (eqb v (s .queue .front))) (holds (s .queue) v) (sym (dequeued-holds (s .queue) (h .full) (h .valid) filled v) ∙ e) .1);
+    }
+
+    -- its links are among those of the sheet
+    pub head-links : firstWord (s .work) (s .queue .front) + countAt bytes links (s .queue .front) ≤ links
+    unfolding sumBelow
+    head-links =
+        let v = s .queue .front in
+        omega (arith, h .firsts v front-below, sum-mono (countAt bytes links) nodes (suc v) front-below, h .counted)
+
+    pub head-kept : Kept (relaxHead bytes links s)
+    head-kept = links-kept (firstWord (s .work) (s .queue .front)) (ofBits binary32 (distanceWord (s .work) (s .queue .front))) (countAt bytes links (s .queue .front)) (record { work = s .work; queue = dequeued (s .queue) }) head-links head-taken
+
+-- ---- heads one after the other, as the loop takes them
+module _ (bytes : List ℕ) (links : ℕ) (s : State) where
+  -- a head's links relaxed, by what the calls answer
+  pub head-made : (distance : Float) (count : ℕ) (q : Queue) → distance ≡ ofBits binary32 (distanceWord (s .work) (s .queue .front)) → count ≡ countAt bytes links (s .queue .front) → q ≡ dequeued (s .queue)
+      → (area : List ℕ) (r : Queue) → let t = relaxLinks bytes (firstWord (s .work) (s .queue .front)) distance count (record { work = s .work; queue = q }) in r ≡ t .queue → area ≡ t .work → record { work = area; queue = r } ≡ relaxHead bytes links s
+  head-made distance count q d n e area r h k = (λ i. record { work = k i; queue = h i }) ∙ λ i. relaxLinks bytes (firstWord (s .work) (s .queue .front)) (d i) (n i) (record { work = s .work; queue = e i })
+
+  pub heads-none : relaxHeads bytes links 0 s ≡ s
+  unfolding relaxHeads
+  heads-none = refl
+
+  -- an empty queue ends them
+  pub heads-end : (n : ℕ) → isEmpty (s .queue) ≡ true → relaxHeads bytes links n s ≡ s
+  unfolding relaxHeads
+  heads-end zero h = refl
+  heads-end (suc n) h = ap (λ (b : Bool). cond b s (relaxHeads bytes links n (relaxHead bytes links s))) h
+
+  -- else one is taken
+  pub heads-turn : (n i : ℕ) → i < n → isEmpty (s .queue) ≡ false → relaxHeads bytes links (n - i) s ≡ relaxHeads bytes links (n - (i + 1)) (relaxHead bytes links s)
+  unfolding relaxHeads
+  heads-turn n i l h =
+      let e : n - i ≡ suc (n - (i + 1)) = omega arith in
+      ap (λ (k : ℕ). relaxHeads bytes links k s) e ∙ ap (λ (b : Bool). cond b s (relaxHeads bytes links (n - (i + 1)) (relaxHead bytes links s))) h
+
+  -- the loop's turn
+  pub heads-again : (n i : ℕ) (whole t : State) → i < n → isEmpty (s .queue) ≡ false → Kept bytes links n s → t ≡ relaxHead bytes links s → relaxHeads bytes links (n - i) s ≡ whole
+      → Kept bytes links n t × (relaxHeads bytes links (n - (i + 1)) t ≡ whole)
+  heads-again n i whole t l h k e w = (
+    subst (Kept bytes links n) (sym e) (head-kept bytes links n s k h),
+    ap (relaxHeads bytes links (n - (i + 1))) e ∙ sym (heads-turn n i l h) ∙ w,
+  )

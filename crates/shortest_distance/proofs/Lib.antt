@@ -1,0 +1,9 @@
+pub mod Areas
+pub mod Offers
+pub mod Turns
+pub mod Kept
+pub mod Rows
+pub mod Accepted
+pub mod Starts
+pub mod Outcomes
+pub mod Making

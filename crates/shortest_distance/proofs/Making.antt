@@ -1,0 +1,151 @@
+-- Distances made from an accepted sheet, with a start and without. Assumes nothing.
+use mathlib.Core.Path.{_≡_, refl, sym, ap, _∙_, subst}
+use mathlib.Core.Bool.{Bool, true, false, _&&_, _||_, cond}
+use mathlib.Core.Option.{none, some}
+use mathlib.Core.List.{List}
+use Prim.Native.Nat.{ℕ, _+_, _*_, _≤_, _<_}
+use native.Mathlib.Nat.{le-of-eq}
+use native.Mathlib.Omega.{arith}
+use lib.Dec.{T, leb, ltb, eqb, ltb→lt}
+use lib.Ieee.Fits.{and-l, and-r}
+use lib.ListN.{length, getD, drop, set}
+use borrow.Author.Tests.{le-ltb, ne-eqb}
+use Rattle.tropical_weight.specs.Limits.{nodeLimit}
+use Rattle.tropical_weight.specs.Tropical.{inf}
+use Rattle.sheet.specs.Below.{sumBelow}
+use Rattle.sheet.specs.Words.{word}
+use Rattle.sheet.specs.declared.tr.Trailer.{Trailer}
+use Rattle.sheet.specs.Records.{trailerAt}
+use Rattle.sheet.specs.Sheet.{partsOf, noStart, nodeCount, trailerField, statedLinks, statedNodes}
+use Rattle.sheet.specs.Machine.{machineOf}
+use Rattle.sheet.proofs.Fields.{read-fields}
+use Rattle.sheet.proofs.Sources.{machine-nodes}
+use Rattle.machine.specs.Distance.{relax, reached}
+use Rattle.machine.specs.Input.{inputNumber}
+use Rattle.machine.proofs.Accepted.{passes, input-read, next-at, few-nodes}
+use Rattle.machine.proofs.Testing.{in-sheet, counts-total}
+use Rattle.machine.proofs.Reached.{reached-none, unreached-inf}
+use Rattle.state_order_queue.specs.declared.Queue.{Queue}
+use Rattle.state_order_queue.specs.Queues.{emptied, enqueued}
+use Rattle.shortest_distance.specs.Slots.{bitsOf, countAt, prepared}
+use Rattle.shortest_distance.specs.Relaxation.{State, relaxHeads}
+use Rattle.shortest_distance.specs.Sound.{Sound}
+use Rattle.shortest_distance.specs.Outcome.{machine, Made}
+use Rattle.shortest_distance.proofs.Areas.{length-prepared, prepared-distance, prepared-beyond}
+use Rattle.shortest_distance.proofs.Offers.{isFinite, bits-inf}
+use Rattle.shortest_distance.proofs.Rows.{Holds, Final, heads}
+use Rattle.shortest_distance.proofs.Accepted.{reads, nodes-are}
+use Rattle.shortest_distance.proofs.Starts.{begun-holds}
+
+module _ (bytes old : List ℕ) (e : inputNumber bytes ≡ 0) (room : 8 * statedNodes bytes ≤ length old) where
+  few : statedNodes bytes ≤ nodeLimit
+  few = subst (λ (n : ℕ). n ≤ nodeLimit) (read-fields bytes .nodes-are) (few-nodes (partsOf bytes) (passes bytes e))
+
+  -- what setting up asks of a sheet
+  laid-out : 16 * statedLinks bytes + 12 * statedNodes bytes ≤ length bytes
+  laid-out = in-sheet bytes (input-read bytes e .0)
+
+  counted : sumBelow (statedNodes bytes) (countAt bytes (statedLinks bytes)) ≤ statedLinks bytes
+  counted = le-of-eq (counts-total bytes (input-read bytes e .0))
+
+  -- ---- without a start: no node is reached
+  module _ (h : statedNodes bytes ≤ trailerField bytes 4) where
+    no-start : machine bytes .start ≡ none
+    unfolding machineOf partsOf
+    no-start =
+        let short : nodeCount (partsOf bytes) ≤ trailerField bytes 4 = subst (λ (n : ℕ). n ≤ trailerField bytes 4) (sym (read-fields bytes .nodes-are)) h in
+        let sure : eqb (trailerField bytes 4) noStart ≡ true = ap (λ (b : Bool). b || eqb (trailerField bytes 4) noStart) (sym (le-ltb (trailerField bytes 4) (nodeCount (partsOf bytes)) short)) ∙ passes bytes e .start-fits in
+        ap (λ (b : Bool). cond b none (some (trailerField bytes 4))) sure
+
+    unreached : (v : ℕ) → reached (machine bytes) v ≡ false
+    unreached v = go (reached (machine bytes) v) refl
+      where
+        go : (b : Bool) → reached (machine bytes) v ≡ b → b ≡ false
+        go true q = absurd (reached-none (machine bytes) (reads bytes e .climbs) v no-start q)
+        go false q = refl
+
+    made-none : Made bytes old (prepared bytes (statedLinks bytes) (statedNodes bytes) old)
+    made-none = record {
+      each = λ v b.
+          prepared-distance bytes (statedLinks bytes) (statedNodes bytes) old v (subst (λ (n : ℕ). v < n) (read-fields bytes .nodes-are) b) room
+          ∙ sym (ap bitsOf (unreached-inf (machine bytes) (reads bytes e .climbs) v (unreached v)) ∙ bits-inf);
+      size = length-prepared bytes (statedLinks bytes) (statedNodes bytes) old;
+      beyond = ap (λ (n : ℕ). drop (8 * n) (prepared bytes (statedLinks bytes) (statedNodes bytes) old)) (read-fields bytes .nodes-are) ∙ prepared-beyond bytes (statedLinks bytes) (statedNodes bytes) old ∙ sym (ap (λ (n : ℕ). drop (8 * n) old) (read-fields bytes .nodes-are));
+    }
+
+  -- ---- with a start: the heads are relaxed from it
+  module _ (s : ℕ) (same : trailerField bytes 4 ≡ s) (h : s < statedNodes bytes) where
+    a-start : machine bytes .start ≡ some s
+    unfolding machineOf partsOf
+    a-start = ap (λ (k : ℕ). cond (eqb k noStart) none (some k)) same ∙ ap (λ (b : Bool). cond b none (some s)) (ne-eqb s noStart (λ q. omega (arith, few)))
+
+    in-nodes : s < length (machine bytes .finals)
+    in-nodes = subst (λ (n : ℕ). s < n) (sym (nodes-are bytes e)) h
+
+    slots : 8 * length (machine bytes .finals) ≤ length old
+    slots = subst (λ (n : ℕ). 8 * n ≤ length old) (sym (nodes-are bytes e)) room
+
+    abbrev first-state : State
+    first-state = record { work = set (prepared bytes (statedLinks bytes) (statedNodes bytes) old) (8 * s) 0; queue = enqueued emptied s }
+
+    none-before : sumBelow 0 (countAt bytes (statedLinks bytes)) ≡ 0
+    none-before = unfold sumBelow in refl
+
+    held : Holds bytes (statedLinks bytes) (machine bytes) (reads bytes e) old 0 0 first-state
+    held = subst (λ (n : ℕ). Holds bytes (statedLinks bytes) (machine bytes) (reads bytes e) old 0 0 (record { work = set (prepared bytes (statedLinks bytes) n old) (8 * s) 0; queue = enqueued emptied s })) (nodes-are bytes e) (begun-holds bytes (statedLinks bytes) (machine bytes) (reads bytes e) old s a-start in-nodes slots)
+
+    sound : Sound bytes (statedLinks bytes) (statedNodes bytes) (first-state .work) (first-state .queue)
+    sound = record {
+      laid-out = laid-out;
+      slots = subst (λ (n : ℕ). 8 * n ≤ length (first-state .work)) (nodes-are bytes e) (held .room);
+      few = few;
+      counted = counted;
+      inside = λ l b. subst (λ (n : ℕ). word bytes (16 * l + 12) < n) (read-fields bytes .nodes-are) (subst (λ (n : ℕ). n < nodeCount (partsOf bytes)) (read-fields bytes .next-is l b) (next-at (partsOf bytes) (passes bytes e) l (subst (λ (n : ℕ). l < n) (sym (read-fields bytes .links-are)) b)));
+      firsts = λ v b. held .firsts v (subst (λ (n : ℕ). v < n) (sym (nodes-are bytes e)) b);
+      full = held .full;
+      valid = held .valid;
+      held = λ v q. subst (λ (n : ℕ). v < n) (nodes-are bytes e) (flagged v (isFinite (getD (relax (machine bytes) 0) v inf)) (subst T (sym (sym (held .flags v) ∙ q)) tt));
+    }
+      where
+        flagged : (v : ℕ) (b : Bool) → T (leb 0 v && (ltb v (length (machine bytes .finals)) && b)) → v < length (machine bytes .finals)
+        flagged v b t = ltb→lt v (length (machine bytes .finals)) (and-l (ltb v (length (machine bytes .finals))) b (and-r (leb 0 v) (ltb v (length (machine bytes .finals)) && b) t))
+
+    made-some : Made bytes old (relaxHeads bytes (statedLinks bytes) (statedNodes bytes) first-state .work)
+    made-some =
+        let all : Final bytes (statedLinks bytes) (machine bytes) (reads bytes e) old (relaxHeads bytes (statedLinks bytes) (statedNodes bytes) first-state) =
+        heads bytes (statedLinks bytes) (machine bytes) (reads bytes e) old (statedNodes bytes) 0 first-state (omega arith) (omega (arith, nodes-are bytes e)) (subst (λ (l : ℕ). Holds bytes (statedLinks bytes) (machine bytes) (reads bytes e) old l 0 first-state) (sym none-before) held) in
+        record {
+          each = λ v b. all .distances v (subst (λ (n : ℕ). v < n) (sym (machine-nodes (partsOf bytes))) b);
+          size = all .size;
+          beyond = ap (λ (n : ℕ). drop (8 * n) (relaxHeads bytes (statedLinks bytes) (statedNodes bytes) first-state .work)) (sym (machine-nodes (partsOf bytes))) ∙ all .beyond ∙ ap (λ (n : ℕ). drop (8 * n) old) (machine-nodes (partsOf bytes));
+        }
+
+-- ---- as the code goes, by the fields of the trailer that reading found
+module _ (bytes old : List ℕ) (e : inputNumber bytes ≡ 0) (t : Trailer) (same : t ≡ trailerAt bytes) (room : 8 * t .nodes ≤ length old) where
+  fits : 8 * statedNodes bytes ≤ length old
+  fits = subst (λ (t : Trailer). 8 * t .nodes ≤ length old) same room
+
+  pub prepares : (16 * t .links + 12 * t .nodes ≤ length bytes) × (8 * t .nodes ≤ length old) × (sumBelow (t .nodes) (countAt bytes (t .links)) ≤ t .links)
+  prepares = subst (λ (t : Trailer). (16 * t .links + 12 * t .nodes ≤ length bytes) × (8 * t .nodes ≤ length old) × (sumBelow (t .nodes) (countAt bytes (t .links)) ≤ t .links)) (sym same)
+      (laid-out bytes old e fits, fits, counted bytes old e fits)
+
+  module _ (area : List ℕ) (set-up : area ≡ prepared bytes (t .links) (t .nodes) old) where
+    pub made-without : t .nodes ≤ t .start → Made bytes old area
+    made-without h = subst (λ (x : List ℕ). Made bytes old x) (sym set-up) (subst (λ (t : Trailer). t .nodes ≤ t .start → Made bytes old (prepared bytes (t .links) (t .nodes) old)) (sym same) (made-none bytes old e fits) h)
+
+    module _ (h : t .start < t .nodes) where
+      pub start-low : t .start < nodeLimit
+      start-low = subst (λ (t : Trailer). t .start < t .nodes → t .start < nodeLimit) (sym same) (λ k. omega (arith, few bytes old e fits)) h
+
+      module _ (q : Queue) (begun-with : q ≡ enqueued emptied (t .start)) where
+        pub sound-start : Sound bytes (t .links) (t .nodes) (set area (8 * t .start) 0) q
+        sound-start =
+            subst (λ (x : Queue). Sound bytes (t .links) (t .nodes) (set area (8 * t .start) 0) x) (sym begun-with)
+            (subst (λ (x : List ℕ). Sound bytes (t .links) (t .nodes) (set x (8 * t .start) 0) (enqueued emptied (t .start))) (sym set-up)
+            (subst (λ (t : Trailer). t .start < t .nodes → Sound bytes (t .links) (t .nodes) (set (prepared bytes (t .links) (t .nodes) old) (8 * t .start) 0) (enqueued emptied (t .start))) (sym same) (sound bytes old e fits (trailerField bytes 4) refl) h))
+
+        pub made-from : Made bytes old (relaxHeads bytes (t .links) (t .nodes) (record { work = set area (8 * t .start) 0; queue = q }) .work)
+        made-from =
+            subst (λ (x : Queue). Made bytes old (relaxHeads bytes (t .links) (t .nodes) (record { work = set area (8 * t .start) 0; queue = x }) .work)) (sym begun-with)
+            (subst (λ (x : List ℕ). Made bytes old (relaxHeads bytes (t .links) (t .nodes) (record { work = set x (8 * t .start) 0; queue = enqueued emptied (t .start) }) .work)) (sym set-up)
+            (subst (λ (t : Trailer). t .start < t .nodes → Made bytes old (relaxHeads bytes (t .links) (t .nodes) (record { work = set (prepared bytes (t .links) (t .nodes) old) (8 * t .start) 0; queue = enqueued emptied (t .start) }) .work)) (sym same) (made-some bytes old e fits (trailerField bytes 4) refl) h))

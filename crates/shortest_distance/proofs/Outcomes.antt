@@ -1,0 +1,158 @@
+-- The outcome of the call, by the way the code goes. Assumes nothing.
+use mathlib.Core.Path.{_≡_, refl, sym, ap, _∙_, subst}
+use mathlib.Core.Bool.{Bool, true, false, not, _||_, cond}
+use mathlib.Core.List.{List, [], _∷_, _++_, map}
+use Prim.Native.Nat.{ℕ, zero, suc, _*_, _/_, _≤_, _<_}
+use native.Mathlib.Nat.{le-refl}
+use native.Mathlib.Omega.{arith}
+use lib.Dec.{ltb, eqb}
+use lib.ListN.{length, drop, length-map}
+use borrow.Author.Tests.{lt-ltb, le-ltb, ne-eqb}
+use Rattle.sheet.specs.Below.{listBelow}
+use Rattle.sheet.specs.declared.tr.Trailer.{Trailer}
+use Rattle.sheet.specs.Records.{trailerAt}
+use Rattle.sheet.specs.Sheet.{partsOf, statedLinks}
+use Rattle.sheet.proofs.Fields.{read-fields}
+use Rattle.sheet.proofs.Below.{length-listBelow}
+use Rattle.sheet.proofs.Bytes.{length-bytesOfAll}
+use Rattle.sheet.proofs.Sources.{machine-nodes}
+use Rattle.machine.specs.Distance.{dist, distances, height}
+use Rattle.machine.specs.Input.{inputNumber}
+use Rattle.machine.proofs.Lists.{map-append}
+use Rattle.machine.proofs.Accepted.{passes, finite-machine}
+use Rattle.machine.proofs.Reached.{height-le}
+use Rattle.state_order_queue.specs.Queues.{emptied}
+use Rattle.shortest_distance.specs.declared.Distances.{Distances}
+use Rattle.shortest_distance.specs.declared.Distances.the-variants.{Count, Refused}
+use Rattle.shortest_distance.specs.Slots.{infinite, bitsOf, distanceWord, distanceWords, heightIn, cleared}
+use Rattle.shortest_distance.specs.Handed.{handed, handedBy, handedOver}
+use Rattle.shortest_distance.specs.Outcome.{machine, answerOf, slotsNeeded, distanceNumber, distancesBy, distanceAnswer, workAfter, resultAfter, Made}
+use Rattle.shortest_distance.proofs.Areas.{cleared-same}
+use Rattle.shortest_distance.proofs.Rows.{Final}
+use Rattle.shortest_distance.proofs.Accepted.{reads}
+use Rattle.shortest_distance.proofs.Starts.{height-is}
+
+-- a list below a bound, value by value
+below-map : {A : Type 0} (g : A → ℕ) (n : ℕ) (f : ℕ → ℕ) (h : ℕ → A) → ((v : ℕ) → v < n → f v ≡ g (h v)) → listBelow n f ≡ map g (listBelow n h)
+unfolding listBelow
+below-map g zero f h e = refl
+below-map g (suc n) f h e = (λ i. below-map g n f h (λ v b. e v (omega arith)) i ++ (e n (omega arith) i ∷ [])) ∙ sym (map-append g (listBelow n h) (h n ∷ []))
+
+-- ---- the number, by what was tested
+module _ (bytes : List ℕ) (words : ℕ) (room : ℕ) where
+  number-input : (inputNumber bytes ≡ 0 → ⊥) → distanceNumber bytes words room ≡ inputNumber bytes
+  unfolding distanceNumber
+  number-input n = ap (λ (b : Bool). cond (not b) (inputNumber bytes) (cond (ltb (words / 8) (slotsNeeded bytes)) 20 (cond (ltb room (length (answerOf bytes))) 21 0))) (ne-eqb (inputNumber bytes) 0 n)
+
+  number-state : inputNumber bytes ≡ 0 → distanceNumber bytes words room ≡ cond (ltb (words / 8) (slotsNeeded bytes)) 20 (cond (ltb room (length (answerOf bytes))) 21 0)
+  unfolding distanceNumber
+  number-state e = ap (λ (k : ℕ). cond (not (eqb k 0)) k (cond (ltb (words / 8) (slotsNeeded bytes)) 20 (cond (ltb room (length (answerOf bytes))) 21 0))) e
+
+-- what a number that refuses before the search leaves
+module _ (bytes work result : List ℕ) where
+  pub record Outcome (answer : Distances) (work′ result′ : List ℕ) : Type 0 where
+    pub answer-is : answer ≡ distanceAnswer bytes (length work) (length result)
+    pub work-is : work′ ≡ workAfter bytes work (length result)
+    pub result-is : result′ ≡ resultAfter bytes (length work) result
+
+  early : (k : ℕ) → (k ≡ 0 → ⊥) → (k ≡ 21 → ⊥) → distanceNumber bytes (length work) (length result) ≡ k → Outcome (Refused k) work result
+  early k a b e = record {
+    answer-is = sym (ap (λ (n : ℕ). distancesBy (eqb n 0) (length (distances (machine bytes))) n) e ∙ ap (λ (t : Bool). distancesBy t (length (distances (machine bytes))) k) (ne-eqb k 0 a));
+    work-is = sym (ap (λ (n : ℕ). cond (eqb n 0 || eqb n 21) (cleared (slotsNeeded bytes) work) work) e ∙ (λ i. cond (ne-eqb k 0 a i || ne-eqb k 21 b i) (cleared (slotsNeeded bytes) work) work));
+    result-is = sym (ap (λ (n : ℕ). cond (eqb n 0) (answerOf bytes ++ drop (length (answerOf bytes)) result) result) e ∙ ap (λ (t : Bool). cond t (answerOf bytes ++ drop (length (answerOf bytes)) result) result) (ne-eqb k 0 a));
+  }
+
+  pub outcome-input : (k : ℕ) → inputNumber bytes ≡ k → (k ≡ 0 → ⊥) → k ≤ 6 → Outcome (Refused k) work result
+  outcome-input k e a b = early k a (λ z. omega arith) (number-input bytes (length work) (length result) (λ z. a (sym e ∙ z)) ∙ e)
+
+  outcome-20 : inputNumber bytes ≡ 0 → length work / 8 < slotsNeeded bytes → Outcome (Refused 20) work result
+  outcome-20 e h =
+      early 20 (λ z. omega arith) (λ z. omega arith)
+      (number-state bytes (length work) (length result) e ∙ ap (λ (b : Bool). cond b 20 (cond (ltb (length result) (length (answerOf bytes))) 21 0)) (lt-ltb (length work / 8) (slotsNeeded bytes) h))
+
+  -- ---- distances made, handed over and cleared
+  module _ (e : inputNumber bytes ≡ 0) (slots : slotsNeeded bytes ≤ length work / 8) (made : List ℕ) (h : Made bytes work made) where
+    n : ℕ
+    n = heightIn made (slotsNeeded bytes)
+
+    nodes : length (machine bytes .finals) ≡ slotsNeeded bytes
+    nodes = machine-nodes (partsOf bytes)
+
+    final : Final bytes (statedLinks bytes) (machine bytes) (reads bytes e) work (record { work = made; queue = emptied })
+    final = record {
+      distances = λ v b. h .each v (subst (λ (k : ℕ). v < k) nodes b);
+      size = h .size;
+      beyond = ap (λ (k : ℕ). drop (8 * k) made) nodes ∙ h .beyond ∙ sym (ap (λ (k : ℕ). drop (8 * k) work) nodes);
+    }
+
+    height-same : heightIn made (slotsNeeded bytes) ≡ height (machine bytes)
+    height-same =
+        ap (heightIn made) (sym nodes)
+        ∙ height-is bytes (statedLinks bytes) (machine bytes) (reads bytes e) work (finite-machine (partsOf bytes) (passes bytes e)) (record { work = made; queue = emptied }) final (length (machine bytes .finals)) (le-refl (length (machine bytes .finals)))
+
+    count-same : heightIn made (slotsNeeded bytes) ≡ length (distances (machine bytes))
+    unfolding distances
+    count-same = height-same ∙ sym (length-listBelow (height (machine bytes)) (dist (machine bytes)))
+
+    words-same : distanceWords made (heightIn made (slotsNeeded bytes)) ≡ map bitsOf (distances (machine bytes))
+    unfolding distances
+    words-same =
+        ap (λ (k : ℕ). distanceWords made k) height-same
+        ∙ below-map bitsOf (height (machine bytes)) (distanceWord made) (dist (machine bytes)) (λ v b. h .each v (omega (arith, height-le (machine bytes), nodes)))
+
+    answer-length : length (answerOf bytes) ≡ 4 * heightIn made (slotsNeeded bytes)
+    answer-length = length-bytesOfAll (map bitsOf (distances (machine bytes))) ∙ ap (λ (k : ℕ). 4 * k) (length-map (distances (machine bytes)) bitsOf ∙ sym count-same)
+
+    number : distanceNumber bytes (length work) (length result) ≡ cond (ltb (length result) (length (answerOf bytes))) 21 0
+    number = number-state bytes (length work) (length result) e ∙ ap (λ (b : Bool). cond b 20 (cond (ltb (length result) (length (answerOf bytes))) 21 0)) (le-ltb (length work / 8) (slotsNeeded bytes) slots)
+
+    outcome-made : Outcome (handed (heightIn made (slotsNeeded bytes)) (length result)) (cleared (slotsNeeded bytes) made) (handedOver (distanceWords made (heightIn made (slotsNeeded bytes))) result)
+    outcome-made = record {
+      answer-is =
+          ap (λ (k : ℕ). handedBy (ltb (length result) k) (heightIn made (slotsNeeded bytes))) (sym answer-length)
+          ∙ by-room (ltb (length result) (length (answerOf bytes)))
+          ∙ sym (ap (λ (k : ℕ). distancesBy (eqb k 0) (length (distances (machine bytes))) k) number);
+      work-is =
+          cleared-same (slotsNeeded bytes) made work (h .beyond)
+          ∙ both (ltb (length result) (length (answerOf bytes)))
+          ∙ sym (ap (λ (k : ℕ). cond (eqb k 0 || eqb k 21) (cleared (slotsNeeded bytes) work) work) number);
+      result-is =
+          ap (λ (ws : List ℕ). handedOver ws result) words-same
+          ∙ turned (ltb (length result) (length (answerOf bytes)))
+          ∙ sym (ap (λ (k : ℕ). cond (eqb k 0) (answerOf bytes ++ drop (length (answerOf bytes)) result) result) number);
+    }
+      where
+        by-room : (b : Bool) → handedBy b (heightIn made (slotsNeeded bytes)) ≡ distancesBy (eqb (cond b 21 0) 0) (length (distances (machine bytes))) (cond b 21 0)
+        by-room true = refl
+        by-room false = ap Count count-same
+
+        both : (b : Bool) → cleared (slotsNeeded bytes) work ≡ cond (eqb (cond b 21 0) 0 || eqb (cond b 21 0) 21) (cleared (slotsNeeded bytes) work) work
+        both true = refl
+        both false = refl
+
+        turned : (b : Bool) → cond b result (answerOf bytes ++ drop (length (answerOf bytes)) result) ≡ cond (eqb (cond b 21 0) 0) (answerOf bytes ++ drop (length (answerOf bytes)) result) result
+        turned true = refl
+        turned false = refl
+
+-- ---- as the code goes, by the fields of the trailer that reading found
+pub height-low : (work : List ℕ) (n : ℕ) → heightIn work n ≤ n
+unfolding heightIn
+height-low work zero = omega arith
+height-low work (suc v) = go (eqb (distanceWord work v) infinite) (height-low work v)
+  where
+    go : (b : Bool) → heightIn work v ≤ v → cond b (heightIn work v) (suc v) ≤ suc v
+    go true h = omega arith
+    go false h = omega arith
+
+module _ (bytes work result : List ℕ) (e : inputNumber bytes ≡ 0) (t : Trailer) (same : t ≡ trailerAt bytes) where
+  nodes-same : t .nodes ≡ slotsNeeded bytes
+  nodes-same = ap (λ (t : Trailer). t .nodes) same ∙ sym (read-fields bytes .nodes-are)
+
+  pub few-slots : length work / 8 < t .nodes → Outcome bytes work result (Refused 20) work result
+  few-slots h = outcome-20 bytes work result e (subst (λ (n : ℕ). length work / 8 < n) nodes-same h)
+
+  pub handed-over : t .nodes ≤ length work / 8 → (made : List ℕ) → Made bytes work made
+      → Outcome bytes work result (handed (heightIn made (t .nodes)) (length result)) (cleared (t .nodes) made) (handedOver (distanceWords made (heightIn made (t .nodes))) result)
+  handed-over h made is =
+      subst (λ (n : ℕ). Outcome bytes work result (handed (heightIn made n) (length result)) (cleared n made) (handedOver (distanceWords made (heightIn made n)) result)) (sym nodes-same)
+      (outcome-made bytes work result e (subst (λ (n : ℕ). n ≤ length work / 8) nodes-same h) made is)

@@ -1,0 +1,78 @@
+use mathlib.Core.Path.{sym, ap, _∙_, subst}
+use denote.Ref.{now}
+use Rattle.state_order_queue.specs.declared.Queue.{Queue}
+use Rattle.state_order_queue.specs.Queues.{enqueued}
+use Rattle.shortest_distance.specs.Outcome.{Made}
+use Rattle.shortest_distance.proofs.Making.{prepares, start-low, sound-start, made-from, made-without}
+use borrow.Author.Needs.{needs}
+use Rattle.shortest_distance.proofs.make.Statement.{statement}
+use Rattle.shortest_distance.proofs.make.Tie as tie
+
+prepare-requires : tie.Need-prepare-requires
+prepare-requires c κs =
+    let a = c .before .before .before .args in
+    let r = c .before .before .before .pre in
+    prepares (now (a .sheet)) (now (a .work)) (r .0) (a .t) (r .1) (r .2)
+
+cast-work : tie.Need-cast-work
+cast-work c = search needs
+
+mul-work : tie.Need-mul-work
+mul-work c = search needs
+
+mul-work-2 : tie.Need-mul-work-2
+mul-work-2 c = search needs
+
+slice-write-work : tie.Need-slice-write-work
+slice-write-work c = search needs
+
+new-requires : tie.Need-new-requires
+new-requires c κs = search needs
+
+put-requires : tie.Need-put-requires
+put-requires c κs =
+    let a = c .before .before .before .before .before .before .before .before .args in
+    let r = c .before .before .before .before .before .before .before .before .pre in
+    start-low (now (a .sheet)) (now (a .work)) (r .0) (a .t) (r .1) (r .2) _ (c .before .before .before .before .prepare .ensures) (c .before .if1 .taken)
+
+relax-heads-requires : tie.Need-relax-heads-requires
+relax-heads-requires c κs =
+    let a = c .before .before .before .before .before .before .before .before .before .before .args in
+    let r = c .before .before .before .before .before .before .before .before .before .before .pre in
+    sound-start (now (a .sheet)) (now (a .work)) (r .0) (a .t) (r .1) (r .2) _ (c .before .before .before .before .before .before .prepare .ensures) (c .before .before .before .if1 .taken) (c .before .put .result) (c .before .put .ensures ∙ ap (λ (q : Queue). enqueued q (a .t .start)) (c .before .before .new .ensures))
+
+returns : tie.Need-returns
+returns c =
+    let a = c .before .before .before .before .before .before .before .before .before .before .before .before .before .args in
+    let r = c .before .before .before .before .before .before .before .before .before .before .before .before .before .pre in
+    subst (λ x. Made (now (a .sheet)) (now (a .work)) x) (sym (c .before .before .relax-heads .ensures .1))
+    (made-from (now (a .sheet)) (now (a .work)) (r .0) (a .t) (r .1) (r .2) _ (c .before .before .before .before .before .before .before .before .before .prepare .ensures) (c .before .before .before .before .before .before .if1 .taken) (c .before .before .before .before .put .result) (c .before .before .before .before .put .ensures ∙ ap (λ (q : Queue). enqueued q (a .t .start)) (c .before .before .before .before .before .new .ensures)))
+
+same-length : tie.Need-same-length
+same-length c = returns c .size
+
+same-length-2 : tie.Need-same-length-2
+same-length-2 c = search needs
+
+returns-2 : tie.Need-returns-2
+returns-2 c =
+    let a = c .before .before .before .before .before .before .before .args in
+    let r = c .before .before .before .before .before .before .before .pre in
+    made-without (now (a .sheet)) (now (a .work)) (r .0) (a .t) (r .1) (r .2) _ (c .before .before .before .prepare .ensures) (c .if1 .left)
+
+pub make-spec : {M : Type 1} → statement M
+make-spec =
+    tie.close
+    (tie.spec
+    prepare-requires
+    cast-work
+    mul-work
+    mul-work-2
+    slice-write-work
+    new-requires
+    put-requires
+    relax-heads-requires
+    same-length
+    returns
+    same-length-2
+    returns-2)

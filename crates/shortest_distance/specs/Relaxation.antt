@@ -1,0 +1,67 @@
+-- Relaxation on the slots, through the queue: what the code does, link by link. Definitions only.
+use Prim.Native.Nat.{ℕ, zero, suc, _+_, _*_}
+use mathlib.Core.Bool.{Bool, not, _&&_, cond}
+use mathlib.Core.List.{List}
+use lib.Dec.{eqb}
+use lib.ListN.{set}
+use lib.Ieee.{Float, binary32, add, ofBits, toBits}
+use Rattle.tropical_weight.specs.Single.{lesser, approxEqual}
+use Rattle.sheet.specs.declared.tr.Link.{Link}
+use Rattle.sheet.specs.Records.{linkAt}
+use Rattle.state_order_queue.specs.declared.Queue.{Queue}
+use Rattle.state_order_queue.specs.Queues.{isEmpty, enqueued, dequeued}
+use Rattle.shortest_distance.specs.Slots.{infinite, distanceWord, firstWord, countAt}
+
+-- 1e-6 in single precision
+abbrev pub delta : Float
+delta = ofBits binary32 0x3586_37bd
+
+-- the lesser of a node's distance and the one offered
+abbrev pub offered : ℕ → Float → Float → Float
+offered old distance weight = lesser (ofBits binary32 old) (add binary32 distance weight)
+
+-- whether the offer improves on it
+abbrev pub improves : ℕ → Float → Float → Bool
+improves old distance weight = not (approxEqual (ofBits binary32 old) (offered old distance weight) delta)
+
+-- the distance word after the offer
+abbrev pub relaxedWord : ℕ → Float → Float → ℕ
+relaxedWord old distance weight = cond (improves old distance weight) (toBits binary32 (offered old distance weight)) old
+
+-- whether the offer is the first
+abbrev pub reaches : ℕ → Float → Float → Bool
+reaches old distance weight = improves old distance weight && eqb old infinite
+
+-- the area after a link is relaxed whose source has a distance
+abbrev pub relaxedWords : Link → Float → List ℕ → List ℕ
+relaxedWords k distance work = set work (8 * k .nextstate) (relaxedWord (distanceWord work (k .nextstate)) distance (k .weight))
+
+-- the area and the queue
+pub record State : Type 0 where
+  pub work : List ℕ
+  pub queue : Queue
+
+-- a link relaxed, and its next node put in where the offer is the first
+abbrev pub relaxLink : Link → Float → State → State
+relaxLink k distance s = record {
+  work = relaxedWords k distance (s .work);
+  queue = cond (reaches (distanceWord (s .work) (k .nextstate)) distance (k .weight)) (enqueued (s .queue) (k .nextstate)) (s .queue);
+}
+
+-- n links from a number on
+unfoldable pub relaxLinks : List ℕ → ℕ → Float → ℕ → State → State
+relaxLinks bytes first distance zero s = s
+relaxLinks bytes first distance (suc n) s = relaxLink (linkAt bytes (first + n)) distance (relaxLinks bytes first distance n s)
+
+-- the links of a node
+abbrev pub relaxNode : List ℕ → ℕ → ℕ → State → State
+relaxNode bytes links v s = relaxLinks bytes (firstWord (s .work) v) (ofBits binary32 (distanceWord (s .work) v)) (countAt bytes links v) s
+
+-- the queue's head taken, and its links relaxed
+abbrev pub relaxHead : List ℕ → ℕ → State → State
+relaxHead bytes links s = relaxNode bytes links (s .queue .front) (record { work = s .work; queue = dequeued (s .queue) })
+
+-- so many heads, or until the queue is empty
+unfoldable pub relaxHeads : List ℕ → ℕ → ℕ → State → State
+relaxHeads bytes links zero s = s
+relaxHeads bytes links (suc n) s = let later = relaxHeads bytes links n (relaxHead bytes links s) in cond (isEmpty (s .queue)) s later

@@ -1,0 +1,53 @@
+-- The work area while distances are made: a slot of eight words a node. Word 0 holds the bits of its distance, word 1 the number of its first link.
+-- Definitions only.
+use Prim.Native.Nat.{ℕ, zero, suc, _+_, _*_, _/_}
+use mathlib.Core.Bool.{cond}
+use mathlib.Core.List.{List, _++_}
+use lib.Dec.{eqb}
+use lib.ListN.{length, getD, set, replicate, drop}
+use lib.Ieee.{binary32, toBits}
+use Rattle.tropical_weight.specs.Limits.{unit}
+use Rattle.tropical_weight.specs.Tropical.{Tropical}
+use Rattle.tropical_weight.specs.Grid.{ofT}
+use Rattle.sheet.specs.Below.{sumBelow, listBelow}
+use Rattle.sheet.specs.Words.{word}
+
+-- the bits of a distance
+abbrev pub bitsOf : Tropical → ℕ
+bitsOf w = toBits binary32 (ofT unit w)
+
+-- the bits of infinity
+abbrev pub infinite : ℕ
+infinite = 0x7f80_0000
+
+abbrev pub slotsIn : List ℕ → ℕ
+slotsIn work = length work / 8
+
+-- the words of slot v
+abbrev pub distanceWord : List ℕ → ℕ → ℕ
+distanceWord work v = getD work (8 * v) 0
+
+abbrev pub firstWord : List ℕ → ℕ → ℕ
+firstWord work v = getD work (8 * v + 1) 0
+
+-- the link count of node v in a sheet with so many links
+abbrev pub countAt : List ℕ → ℕ → ℕ → ℕ
+countAt bytes links v = word bytes (16 * links + 12 * v)
+
+-- the area with the first n slots set up
+unfoldable pub prepared : List ℕ → ℕ → ℕ → List ℕ → List ℕ
+prepared bytes links zero work = work
+prepared bytes links (suc v) work = set (set (prepared bytes links v work) (8 * v) infinite) (8 * v + 1) (sumBelow v (countAt bytes links))
+
+-- the first n slots left zero, and those beyond as they were
+abbrev pub cleared : ℕ → List ℕ → List ℕ
+cleared n work = replicate (8 * n) 0 ++ drop (8 * n) work
+
+-- one more than the highest of n nodes whose distance is not infinite, or 0
+unfoldable pub heightIn : List ℕ → ℕ → ℕ
+heightIn work zero = 0
+heightIn work (suc v) = cond (eqb (distanceWord work v) infinite) (heightIn work v) (suc v)
+
+-- the distance words of the first n nodes
+abbrev pub distanceWords : List ℕ → ℕ → List ℕ
+distanceWords work n = listBelow n (distanceWord work)

@@ -1,0 +1,27 @@
+-- What holds of a sheet, the work area and the queue while heads are relaxed. Definitions only.
+use Prim.Native.Nat.{ℕ, _+_, _*_, _≤_, _<_}
+use mathlib.Core.Path.{_≡_}
+use mathlib.Core.Bool.{true}
+use mathlib.Core.List.{List}
+use lib.ListN.{length}
+use Rattle.tropical_weight.specs.Limits.{nodeLimit}
+use Rattle.sheet.specs.Below.{sumBelow}
+use Rattle.sheet.specs.Words.{word}
+use Rattle.state_order_queue.specs.declared.Queue.{Queue}
+use Rattle.state_order_queue.specs.Queues.{holds, isValid}
+use Rattle.shortest_distance.specs.Slots.{firstWord, countAt}
+
+pub record Sound (bytes : List ℕ) (links nodes : ℕ) (work : List ℕ) (queue : Queue) : Type 0 where
+  -- the sheet has the links and the nodes, and the area a slot a node
+  pub laid-out : 16 * links + 12 * nodes ≤ length bytes
+  pub slots : 8 * nodes ≤ length work
+  pub few : nodes ≤ nodeLimit
+  -- the links of the nodes are among those of the sheet, and lead to nodes
+  pub counted : sumBelow nodes (countAt bytes links) ≤ links
+  pub inside : (l : ℕ) → l < links → word bytes (16 * l + 12) < nodes
+  -- each slot names its node's first link
+  pub firsts : (v : ℕ) → v < nodes → firstWord work v ≡ sumBelow v (countAt bytes links)
+  -- the queue is valid, with a flag for each node there can be, and holds nodes alone
+  pub full : length (queue .flags) ≡ nodeLimit
+  pub valid : isValid queue ≡ true
+  pub held : (v : ℕ) → holds queue v ≡ true → v < nodes

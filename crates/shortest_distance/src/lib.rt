@@ -1,0 +1,79 @@
+// Distances (shortest_distance.rs of rustfst): one value per node, the least sum of weights along
+// the runs from the start to it.
+ghost use mathlib.Core.Path.{_≡_};
+ghost use mathlib.Core.List.{_++_};
+ghost use Prim.Native.Nat.{_*_, _≤_};
+ghost use lib.ListN.{length, drop};
+ghost use lib.Seq.{sets};
+ghost use Rattle.sheet.specs.Words.{bytesOfAll};
+ghost use Rattle.shortest_distance.specs.Slots.{distanceWords};
+ghost use Rattle.sheet.specs.Records.{trailerAt};
+ghost use Rattle.machine.specs.Input.{inputNumber};
+ghost use Rattle.shortest_distance.specs.Handed.{handed, handedOver};
+ghost use Rattle.shortest_distance.specs.Outcome.{distanceAnswer, workAfter, resultAfter, Made};
+use sheet::read::Tested;
+use sheet::tr::Trailer;
+
+pub mod relax;
+pub mod slots;
+
+// What the call for distances answers: how many values it wrote, or the number of the refusal.
+pub enum Distances {
+    Count(u32),
+    Refused(u32),
+}
+
+// Hands the distances of the first nodes over, where the result area has room for them.
+fn hand_over(work: &[u32], count: u32, result: &mut [u8]) -> Distances
+    requires { ⌜ 8 * count ≤ length (now work) ⌝ }
+    ensures { λ r. ⌜ (r ≡ handed count (length (now (result .entry)))) × (now (result .exit) ≡ handedOver (distanceWords (now (work .entry)) count) (now (result .entry))) ⌝ }
+{
+    if result.len() < 4 * (count as usize) {
+        return Distances::Refused(21);
+    }
+    slots::put_distances(work, count, result);
+    Distances::Count(count)
+}
+
+// Makes the distances of an accepted sheet in the slots of its nodes.
+fn make(sheet: &[u8], t: Trailer, work: &mut [u32])
+    requires { ⌜ (inputNumber (now sheet) ≡ 0) × (t ≡ trailerAt (now sheet)) × (8 * t .nodes ≤ length (now work)) ⌝ }
+    ensures { λ _. ⌜ Made (now (sheet .entry)) (now (work .entry)) (now (work .exit)) ⌝ }
+{
+    let nodes = t.nodes;
+    let links = t.links;
+    let start = t.start;
+    slots::prepare(sheet, links, nodes, work);
+    if start < nodes {
+        work[8 * (start as usize)] = 0;
+        let q = state_order_queue::put(state_order_queue::new(), start);
+        relax::relax_heads(sheet, links, nodes, work, q);
+    }
+}
+
+// Distances of an accepted sheet: the tests of the areas, 20 and 21, and the answer.
+fn distances_of(sheet: &[u8], t: Trailer, work: &mut [u32], result: &mut [u8]) -> Distances
+    requires { ⌜ (inputNumber (now sheet) ≡ 0) × (t ≡ trailerAt (now sheet)) ⌝ }
+    ensures { λ r. ⌜ (r ≡ distanceAnswer (now (sheet .entry)) (length (now (work .entry))) (length (now (result .entry)))) × (now (work .exit) ≡ workAfter (now (sheet .entry)) (now (work .entry)) (length (now (result .entry)))) × (now (result .exit) ≡ resultAfter (now (sheet .entry)) (length (now (work .entry))) (now (result .entry))) ⌝ }
+{
+    let nodes = t.nodes;
+    if work.len() / 8 < (nodes as usize) {
+        return Distances::Refused(20);
+    }
+    make(sheet, t, work);
+    let answer = hand_over(work, slots::height(work, nodes), result);
+    slots::clear(work, nodes);
+    answer
+}
+
+// Distances of a sheet's nodes, one value per node up to the highest reached, into the result area.
+// A work slot is eight words; the slots of the nodes are left zero unless the sheet or the count of
+// slots is refused.
+pub fn shortest_distance(sheet: &[u8], work: &mut [u32], result: &mut [u8]) -> Distances
+    ensures { λ r. ⌜ (r ≡ distanceAnswer (now (sheet .entry)) (length (now (work .entry))) (length (now (result .entry)))) × (now (work .exit) ≡ workAfter (now (sheet .entry)) (now (work .entry)) (length (now (result .entry)))) × (now (result .exit) ≡ resultAfter (now (sheet .entry)) (length (now (work .entry))) (now (result .entry))) ⌝ }
+{
+    match machine::input::input(sheet) {
+        Tested::Refused(k) => Distances::Refused(k),
+        Tested::Accepted(t) => distances_of(sheet, t, work, result),
+    }
+}

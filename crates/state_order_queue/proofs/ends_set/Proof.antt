@@ -1,0 +1,47 @@
+use native.Mathlib.Omega.{arith}
+use borrow.Author.Tests.{lt-ltb, le-ltb}
+use borrow.Author.Needs.{needs}
+use Rattle.state_order_queue.proofs.Records.{ends-bound}
+use Rattle.state_order_queue.proofs.ends_set.Statement.{statement}
+use Rattle.state_order_queue.proofs.ends_set.Tie as tie
+
+enum-told : tie.Need-enum-told
+enum-told c = search needs
+
+enum-known-back : tie.Need-enum-known-back
+enum-known-back c = search needs
+
+returns : tie.Need-returns
+returns c = simp (c .before .before .back .given .1, lt-ltb _ _ (c .if1 .taken))
+
+element-copy-out-both : tie.Need-element-copy-out-both
+element-copy-out-both c = let h = ends-bound _ _ _ (c .before .before .back .given .1) (c .before .before .before .before .pre) in omega arith
+
+cast-both : tie.Need-cast-both
+cast-both c = search needs
+
+element-copy-out-both-2 : tie.Need-element-copy-out-both-2
+element-copy-out-both-2 c = ends-bound _ _ _ (c .before .before .before .back .given .1) (c .before .before .before .before .before .pre) .1
+
+both-requires : tie.Need-both-requires
+both-requires c κs = search needs
+
+returns-2 : tie.Need-returns-2
+returns-2 c = search needs
+
+returns-3 : tie.Need-returns-3
+returns-3 c = simp (c .both .ensures, c .before .before .before .before .before .back .given .1, le-ltb _ _ (c .before .before .before .if1 .left))
+
+pub ends-set-spec : {M : Type 1} → statement M
+ends-set-spec =
+    tie.close
+    (tie.spec
+    enum-told
+    enum-known-back
+    returns
+    element-copy-out-both
+    cast-both
+    element-copy-out-both-2
+    both-requires
+    returns-2
+    returns-3)

@@ -1,0 +1,338 @@
+// The queue of nodes in their order (state_order_queue.rs, queue.rs of rustfst), as one record.
+//
+// Each call takes the record by value, tests it and hands it back: with refusal 22 it is unchanged.
+// `put`, `take` and `holds_none` make no test: they are for a caller that keeps the record valid.
+ghost use mathlib.Core.Path.{_≡_};
+ghost use mathlib.Core.Bool.{true, _&&_};
+ghost use Prim.Native.Nat.{_-_, _≤_, _<_};
+ghost use Rattle.tropical_weight.specs.Limits.{nodeLimit};
+ghost use Rattle.state_order_queue.specs.Queues.{firstSet, emptyFrom, endsFit, endsSet, isInside, flagsInside, isValid, emptied, frontWith, backWith, enqueued, withoutFront, dequeued};
+ghost use Rattle.state_order_queue.specs.Answers.{enqueueAnswer, updateAnswer, clearAnswer, dequeueAnswer, headAnswer, isEmptyAnswer};
+
+// How many flags there are, one a node.
+const FLAGS: usize = tropical_weight::NODE_LIMIT;
+
+// The nodes are those below this.
+const NODES: u32 = FLAGS as u32;
+
+// The number of the refusal.
+const REFUSAL: u32 = 22;
+
+pub enum Back {
+    None,
+    At(u32),
+}
+
+pub struct Queue {
+    pub front: u32,
+    pub back: Back,
+    pub flags: [bool; FLAGS],
+}
+
+// The answer of a call that changes the record: 0 or the refusal's number.
+pub struct Changed {
+    pub number: u32,
+    pub queue: Queue,
+}
+
+pub enum Node {
+    None,
+    At(u32),
+    Refused(u32),
+}
+
+// The answer of a call that asks for a node.
+pub struct Found {
+    pub node: Node,
+    pub queue: Queue,
+}
+
+pub enum Emptiness {
+    Is(bool),
+    Refused(u32),
+}
+
+// The answer of a call that asks whether the queue is empty.
+pub struct Tested {
+    pub emptiness: Emptiness,
+    pub queue: Queue,
+}
+
+// ---- the tests of a record
+
+fn both(a: bool, b: bool) -> bool
+    ensures { λ r. ⌜ r ≡ a && b ⌝ }
+{
+    if a { b } else { false }
+}
+
+fn ends_fit(front: u32, back: Back) -> bool
+    ensures { λ r. ⌜ r ≡ endsFit front back ⌝ }
+{
+    match back {
+        Back::None => front == 0,
+        Back::At(b) => both(front <= NODES, b < NODES),
+    }
+}
+
+fn ends_set(front: u32, back: Back, flags: &[bool; FLAGS]) -> bool
+    requires { ⌜ endsFit front back ≡ true ⌝ }
+    ensures { λ r. ⌜ r ≡ endsSet front back (now (flags .entry)) ⌝ }
+{
+    match back {
+        Back::None => true,
+        Back::At(b) => {
+            if b < front {
+                return true;
+            }
+            both(flags[front as usize], flags[b as usize])
+        }
+    }
+}
+
+fn is_inside(front: u32, back: Back, v: u32) -> bool
+    ensures { λ r. ⌜ r ≡ isInside front back v ⌝ }
+{
+    match back {
+        Back::None => false,
+        Back::At(b) => both(front <= v, v <= b),
+    }
+}
+
+fn flags_inside(front: u32, back: Back, flags: &[bool; FLAGS]) -> bool
+    ensures { λ r. ⌜ r ≡ flagsInside front back (now (flags .entry)) ⌝ }
+{
+    let mut v = 0u32;
+    while v < NODES {
+        if flags[v as usize] {
+            if !is_inside(front, back, v) {
+                return false;
+            }
+        }
+        v += 1;
+    }
+    true
+}
+
+pub fn is_valid(q: Queue) -> bool
+    ensures { λ r. ⌜ r ≡ isValid q ⌝ }
+{
+    let front = q.front;
+    let back = q.back;
+    if !ends_fit(front, back) {
+        return false;
+    }
+    if !ends_set(front, back, &q.flags) {
+        return false;
+    }
+    flags_inside(front, back, &q.flags)
+}
+
+// ---- calls without a test
+
+pub fn new() -> Queue
+    ensures { λ r. ⌜ r ≡ emptied ⌝ }
+{
+    Queue {
+        front: 0,
+        back: Back::None,
+        flags: [false; FLAGS],
+    }
+}
+
+// Whether a queue with these ends is empty.
+pub fn holds_none(front: u32, back: Back) -> bool
+    ensures { λ r. ⌜ r ≡ emptyFrom front back ⌝ }
+{
+    match back {
+        Back::None => true,
+        Back::At(b) => b < front,
+    }
+}
+
+fn front_with(front: u32, back: Back, v: u32) -> u32
+    ensures { λ r. ⌜ r ≡ frontWith front back v ⌝ }
+{
+    match back {
+        Back::None => v,
+        Back::At(b) => {
+            if b < front {
+                return v;
+            }
+            if v < front { v } else { front }
+        }
+    }
+}
+
+fn back_with(front: u32, back: Back, v: u32) -> u32
+    ensures { λ r. ⌜ r ≡ backWith front back v ⌝ }
+{
+    match back {
+        Back::None => v,
+        Back::At(b) => {
+            if b < front {
+                return v;
+            }
+            if b < v { v } else { b }
+        }
+    }
+}
+
+// The queue with a node put in.
+pub fn put(q: Queue, state: u32) -> Queue
+    requires { ⌜ state < nodeLimit ⌝ }
+    ensures { λ r. ⌜ r ≡ enqueued q state ⌝ }
+{
+    let front = q.front;
+    let back = q.back;
+    let mut flags = q.flags;
+    flags[state as usize] = true;
+    Queue {
+        front: front_with(front, back, state),
+        back: Back::At(back_with(front, back, state)),
+        flags,
+    }
+}
+
+// The first node with a flag, or the end.
+fn first_set(flags: &[bool; FLAGS], from: u32, end: u32) -> u32
+    requires { ⌜ (from ≤ end) × (end ≤ nodeLimit) ⌝ }
+    ensures { λ r. ⌜ r ≡ firstSet (end - from) from (now (flags .entry)) ⌝ }
+{
+    let mut v = from;
+    while v < end {
+        if flags[v as usize] {
+            return v;
+        }
+        v += 1;
+    }
+    v
+}
+
+// The queue without its front, where it has one.
+pub fn take(q: Queue) -> Queue
+    requires { ⌜ isValid q ≡ true ⌝ }
+    ensures { λ r. ⌜ r ≡ dequeued q ⌝ }
+{
+    let front = q.front;
+    let back = q.back;
+    let Back::At(b) = back else {
+        return q;
+    };
+    if b < front {
+        return q;
+    }
+    let mut flags = q.flags;
+    flags[front as usize] = false;
+    Queue {
+        front: first_set(&flags, front, b + 1),
+        back,
+        flags,
+    }
+}
+
+// ---- the calls
+
+// Puts a node in.
+pub fn enqueue(q: Queue, state: u32) -> Changed
+    ensures { λ r. ⌜ r ≡ enqueueAnswer q state ⌝ }
+{
+    if !both(is_valid(q), state < NODES) {
+        return Changed {
+            number: REFUSAL,
+            queue: q,
+        };
+    }
+    Changed {
+        number: 0,
+        queue: put(q, state),
+    }
+}
+
+// Takes the least node out; none of an empty queue.
+pub fn dequeue(q: Queue) -> Found
+    ensures { λ r. ⌜ r ≡ dequeueAnswer q ⌝ }
+{
+    if !is_valid(q) {
+        return Found {
+            node: Node::Refused(REFUSAL),
+            queue: q,
+        };
+    }
+    let front = q.front;
+    let back = q.back;
+    if holds_none(front, back) {
+        return Found {
+            node: Node::None,
+            queue: q,
+        };
+    }
+    Found {
+        node: Node::At(front),
+        queue: take(q),
+    }
+}
+
+// The front, also of an empty queue.
+pub fn head(q: Queue) -> Found
+    ensures { λ r. ⌜ r ≡ headAnswer q ⌝ }
+{
+    if !is_valid(q) {
+        return Found {
+            node: Node::Refused(REFUSAL),
+            queue: q,
+        };
+    }
+    Found {
+        node: Node::At(q.front),
+        queue: q,
+    }
+}
+
+// Does nothing: the order of nodes never changes.
+pub fn update(q: Queue, state: u32) -> Changed
+    ensures { λ r. ⌜ r ≡ updateAnswer q state ⌝ }
+{
+    if !is_valid(q) {
+        return Changed {
+            number: REFUSAL,
+            queue: q,
+        };
+    }
+    Changed {
+        number: 0,
+        queue: q,
+    }
+}
+
+pub fn is_empty(q: Queue) -> Tested
+    ensures { λ r. ⌜ r ≡ isEmptyAnswer q ⌝ }
+{
+    if !is_valid(q) {
+        return Tested {
+            emptiness: Emptiness::Refused(REFUSAL),
+            queue: q,
+        };
+    }
+    let back = q.back;
+    Tested {
+        emptiness: Emptiness::Is(holds_none(q.front, back)),
+        queue: q,
+    }
+}
+
+// Takes every node out.
+pub fn clear(q: Queue) -> Changed
+    ensures { λ r. ⌜ r ≡ clearAnswer q ⌝ }
+{
+    if !is_valid(q) {
+        return Changed {
+            number: REFUSAL,
+            queue: q,
+        };
+    }
+    Changed {
+        number: 0,
+        queue: new(),
+    }
+}
