@@ -7,3 +7,4 @@ pub mod Accepted
 pub mod Starts
 pub mod Outcomes
 pub mod Making
+pub mod Bench

@@ -1,14 +1,11 @@
 // Distances (shortest_distance.rs of rustfst): one value per node, the least sum of weights along
 // the runs from the start to it.
 ghost use mathlib.Core.Path.{_≡_};
-ghost use mathlib.Core.List.{_++_};
 ghost use Prim.Native.Nat.{_*_, _≤_};
-ghost use lib.ListN.{length, drop};
-ghost use lib.Seq.{sets};
-ghost use Rattle.sheet.specs.Words.{bytesOfAll};
-ghost use Rattle.shortest_distance.specs.Slots.{distanceWords};
+ghost use lib.ListN.{length};
 ghost use Rattle.sheet.specs.Records.{trailerAt};
 ghost use Rattle.machine.specs.Input.{inputNumber};
+ghost use Rattle.shortest_distance.specs.Slots.{distanceWords};
 ghost use Rattle.shortest_distance.specs.Handed.{handed, handedOver};
 ghost use Rattle.shortest_distance.specs.Outcome.{distanceAnswer, workAfter, resultAfter, Made};
 use sheet::read::Tested;
@@ -45,7 +42,7 @@ fn make(sheet: &[u8], t: Trailer, work: &mut [u32])
     let start = t.start;
     slots::prepare(sheet, links, nodes, work);
     if start < nodes {
-        work[8 * (start as usize)] = 0;
+        work[slots::SLOT * (start as usize)] = 0;
         let q = state_order_queue::put(state_order_queue::new(), start);
         relax::relax_heads(sheet, links, nodes, work, q);
     }
@@ -57,7 +54,7 @@ fn distances_of(sheet: &[u8], t: Trailer, work: &mut [u32], result: &mut [u8]) -
     ensures { λ r. ⌜ (r ≡ distanceAnswer (now (sheet .entry)) (length (now (work .entry))) (length (now (result .entry)))) × (now (work .exit) ≡ workAfter (now (sheet .entry)) (now (work .entry)) (length (now (result .entry)))) × (now (result .exit) ≡ resultAfter (now (sheet .entry)) (length (now (work .entry))) (now (result .entry))) ⌝ }
 {
     let nodes = t.nodes;
-    if work.len() / 8 < (nodes as usize) {
+    if work.len() / slots::SLOT < (nodes as usize) {
         return Distances::Refused(20);
     }
     make(sheet, t, work);

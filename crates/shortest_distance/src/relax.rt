@@ -8,15 +8,11 @@ ghost use Rattle.sheet.specs.Records.{linkAt};
 ghost use Rattle.shortest_distance.specs.Slots.{distanceWord};
 ghost use Rattle.shortest_distance.specs.Relaxation.{reaches, relaxedWords, relaxLink, relaxLinks, relaxHeads};
 ghost use Rattle.shortest_distance.specs.Sound.{Sound};
+use crate::slots::INFINITE;
+use crate::slots::SLOT;
 use sheet::tr::Link;
 use sheet::words::word;
 use state_order_queue::Queue;
-
-// The words of a node's slot.
-const SLOT: usize = 8;
-
-// The bits of infinity, the distance of a node not reached.
-const INFINITE: u32 = 0x7f80_0000;
 
 // Distances closer than this count as equal.
 const DELTA: f32 = 1e-6;

@@ -9,8 +9,11 @@ ghost use Rattle.shortest_distance.specs.Slots.{countAt, prepared, clear
 use sheet::words::put_word;
 use sheet::words::word;
 
+// The words of a node's slot.
+pub const SLOT: usize = 8;
+
 // The bits of infinity, the distance of a node not reached.
-const INFINITE: u32 = 0x7f80_0000;
+pub const INFINITE: u32 = 0x7f80_0000;
 
 // Sets up the slots: each distance is infinite, each first link the links counted before it.
 pub fn prepare(sheet: &[u8], links: u32, nodes: u32, work: &mut [u32])
@@ -20,7 +23,7 @@ pub fn prepare(sheet: &[u8], links: u32, nodes: u32, work: &mut [u32])
     let mut first = 0u32;
     let mut v = 0u32;
     while v < nodes {
-        let at = 8 * (v as usize);
+        let at = SLOT * (v as usize);
         work[at] = INFINITE;
         work[at + 1] = first;
         first += word(sheet, 16 * (links as usize) + 12 * (v as usize));
@@ -33,7 +36,7 @@ pub fn clear(work: &mut [u32], nodes: u32)
     requires { ⌜ 8 * nodes ≤ length (now work) ⌝ }
     ensures { λ _. ⌜ now (work .exit) ≡ cleared nodes (now (work .entry)) ⌝ }
 {
-    let end = 8 * (nodes as usize);
+    let end = SLOT * (nodes as usize);
     let mut i = 0usize;
     while i < end {
         work[i] = 0;
@@ -48,7 +51,7 @@ pub fn height(work: &[u32], nodes: u32) -> u32
 {
     let mut n = nodes;
     while 0 < n {
-        if work[8 * ((n - 1) as usize)] != INFINITE {
+        if work[SLOT * ((n - 1) as usize)] != INFINITE {
             return n;
         }
         n -= 1;
@@ -63,7 +66,7 @@ pub fn put_distances(work: &[u32], count: u32, result: &mut [u8])
 {
     let mut v = 0u32;
     while v < count {
-        put_word(result, 4 * (v as usize), work[8 * (v as usize)]);
+        put_word(result, 4 * (v as usize), work[SLOT * (v as usize)]);
         v += 1;
     }
 }

@@ -12,7 +12,8 @@ use lib.Dec.{eqb}
 use lib.ListN.{length, getD, set}
 use lib.Seq.{getD-set-same, getD-set-other}
 use borrow.Author.Tests.{eq-eqb, ne-eqb}
-use Rattle.state_order_queue.specs.Queues.{allBelow, firstSet}
+use Rattle.sheet.specs.Below.{allBelow}
+use Rattle.state_order_queue.specs.Queues.{firstSet}
 
 -- ---- tests that hold together
 pub and-true : (a b : Bool) → a && b ≡ true → (a ≡ true) × (b ≡ true)
@@ -21,10 +22,6 @@ and-true false b h = (h, cc)
 
 pub both-true : (a b : Bool) → a ≡ true → b ≡ true → a && b ≡ true
 both-true a b h k = simp (h, k)
-
-and-false : (a b : Bool) → b ≡ false → a && b ≡ false
-and-false true b h = h
-and-false false b h = refl
 
 pub implies-true : (a b : Bool) → (a ≡ true → b ≡ true) → not a || b ≡ true
 implies-true true b h = h refl
@@ -35,25 +32,10 @@ true-implies true b h k = h
 true-implies false b h k = cc
 
 -- ---- a test at each number below a bound
-module _ (p : ℕ → Bool) where
-  pub all-at : (n : ℕ) → allBelow n p ≡ true → (v : ℕ) → v < n → p v ≡ true
-  unfolding allBelow
-  all-at zero h v l = absurd (omega arith)
-  all-at (suc n) h v l = elim (eq-or-lt-of-le {n = v} {m = n} (omega arith)) [ inl e ↦ rw e (and-true (allBelow n p) (p n) h .1) | inr k ↦ all-at n (and-true (allBelow n p) (p n) h .0) v k ]
-
-  pub all-of : (n : ℕ) → ((v : ℕ) → v < n → p v ≡ true) → allBelow n p ≡ true
-  unfolding allBelow
-  all-of zero h = refl
-  all-of (suc n) h = both-true (allBelow n p) (p n) (all-of n (λ v l. h v (omega arith))) (h n (omega arith))
-
-  pub all-turn : (n : ℕ) → allBelow n p ≡ true → p n ≡ true → allBelow (n + 1) p ≡ true
-  unfolding allBelow
-  all-turn n h k = rw add-one (both-true (allBelow n p) (p n) h k)
-
-  pub all-fails : (n v : ℕ) → v < n → p v ≡ false → allBelow n p ≡ false
-  unfolding allBelow
-  all-fails zero v l h = absurd (omega arith)
-  all-fails (suc n) v l h = elim (eq-or-lt-of-le {n = v} {m = n} (omega arith)) [ inl e ↦ and-false (allBelow n p) (p n) (rw e at h) | inr k ↦ simp (all-fails n v k h) ]
+pub all-of : (n : ℕ) (p : ℕ → Bool) → ((v : ℕ) → v < n → p v ≡ true) → allBelow n p ≡ true
+unfolding allBelow
+all-of zero p h = refl
+all-of (suc n) p h = both-true (allBelow n p) (p n) (all-of n p (λ v l. h v (omega arith))) (h n (omega arith))
 
 -- ---- the first flag
 module _ (flags : List Bool) where

@@ -1,4 +1,4 @@
--- What the tests of a record say of its ends. Assumes nothing.
+-- What the tests of a record say of its ends, and what taking makes of it by the way the code goes. Assumes nothing.
 use mathlib.Core.Path.{_≡_}
 use mathlib.Core.Bool.{true, false}
 use Prim.Native.Nat.{ℕ, _+_, _-_, _≤_, _<_}

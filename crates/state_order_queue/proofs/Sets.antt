@@ -7,8 +7,9 @@ use Prim.Native.Nat.{ℕ, _+_, _-_, _≤_, _<_}
 use native.Mathlib.Decide.{ℕ-discrete}
 use native.Mathlib.Omega.{arith}
 use lib.Dec.{ltb, eqb}
+use lib.Seq.{set-getD}
 use lib.ListN.{length, getD, set, length-set, length-replicate, getD-replicate, List·getD-eq-default}
-use borrow.Author.Tests.{ltb-true, ltb-false, eqb-true, eq-eqb, ne-eqb}
+use borrow.Author.Tests.{le-ltb, ltb-true, ltb-false, eqb-true, eq-eqb, ne-eqb}
 use Rattle.tropical_weight.specs.Limits.{nodeLimit}
 use Rattle.state_order_queue.specs.declared.Back.{Back}
 use Rattle.state_order_queue.specs.declared.Back.the-variants.{None, At}
@@ -106,6 +107,27 @@ module _ (q : Queue) (s : ℕ) where
 
     pub enqueued-valid : isValid q ≡ true → isValid (enqueued q s) ≡ true
     enqueued-valid h = valid-exactly (enqueued q s) .1 (enqueued-accepted (valid-exactly q .0 h))
+
+  -- a node that is in is put in again: the record is as it was
+  pub enqueued-again : isValid q ≡ true → s < nodeLimit → holds q s ≡ true → enqueued q s ≡ q
+  enqueued-again h small in-set = go (q .back) refl
+    where
+      a : Accepted q
+      a = valid-exactly q .0 h
+
+      same : set (q .flags) s true ≡ q .flags
+      same = ap (λ (t : Bool). set (q .flags) s t) (sym in-set) ∙ set-getD (q .flags) s false
+
+      go : (back : Back) → q .back ≡ back → enqueued q s ≡ q
+      go None e = clash (a .none-set s e small) in-set
+      go (At b) e =
+          let i = a .inside b s e small in-set in
+          let above : ltb b (q .front) ≡ false = le-ltb b (q .front) (omega (arith, i .0, i .1)) in
+          let low : ltb s (q .front) ≡ false = le-ltb s (q .front) (i .0) in
+          let high : ltb b s ≡ false = le-ltb b s (i .1) in
+          (λ j. record { front = frontWith (q .front) (e j) s; back = At (backWith (q .front) (e j) s); flags = same j })
+          ∙ (λ j. record { front = cond (above j || low j) s (q .front); back = At (cond (above j || high j) s b); flags = q .flags })
+          ∙ λ j. record { front = q .front; back = sym e j; flags = q .flags }
 
 -- ---- a node taken out
 nonempty-at : (front : ℕ) (back : Back) → emptyFrom front back ≡ false → (b : ℕ) × (back ≡ At b) × (front ≤ b)

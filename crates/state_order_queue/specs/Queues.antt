@@ -5,14 +5,10 @@ use Prim.Native.Nat.{ℕ, zero, suc, _+_, _-_}
 use lib.Dec.{ltb, leb, eqb}
 use lib.ListN.{getD, set, replicate}
 use Rattle.tropical_weight.specs.Limits.{nodeLimit}
+use Rattle.sheet.specs.Below.{allBelow}
 use Rattle.state_order_queue.specs.declared.Back.{Back}
 use Rattle.state_order_queue.specs.declared.Back.the-variants.{None, At}
 use Rattle.state_order_queue.specs.declared.Queue.{Queue}
-
--- whether the test passes at each number below n
-unfoldable pub allBelow : ℕ → (ℕ → Bool) → Bool
-allBelow zero p = true
-allBelow (suc n) p = allBelow n p && p n
 
 -- the first of k nodes from v on that has a flag, or v + k
 unfoldable pub firstSet : ℕ → ℕ → List Bool → ℕ

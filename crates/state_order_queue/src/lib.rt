@@ -6,23 +6,25 @@ ghost use mathlib.Core.Path.{_≡_};
 ghost use mathlib.Core.Bool.{true, _&&_};
 ghost use Prim.Native.Nat.{_-_, _≤_, _<_};
 ghost use Rattle.tropical_weight.specs.Limits.{nodeLimit};
-ghost use Rattle.state_order_queue.specs.Queues.{firstSet, emptyFrom, endsFit, endsSet, isInside, flagsInside, isValid, emptied, frontWith, backWith, enqueued, withoutFront, dequeued};
+ghost use Rattle.state_order_queue.specs.Queues.{firstSet, emptyFrom, endsFit, endsSet, isInside, flagsInside, isValid, emptied, frontWith, backWith, enqueued, dequeued};
 ghost use Rattle.state_order_queue.specs.Answers.{enqueueAnswer, updateAnswer, clearAnswer, dequeueAnswer, headAnswer, isEmptyAnswer};
 
-// How many flags there are, one a node.
+// One flag a node: the limits of the record follow the limit on nodes.
 const FLAGS: usize = tropical_weight::NODE_LIMIT;
 
-// The nodes are those below this.
+// A node that is put in is below this, front at most this.
 const NODES: u32 = FLAGS as u32;
 
 // The number of the refusal.
 const REFUSAL: u32 = 22;
 
+// The last node that may be in: none where no node was put in since the queue was new or cleared.
 pub enum Back {
     None,
     At(u32),
 }
 
+// A node is in where its flag is set.
 pub struct Queue {
     pub front: u32,
     pub back: Back,
@@ -35,6 +37,7 @@ pub struct Changed {
     pub queue: Queue,
 }
 
+// A node, none, or the refusal's number.
 pub enum Node {
     None,
     At(u32),
@@ -47,6 +50,7 @@ pub struct Found {
     pub queue: Queue,
 }
 
+// Whether it is empty, or the refusal's number.
 pub enum Emptiness {
     Is(bool),
     Refused(u32),
@@ -66,6 +70,7 @@ fn both(a: bool, b: bool) -> bool
     if a { b } else { false }
 }
 
+// Front is at most 4,096 and back below it; front is 0 where back is none.
 fn ends_fit(front: u32, back: Back) -> bool
     ensures { λ r. ⌜ r ≡ endsFit front back ⌝ }
 {
@@ -75,6 +80,7 @@ fn ends_fit(front: u32, back: Back) -> bool
     }
 }
 
+// A queue not empty has a flag at front and at back.
 fn ends_set(front: u32, back: Back, flags: &[bool; FLAGS]) -> bool
     requires { ⌜ endsFit front back ≡ true ⌝ }
     ensures { λ r. ⌜ r ≡ endsSet front back (now (flags .entry)) ⌝ }
@@ -85,11 +91,14 @@ fn ends_set(front: u32, back: Back, flags: &[bool; FLAGS]) -> bool
             if b < front {
                 return true;
             }
-            both(flags[front as usize], flags[b as usize])
+            let first = flags[front as usize];
+            let last = flags[b as usize];
+            both(first, last)
         }
     }
 }
 
+// Whether a node is one of front to back.
 fn is_inside(front: u32, back: Back, v: u32) -> bool
     ensures { λ r. ⌜ r ≡ isInside front back v ⌝ }
 {
@@ -99,6 +108,7 @@ fn is_inside(front: u32, back: Back, v: u32) -> bool
     }
 }
 
+// No flag is set outside front to back.
 fn flags_inside(front: u32, back: Back, flags: &[bool; FLAGS]) -> bool
     ensures { λ r. ⌜ r ≡ flagsInside front back (now (flags .entry)) ⌝ }
 {
@@ -114,6 +124,7 @@ fn flags_inside(front: u32, back: Back, flags: &[bool; FLAGS]) -> bool
     true
 }
 
+// Whether a record breaks no condition of refusal 22.
 pub fn is_valid(q: Queue) -> bool
     ensures { λ r. ⌜ r ≡ isValid q ⌝ }
 {
@@ -130,6 +141,7 @@ pub fn is_valid(q: Queue) -> bool
 
 // ---- calls without a test
 
+// A queue without nodes.
 pub fn new() -> Queue
     ensures { λ r. ⌜ r ≡ emptied ⌝ }
 {
@@ -150,6 +162,7 @@ pub fn holds_none(front: u32, back: Back) -> bool
     }
 }
 
+// A node below front, or the first of an empty queue, is the new front.
 fn front_with(front: u32, back: Back, v: u32) -> u32
     ensures { λ r. ⌜ r ≡ frontWith front back v ⌝ }
 {
@@ -164,6 +177,7 @@ fn front_with(front: u32, back: Back, v: u32) -> u32
     }
 }
 
+// A node above back, or the first of an empty queue, is the new back.
 fn back_with(front: u32, back: Back, v: u32) -> u32
     ensures { λ r. ⌜ r ≡ backWith front back v ⌝ }
 {
@@ -289,7 +303,7 @@ pub fn head(q: Queue) -> Found
     }
 }
 
-// Does nothing: the order of nodes never changes.
+// Changes nothing, since a node's place in the order never changes; any node will do.
 pub fn update(q: Queue, state: u32) -> Changed
     ensures { λ r. ⌜ r ≡ updateAnswer q state ⌝ }
 {
@@ -305,6 +319,7 @@ pub fn update(q: Queue, state: u32) -> Changed
     }
 }
 
+// Whether there is no node.
 pub fn is_empty(q: Queue) -> Tested
     ensures { λ r. ⌜ r ≡ isEmptyAnswer q ⌝ }
 {

@@ -14,14 +14,14 @@ enum-known-back c = search needs
 returns : tie.Need-returns
 returns c = simp (c .before .before .back .given .1, lt-ltb _ _ (c .if1 .taken))
 
-element-copy-out-both : tie.Need-element-copy-out-both
-element-copy-out-both c = let h = ends-bound _ _ _ (c .before .before .back .given .1) (c .before .before .before .before .pre) in omega arith
+element-copy-out-first : tie.Need-element-copy-out-first
+element-copy-out-first c = let h = ends-bound _ _ _ (c .before .before .back .given .1) (c .before .before .before .before .pre) in omega arith
 
-cast-both : tie.Need-cast-both
-cast-both c = search needs
+cast-last : tie.Need-cast-last
+cast-last c = search needs
 
-element-copy-out-both-2 : tie.Need-element-copy-out-both-2
-element-copy-out-both-2 c = ends-bound _ _ _ (c .before .before .before .back .given .1) (c .before .before .before .before .before .pre) .1
+element-copy-out-last : tie.Need-element-copy-out-last
+element-copy-out-last c = ends-bound _ _ _ (c .before .before .before .back .given .1) (c .before .before .before .before .before .pre) .1
 
 both-requires : tie.Need-both-requires
 both-requires c κs = search needs
@@ -39,9 +39,9 @@ ends-set-spec =
     enum-told
     enum-known-back
     returns
-    element-copy-out-both
-    cast-both
-    element-copy-out-both-2
+    element-copy-out-first
+    cast-last
+    element-copy-out-last
     both-requires
     returns-2
     returns-3)

@@ -7,8 +7,9 @@ use lib.ListN.{getD}
 use borrow.Author.Tests.{not-true, not-false}
 use borrow.Author.Needs.{needs}
 use Rattle.tropical_weight.specs.Limits.{nodeLimit}
-use Rattle.state_order_queue.specs.Queues.{allBelow, isInside, flagsInside}
-use Rattle.state_order_queue.proofs.Flags.{all-fails, all-turn}
+use Rattle.state_order_queue.specs.Queues.{isInside, flagsInside}
+use Rattle.sheet.specs.Below.{allBelow}
+use Rattle.sheet.proofs.Below.{allBelow-fails, allBelow-more}
 use Rattle.state_order_queue.proofs.flags_inside.Statement.{statement}
 use Rattle.state_order_queue.proofs.flags_inside.Tie as tie
 
@@ -33,7 +34,7 @@ is-inside-requires c κs = search needs
 
 returns : tie.Need-returns Inv-loop μ-loop
 unfolding flagsInside
-returns c = sym (all-fails _ nodeLimit (c .before .before .before .before .before .loop .v) (search needs) (simp (c .before .before .if1 .taken, sym (c .before .is-inside .ensures), not-true (c .before .is-inside .result) (c .if2 .taken))))
+returns c = sym (allBelow-fails nodeLimit _ (c .before .before .before .before .before .loop .v) (search needs) (simp (c .before .before .if1 .taken, sym (c .before .is-inside .ensures), not-true (c .before .is-inside .result) (c .if2 .taken))))
 
 add-v : tie.Need-add-v Inv-loop μ-loop
 add-v c = search needs
@@ -43,7 +44,7 @@ loop-less c = search needs
 
 loop-again : tie.Need-loop-again Inv-loop μ-loop
 loop-again c = let turn = c .before .before .before .loop in
-    let flags = c .before .before .before .before .args .flags .now in (search needs, all-turn _ (turn .v) (turn .inv .1) (⊎-elim (λ w. simp (sym (w .1 .ensures), not-false (w .1 .result) (w .2 .left), w .0 .taken)) (λ w. simp (w .left)) (c .if1 .came)))
+    let flags = c .before .before .before .before .args .flags .now in (search needs, allBelow-more (turn .v) _ (turn .inv .1) (⊎-elim (λ w. simp (sym (w .1 .ensures), not-false (w .1 .result) (w .2 .left), w .0 .taken)) (λ w. simp (w .left)) (c .if1 .came)))
 
 returns-2 : tie.Need-returns-2 Inv-loop μ-loop
 unfolding flagsInside
