@@ -17,7 +17,7 @@ use Rattle.machine.specs.Parents.{best}
 use Rattle.machine.specs.Demand.{sort}
 
 -- a link with equal labels, and its weight a number of units
-abbrev arc : ℕ → ℕ → ℕ → ℕ → Link
+abbrev pub arc : ℕ → ℕ → ℕ → ℕ → Link
 arc s label units n = record { source = s; ilabel = label; olabel = label; weight = fin (pos units); next = n }
 
 -- ---- Sheet A
@@ -53,7 +53,7 @@ labels-A : map (λ (l : ℕ). link machineA l .ilabel) (0 ∷ 2 ∷ []) ≡ 1 �
 labels-A = refl
 
 -- ---- two equal links, then three: six readings, and the parents are the lowest of each
-machineB : Machine
+unfoldable pub machineB : Machine
 machineB = record { links = arc 0 1 0 1 ∷ arc 0 1 0 1 ∷ arc 1 1 0 2 ∷ arc 1 1 0 2 ∷ arc 1 1 0 2 ∷ []; finals = none ∷ none ∷ some (fin (pos 0)) ∷ []; start = some 0 }
 
 ties-B : (length (readings machineB) ≡ 6) × (best machineB ≡ some (record { run = 0 ∷ 2 ∷ []; end = 2 }))
@@ -61,7 +61,7 @@ unfolding machineB readingsBelow best
 ties-B = (refl, refl)
 
 -- ---- from node 1 of four: nodes 0 and 3 are not reached, though 0 links to 1; both finals cost the same, and the lower wins
-machineC : Machine
+unfoldable pub machineC : Machine
 machineC = record { links = arc 0 1 7 1 ∷ arc 1 2 4 2 ∷ []; finals = some (fin (pos 0)) ∷ some (fin (pos 4)) ∷ some (fin (pos 0)) ∷ some (fin (pos 0)) ∷ []; start = some 1 }
 
 below-C : (map (reached machineC) (0 ∷ 1 ∷ 2 ∷ 3 ∷ []) ≡ false ∷ true ∷ true ∷ false ∷ []) × (distances machineC ≡ inf ∷ fin (pos 0) ∷ fin (pos 4) ∷ []) × (best machineC ≡ some (record { run = []; end = 1 }))

@@ -120,7 +120,7 @@ perm-nodup (flip x y l) n = (λ m. elim (List·Memᴰ·cases-cons m) [ inl e ↦
 perm-nodup (thru p q) n = perm-nodup q (perm-nodup p n)
 
 -- a member put first
-pull : {A : Type 0} {a : A} {l : List A} → a ∈ l → (k : List A) × Perm l (a ∷ k)
+pub pull : {A : Type 0} {a : A} {l : List A} → a ∈ l → (k : List A) × Perm l (a ∷ k)
 pull {a} (List·Memᴰ·head {x} {xs} e) = (xs, subst (λ y. Perm (x ∷ xs) (y ∷ xs)) (sym e) (perm-refl (x ∷ xs)))
 pull {a} (List·Memᴰ·tail {x} {xs} m) = let r = pull m in (x ∷ r .0, thru (skip x (r .1)) (flip x a (r .0)))
 
