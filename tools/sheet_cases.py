@@ -86,8 +86,11 @@ for b, what in ((TWO, 'two nodes'),):
 random.seed(1)
 for i, j in random.sample(list(itertools.combinations(range(len(A) // 4), 2)), 60):
     case(f'A, {name(A, i)} and {name(A, j)} broken', with_word(with_word(A, i, bad(A, i)), j, bad(A, j)))
+for i, j in itertools.product(range(5), range(5)):
+    case(f'A, weight of link {i} and next node of link {j} broken', with_word(with_word(A, 4 * i + 2, 0x7fc00000), 4 * j + 3, 77))
+    if j < 4: case(f'A, weight of link {i} and mark of node {j} broken', with_word(with_word(A, 4 * i + 2, 0x7fc00000), 21 + 3 * j, 2))
 for w in GRID:
-    case(f'P7: two nodes, link weight {w:08x}', with_word(TWO, 2, w))
+    case(f"{'P7: ' if w in GRID[:2] else ''}two nodes, link weight {w:08x}", with_word(TWO, 2, w))
     case(f'two nodes, final weight {w:08x}', with_word(TWO, 9, w))
     case(f'two nodes, weight {w:08x} where the mark is 0', with_word(TWO, 6, w))
 t = len(TWO) // 4 - 2

@@ -1,5 +1,5 @@
 -- The Rust's array heap: a list of numbers under a strict order, given as a test. Definitions only.
-use mathlib.Core.Bool.{Bool, not, cond, _&&_}
+use mathlib.Core.Bool.{Bool, cond, _&&_}
 use mathlib.Core.List.{List, [], _∷_, _++_}
 use Prim.Native.Nat.{ℕ, zero, suc, _+_, _-_, _*_, _/_}
 use lib.Dec.{eqb, leb, ltb}

@@ -1,7 +1,7 @@
 -- The reversed machine of document 01, and the distances that ranks are made of. Definitions only.
 use mathlib.Core.Bool.{Bool, false, cond}
 use mathlib.Core.Option.{Option, none, some}
-use mathlib.Core.List.{List, [], _∷_, _++_}
+use mathlib.Core.List.{List, [], _∷_}
 use Prim.Native.Nat.{ℕ, zero, suc}
 use lib.Dec.{eqb}
 use Rattle.tropical_weight.specs.Tropical.{Tropical}

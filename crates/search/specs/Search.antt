@@ -8,7 +8,7 @@ use lib.ListN.{length, getD, set, replicate}
 use Rattle.tropical_weight.specs.Tropical.{Tropical, one, eqT, ltT, _⊗_}
 use Rattle.sheet.specs.Machine.{Machine}
 use Rattle.search.specs.Heap.{pushed, popped}
-use Rattle.search.specs.Reversed.{Back, Reversed, reversed}
+use Rattle.search.specs.Reversed.{Reversed, reversed}
 
 -- An entry is half-built, with a node and a cost, or finished, with a cost.
 pub data Entry : Type 0 where

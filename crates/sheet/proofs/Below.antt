@@ -31,6 +31,11 @@ allBelow-at (suc n) p e i h = go (eq-or-lt-of-le (let k : i ≤ n = omega arith 
     go (inr k) r = r k
 
 -- a test that passes below i and at i, and one that fails at i
+pub allBelow-of : (n : ℕ) (p : ℕ → Bool) → ((i : ℕ) → i < n → p i ≡ true) → allBelow n p ≡ true
+unfolding allBelow
+allBelow-of zero p h = refl
+allBelow-of (suc n) p h = λ j. allBelow-of n p (λ i k. h i (omega arith)) j && h n (omega arith) j
+
 pub allBelow-more : (i : ℕ) (p : ℕ → Bool) → allBelow i p ≡ true → p i ≡ true → allBelow (i + 1) p ≡ true
 unfolding allBelow
 allBelow-more i p e h = ap (λ (k : ℕ). allBelow k p) (add-one i) ∙ λ j. e j && h j

@@ -26,9 +26,13 @@ nodeAt bytes links v = record {
   weight = ofBits binary32 (word bytes (16 * links + 12 * v + 8));
 }
 
+-- its link count
+abbrev pub countAt : List ℕ → ℕ → ℕ → ℕ
+countAt bytes links v = word bytes (16 * links + 12 * v)
+
 -- the number of its first link
 abbrev pub firstLink : List ℕ → ℕ → ℕ → ℕ
-firstLink bytes links v = sumBelow v (λ u. word bytes (16 * links + 12 * u))
+firstLink bytes links v = sumBelow v (countAt bytes links)
 
 -- the trailer of a sheet
 abbrev pub trailerAt : List ℕ → Trailer

@@ -1,5 +1,5 @@
-// A link reader: it borrows a sheet, and goes through the sheet's links one by one. The functions over it are thin: each takes it
-// apart and calls one on the bytes and the number.
+// A link reader: it borrows a sheet, and goes through the sheet's links one by one. The functions
+// over it are thin: each takes it apart and calls one on the bytes and the number.
 ghost use mathlib.Core.Path.{_≡_};
 ghost use Rattle.sheet.specs.Reading.{hasLink, nextLink, placeAfter, readOn};
 use crate::tr::Link;
@@ -19,7 +19,8 @@ pub enum Step {
     End,
 }
 
-// Whether there is a link l: the trailer states it, and the links that it states lie before the trailer.
+// Whether there is a link l: the trailer states it, and the links that it states lie before the
+// trailer.
 fn has_link(sheet: &[u8], l: usize) -> bool
     ensures { λ r. ⌜ r ≡ hasLink (now (sheet .entry)) l ⌝ }
 {
@@ -34,7 +35,8 @@ fn has_link(sheet: &[u8], l: usize) -> bool
     16 * links + TRAILER <= sheet.len()
 }
 
-// Link number l of a sheet, or none past the last; on a byte string that is too short for the links that it states there is none.
+// Link number l of a sheet, or none past the last; on a byte string that is too short for the links
+// that it states there is none.
 pub fn link_or_end(sheet: &[u8], l: usize) -> Step
     ensures { λ r. ⌜ r ≡ nextLink (now (sheet .entry)) l ⌝ }
 {
@@ -76,7 +78,7 @@ pub fn after<'a>(r: Reader<'a>) -> Reader<'a>
     }
 }
 
-// The first link of a sheet, or none. Whoever calls this needs no reader, and no walk by hand.
+// The first link of a sheet, or none. Whoever calls this needs no reader.
 pub fn first(sheet: &[u8]) -> Step
     ensures { λ r. ⌜ r ≡ nextLink (now (sheet .entry)) 0 ⌝ }
 {

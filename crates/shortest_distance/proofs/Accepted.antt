@@ -17,7 +17,7 @@ use Rattle.sheet.proofs.Below.{sum-mono}
 use Rattle.machine.specs.Input.{inputNumber}
 use Rattle.machine.proofs.Accepted.{Passes, passes, input-read, climbs-machine, small-machine, few-nodes, link-at, link-grid, weight-value}
 use Rattle.machine.proofs.Testing.{counts-total, counts-words}
-use Rattle.shortest_distance.specs.Slots.{countAt}
+use Rattle.sheet.specs.Records.{countAt}
 use Rattle.shortest_distance.proofs.Rows.{Reads}
 
 module _ (bytes : List ℕ) (accepted : inputNumber bytes ≡ 0) where

@@ -14,7 +14,8 @@ use Rattle.sheet.specs.Below.{sumBelow, listBelow}
 use Rattle.sheet.specs.Words.{bytesOf, bytesOfAll}
 use Rattle.sheet.proofs.Below.{length-listBelow}
 use Rattle.sheet.proofs.Bytes.{sets-append, bytesOfAll-append, length-bytesOfAll, bytesOfAll-one}
-use Rattle.shortest_distance.specs.Slots.{infinite, distanceWord, firstWord, countAt, prepared, cleared, heightIn, distanceWords}
+use Rattle.sheet.specs.Records.{countAt}
+use Rattle.shortest_distance.specs.Slots.{infinite, distanceWord, firstWord, prepared, cleared, heightIn, distanceWords}
 
 -- ---- slots set up
 pub length-prepared : (bytes : List ℕ) (links n : ℕ) (work : List ℕ) → length (prepared bytes links n work) ≡ length work
@@ -81,9 +82,6 @@ beyond bytes links (suc v) work k h =
 
 pub prepared-beyond : (bytes : List ℕ) (links n : ℕ) (work : List ℕ) → drop (8 * n) (prepared bytes links n work) ≡ drop (8 * n) work
 prepared-beyond bytes links n work = beyond bytes links n work (8 * n) (omega arith)
-
-pub set-beyond : (n : ℕ) (work : List ℕ) (i x : ℕ) → i < 8 * n → drop (8 * n) (set work i x) ≡ drop (8 * n) work
-set-beyond n work i x h = drop-set-lt (8 * n) work i x h
 
 -- areas that agree beyond the slots are alike once the slots are left zero
 pub cleared-same : (n : ℕ) (a b : List ℕ) → drop (8 * n) a ≡ drop (8 * n) b → cleared n a ≡ cleared n b

@@ -1,7 +1,7 @@
 -- Relaxing links and heads keeps what `Sound` says, and what a turn of the loop makes. Assumes nothing.
 use mathlib.Core.Path.{_≡_, refl, sym, ap, _∙_, subst}
 use mathlib.Core.Logic.{_⊎_, inl, inr}
-use mathlib.Core.Bool.{Bool, true, false, not, _||_, cond}
+use mathlib.Core.Bool.{Bool, true, false, not, cond}
 use mathlib.Core.List.{List}
 use Prim.Native.Nat.{ℕ, zero, suc, _+_, _-_, _*_, _≤_, _<_}
 use native.Mathlib.Omega.{arith}
@@ -13,19 +13,15 @@ use borrow.Author.Tests.{eqb-true}
 use Rattle.tropical_weight.specs.Limits.{nodeLimit}
 use Rattle.sheet.specs.declared.tr.Link.{Link}
 use Rattle.sheet.specs.Below.{sumBelow}
-use Rattle.sheet.specs.Records.{linkAt}
+use Rattle.sheet.specs.Records.{linkAt, countAt}
 use Rattle.sheet.proofs.Below.{sum-mono}
 use Rattle.state_order_queue.specs.declared.Queue.{Queue}
 use Rattle.state_order_queue.specs.Queues.{holds, isEmpty, enqueued, dequeued}
 use Rattle.state_order_queue.proofs.Flags.{and-true}
-use Rattle.state_order_queue.proofs.Sets.{enqueued-full, enqueued-holds, enqueued-valid, dequeued-full, dequeued-valid, dequeued-holds, front-held}
-use Rattle.shortest_distance.specs.Slots.{distanceWord, firstWord, countAt}
+use Rattle.state_order_queue.proofs.Sets.{or-either, enqueued-full, enqueued-holds, enqueued-valid, dequeued-full, dequeued-valid, dequeued-holds, front-held}
+use Rattle.shortest_distance.specs.Slots.{distanceWord, firstWord}
 use Rattle.shortest_distance.specs.Relaxation.{State, reaches, relaxLink, relaxLinks, relaxHead, relaxHeads}
 use Rattle.shortest_distance.specs.Sound.{Sound}
-
-either : (a b : Bool) → a || b ≡ true → (a ≡ true) ⊎ (b ≡ true)
-either true b h = inl refl
-either false b h = inr h
 
 -- distances are stored at words 0 of slots, first links at words 1
 first-kept : (work : List ℕ) (u v x : ℕ) → firstWord (set work (8 * u) x) v ≡ firstWord work v
@@ -48,7 +44,7 @@ module _ (bytes : List ℕ) (links nodes : ℕ) where
         firsts = h .firsts;
         full = enqueued-full q v ∙ h .full;
         valid = enqueued-valid q v (h .full) small (h .valid);
-        held = λ u e. new u (either (eqb u v) (holds q u) (sym (enqueued-holds q v (h .full) small u) ∙ e));
+        held = λ u e. new u (or-either (eqb u v) (holds q u) (sym (enqueued-holds q v (h .full) small u) ∙ e));
       }
     where
       new : (u : ℕ) → (eqb u v ≡ true) ⊎ (holds q u ≡ true) → u < nodes

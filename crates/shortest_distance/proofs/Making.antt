@@ -15,7 +15,7 @@ use Rattle.tropical_weight.specs.Tropical.{inf}
 use Rattle.sheet.specs.Below.{sumBelow}
 use Rattle.sheet.specs.Words.{word}
 use Rattle.sheet.specs.declared.tr.Trailer.{Trailer}
-use Rattle.sheet.specs.Records.{trailerAt}
+use Rattle.sheet.specs.Records.{trailerAt, countAt}
 use Rattle.sheet.specs.Sheet.{partsOf, noStart, nodeCount, trailerField, statedLinks, statedNodes}
 use Rattle.sheet.specs.Machine.{machineOf}
 use Rattle.sheet.proofs.Fields.{read-fields}
@@ -27,10 +27,10 @@ use Rattle.machine.proofs.Testing.{in-sheet, counts-total}
 use Rattle.machine.proofs.Reached.{reached-none, unreached-inf}
 use Rattle.state_order_queue.specs.declared.Queue.{Queue}
 use Rattle.state_order_queue.specs.Queues.{emptied, enqueued}
-use Rattle.shortest_distance.specs.Slots.{bitsOf, countAt, prepared}
+use Rattle.shortest_distance.specs.Slots.{bitsOf, prepared}
 use Rattle.shortest_distance.specs.Relaxation.{State, relaxHeads}
-use Rattle.shortest_distance.specs.Sound.{Sound}
-use Rattle.shortest_distance.specs.Outcome.{machine, Made}
+use Rattle.shortest_distance.specs.Sound.{Sound, Made}
+use Rattle.shortest_distance.specs.Outcome.{machine}
 use Rattle.shortest_distance.proofs.Areas.{length-prepared, prepared-distance, prepared-beyond}
 use Rattle.shortest_distance.proofs.Offers.{isFinite, bits-inf}
 use Rattle.shortest_distance.proofs.Rows.{Holds, Final, heads}

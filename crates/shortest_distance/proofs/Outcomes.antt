@@ -26,7 +26,8 @@ use Rattle.shortest_distance.specs.declared.Distances.{Distances}
 use Rattle.shortest_distance.specs.declared.Distances.the-variants.{Count, Refused}
 use Rattle.shortest_distance.specs.Slots.{infinite, bitsOf, distanceWord, distanceWords, heightIn, cleared}
 use Rattle.shortest_distance.specs.Handed.{handed, handedBy, handedOver}
-use Rattle.shortest_distance.specs.Outcome.{machine, answerOf, slotsNeeded, distanceNumber, distancesBy, distanceAnswer, workAfter, resultAfter, Made}
+use Rattle.shortest_distance.specs.Outcome.{machine, answerOf, slotsNeeded, distanceNumber, distancesBy, distanceAnswer, workAfter, resultAfter}
+use Rattle.shortest_distance.specs.Sound.{Made}
 use Rattle.shortest_distance.proofs.Areas.{cleared-same}
 use Rattle.shortest_distance.proofs.Rows.{Final}
 use Rattle.shortest_distance.proofs.Accepted.{reads}

@@ -1,5 +1,5 @@
 pub mod Slots
 pub mod Relaxation
-pub mod Sound
 pub mod Handed
 pub mod Outcome
+pub mod Sound

@@ -1,6 +1,5 @@
 -- The outcome of the open call for distances: one function of the sheet's bytes and the areas' lengths gives the refusal or the answer. Definitions only.
-use Prim.Native.Nat.{ℕ, _*_, _/_, _<_}
-use mathlib.Core.Path.{_≡_}
+use Prim.Native.Nat.{ℕ, _/_}
 use mathlib.Core.Bool.{Bool, true, false, not, _||_, cond}
 use mathlib.Core.List.{List, _++_, map}
 use lib.Dec.{ltb, eqb}
@@ -8,11 +7,11 @@ use lib.ListN.{length, drop}
 use Rattle.sheet.specs.Words.{bytesOfAll}
 use Rattle.sheet.specs.Sheet.{nodeCount, partsOf}
 use Rattle.sheet.specs.Machine.{Machine, machineOf}
-use Rattle.machine.specs.Distance.{dist, distances}
+use Rattle.machine.specs.Distance.{distances}
 use Rattle.machine.specs.Input.{inputNumber}
 use Rattle.shortest_distance.specs.declared.Distances.{Distances}
 use Rattle.shortest_distance.specs.declared.Distances.the-variants as Distances
-use Rattle.shortest_distance.specs.Slots.{bitsOf, cleared, distanceWord}
+use Rattle.shortest_distance.specs.Slots.{bitsOf, cleared}
 
 -- the machine of a sheet
 abbrev pub machine : List ℕ → Machine
@@ -54,9 +53,3 @@ abbrev pub resultAfter : List ℕ → ℕ → List ℕ → List ℕ
 resultAfter bytes words result =
     let answer = answerOf bytes ++ drop (length (answerOf bytes)) result in
     cond (eqb (distanceNumber bytes words (length result)) 0) answer result
-
--- the slots hold the distances of a sheet's nodes, and beyond them the area is as it was
-pub record Made (bytes old work : List ℕ) : Type 0 where
-  pub each : (v : ℕ) → v < slotsNeeded bytes → distanceWord work v ≡ bitsOf (dist (machine bytes) v)
-  pub size : length work ≡ length old
-  pub beyond : drop (8 * slotsNeeded bytes) work ≡ drop (8 * slotsNeeded bytes) old

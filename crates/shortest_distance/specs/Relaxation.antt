@@ -7,10 +7,10 @@ use lib.ListN.{set}
 use lib.Ieee.{Float, binary32, add, ofBits, toBits}
 use Rattle.tropical_weight.specs.Single.{lesser, approxEqual}
 use Rattle.sheet.specs.declared.tr.Link.{Link}
-use Rattle.sheet.specs.Records.{linkAt}
+use Rattle.sheet.specs.Records.{linkAt, countAt}
 use Rattle.state_order_queue.specs.declared.Queue.{Queue}
 use Rattle.state_order_queue.specs.Queues.{isEmpty, enqueued, dequeued}
-use Rattle.shortest_distance.specs.Slots.{infinite, distanceWord, firstWord, countAt}
+use Rattle.shortest_distance.specs.Slots.{infinite, distanceWord, firstWord}
 
 -- 1e-6 in single precision
 abbrev pub delta : Float

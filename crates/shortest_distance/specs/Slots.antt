@@ -1,16 +1,16 @@
 -- The work area while distances are made: a slot of eight words a node. Word 0 holds the bits of its distance, word 1 the number of its first link.
 -- Definitions only.
-use Prim.Native.Nat.{ℕ, zero, suc, _+_, _*_, _/_}
+use Prim.Native.Nat.{ℕ, zero, suc, _+_, _*_}
 use mathlib.Core.Bool.{cond}
 use mathlib.Core.List.{List, _++_}
 use lib.Dec.{eqb}
-use lib.ListN.{length, getD, set, replicate, drop}
+use lib.ListN.{getD, set, replicate, drop}
 use lib.Ieee.{binary32, toBits}
 use Rattle.tropical_weight.specs.Limits.{unit}
 use Rattle.tropical_weight.specs.Tropical.{Tropical}
 use Rattle.tropical_weight.specs.Grid.{ofT}
-use Rattle.sheet.specs.Below.{sumBelow, listBelow}
-use Rattle.sheet.specs.Words.{word}
+use Rattle.sheet.specs.Below.{listBelow}
+use Rattle.sheet.specs.Records.{firstLink}
 
 -- the bits of a distance
 abbrev pub bitsOf : Tropical → ℕ
@@ -20,9 +20,6 @@ bitsOf w = toBits binary32 (ofT unit w)
 abbrev pub infinite : ℕ
 infinite = 0x7f80_0000
 
-abbrev pub slotsIn : List ℕ → ℕ
-slotsIn work = length work / 8
-
 -- the words of slot v
 abbrev pub distanceWord : List ℕ → ℕ → ℕ
 distanceWord work v = getD work (8 * v) 0
@@ -30,14 +27,10 @@ distanceWord work v = getD work (8 * v) 0
 abbrev pub firstWord : List ℕ → ℕ → ℕ
 firstWord work v = getD work (8 * v + 1) 0
 
--- the link count of node v in a sheet with so many links
-abbrev pub countAt : List ℕ → ℕ → ℕ → ℕ
-countAt bytes links v = word bytes (16 * links + 12 * v)
-
 -- the area with the first n slots set up
 unfoldable pub prepared : List ℕ → ℕ → ℕ → List ℕ → List ℕ
 prepared bytes links zero work = work
-prepared bytes links (suc v) work = set (set (prepared bytes links v work) (8 * v) infinite) (8 * v + 1) (sumBelow v (countAt bytes links))
+prepared bytes links (suc v) work = set (set (prepared bytes links v work) (8 * v) infinite) (8 * v + 1) (firstLink bytes links v)
 
 -- the first n slots left zero, and those beyond as they were
 abbrev pub cleared : ℕ → List ℕ → List ℕ

@@ -1,15 +1,18 @@
--- What holds of a sheet, the work area and the queue while heads are relaxed. Definitions only.
+-- What holds of a sheet, the work area and the queue while heads are relaxed, and of the work area afterwards. Definitions only.
 use Prim.Native.Nat.{ℕ, _+_, _*_, _≤_, _<_}
 use mathlib.Core.Path.{_≡_}
 use mathlib.Core.Bool.{true}
 use mathlib.Core.List.{List}
-use lib.ListN.{length}
+use lib.ListN.{length, drop}
 use Rattle.tropical_weight.specs.Limits.{nodeLimit}
 use Rattle.sheet.specs.Below.{sumBelow}
 use Rattle.sheet.specs.Words.{word}
+use Rattle.machine.specs.Distance.{dist}
 use Rattle.state_order_queue.specs.declared.Queue.{Queue}
 use Rattle.state_order_queue.specs.Queues.{holds, isValid}
-use Rattle.shortest_distance.specs.Slots.{firstWord, countAt}
+use Rattle.sheet.specs.Records.{countAt}
+use Rattle.shortest_distance.specs.Slots.{bitsOf, distanceWord, firstWord}
+use Rattle.shortest_distance.specs.Outcome.{machine, slotsNeeded}
 
 pub record Sound (bytes : List ℕ) (links nodes : ℕ) (work : List ℕ) (queue : Queue) : Type 0 where
   -- the sheet has the links and the nodes, and the area a slot a node
@@ -25,3 +28,9 @@ pub record Sound (bytes : List ℕ) (links nodes : ℕ) (work : List ℕ) (queue
   pub full : length (queue .flags) ≡ nodeLimit
   pub valid : isValid queue ≡ true
   pub held : (v : ℕ) → holds queue v ≡ true → v < nodes
+
+-- the slots hold the distances of a sheet's nodes, and beyond them the area is as it was
+pub record Made (bytes old work : List ℕ) : Type 0 where
+  pub each : (v : ℕ) → v < slotsNeeded bytes → distanceWord work v ≡ bitsOf (dist (machine bytes) v)
+  pub size : length work ≡ length old
+  pub beyond : drop (8 * slotsNeeded bytes) work ≡ drop (8 * slotsNeeded bytes) old

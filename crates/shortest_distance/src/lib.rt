@@ -7,12 +7,13 @@ ghost use Rattle.sheet.specs.Records.{trailerAt};
 ghost use Rattle.machine.specs.Input.{inputNumber};
 ghost use Rattle.shortest_distance.specs.Slots.{distanceWords};
 ghost use Rattle.shortest_distance.specs.Handed.{handed, handedOver};
-ghost use Rattle.shortest_distance.specs.Outcome.{distanceAnswer, workAfter, resultAfter, Made};
+ghost use Rattle.shortest_distance.specs.Outcome.{distanceAnswer, workAfter, resultAfter};
+ghost use Rattle.shortest_distance.specs.Sound.{Made};
 use sheet::read::Tested;
 use sheet::tr::Trailer;
 
-pub mod relax;
-pub mod slots;
+mod relax;
+mod slots;
 
 // What the call for distances answers: how many values it wrote, or the number of the refusal.
 pub enum Distances {

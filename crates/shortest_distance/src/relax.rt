@@ -74,9 +74,9 @@ fn relax_links(
 
 // Takes heads and relaxes their links until the queue is empty. A turn a node is the most, so that
 // the loop ends whatever the links are.
-pub fn relax_heads(sheet: &[u8], links: u32, nodes: u32, work: &mut [u32], q: Queue) -> Queue
+pub fn relax_heads(sheet: &[u8], links: u32, nodes: u32, work: &mut [u32], q: Queue)
     requires { ⌜ Sound (now sheet) links nodes (now work) q ⌝ }
-    ensures { λ r. ⌜ (r ≡ relaxHeads (now (sheet .entry)) links nodes (record { work = now (work .entry); queue = q }) .queue) × (now (work .exit) ≡ relaxHeads (now (sheet .entry)) links nodes (record { work = now (work .entry); queue = q }) .work) ⌝ }
+    ensures { λ _. ⌜ now (work .exit) ≡ relaxHeads (now (sheet .entry)) links nodes (record { work = now (work .entry); queue = q }) .work ⌝ }
 {
     let mut queue = q;
     let mut turn = 0u32;
@@ -84,7 +84,7 @@ pub fn relax_heads(sheet: &[u8], links: u32, nodes: u32, work: &mut [u32], q: Qu
         let front = queue.front;
         let back = queue.back;
         if state_order_queue::holds_none(front, back) {
-            return queue;
+            return;
         }
         let v = front as usize;
         let first = work[SLOT * v + 1];
@@ -100,5 +100,4 @@ pub fn relax_heads(sheet: &[u8], links: u32, nodes: u32, work: &mut [u32], q: Qu
         );
         turn += 1;
     }
-    queue
 }

@@ -5,7 +5,8 @@ ghost use lib.ListN.{length};
 ghost use lib.Seq.{sets};
 ghost use Rattle.sheet.specs.Below.{sumBelow};
 ghost use Rattle.sheet.specs.Words.{bytesOfAll};
-ghost use Rattle.shortest_distance.specs.Slots.{countAt, prepared, cleared, heightIn, distanceWords};
+ghost use Rattle.sheet.specs.Records.{countAt};
+ghost use Rattle.shortest_distance.specs.Slots.{prepared, cleared, heightIn, distanceWords};
 use sheet::words::put_word;
 use sheet::words::word;
 

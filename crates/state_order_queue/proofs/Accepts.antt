@@ -14,8 +14,8 @@ use Rattle.state_order_queue.specs.declared.Back.the-variants.{None, At}
 use Rattle.state_order_queue.specs.declared.Queue.{Queue}
 use Rattle.state_order_queue.specs.Queues.{endsFit, endsSet, isInside, flagsInside, isValid}
 use Rattle.state_order_queue.specs.Conditions.{Accepted}
-use Rattle.state_order_queue.proofs.Flags.{and-true, both-true, implies-true, true-implies, all-of}
-use Rattle.sheet.proofs.Below.{allBelow-at}
+use Rattle.state_order_queue.proofs.Flags.{and-true, both-true, implies-true, true-implies}
+use Rattle.sheet.proofs.Below.{allBelow-at, allBelow-of}
 
 pub none-at : {A : Type 0} {b : ℕ} → None ≡ At b → A
 none-at {A} {b} e = let z : _≡_ {A = ℕ} 0 1 = cc in absurd (omega arith)
@@ -70,12 +70,12 @@ unfolding flagsInside
 valid-of front None flags a = (
   eq-eqb front 0 (a .none-at-0 refl),
   refl,
-  all-of nodeLimit (λ v. not (getD flags v false) || false) (λ v l. implies-true (getD flags v false) false (λ h. cc (a .none-set v refl l))),
+  allBelow-of nodeLimit (λ v. not (getD flags v false) || false) (λ v l. implies-true (getD flags v false) false (λ h. cc (a .none-set v refl l))),
 )
 valid-of front (At b) flags a = (
   both-true _ _ (le-leb front nodeLimit (a .front-fits)) (lt-ltb b nodeLimit (a .back-fits b refl)),
   go (ltb b front) refl,
-  all-of nodeLimit (λ v. not (getD flags v false) || isInside front (At b) v) (λ v l. implies-true (getD flags v false) (isInside front (At b) v) (λ h. let k = a .inside b v refl l h in both-true _ _ (le-leb front v (k .0)) (le-leb v b (k .1)))),
+  allBelow-of nodeLimit (λ v. not (getD flags v false) || isInside front (At b) v) (λ v l. implies-true (getD flags v false) (isInside front (At b) v) (λ h. let k = a .inside b v refl l h in both-true _ _ (le-leb front v (k .0)) (le-leb v b (k .1)))),
 )
   where
     go : (t : Bool) → ltb b front ≡ t → ltb b front || (getD flags front false && getD flags b false) ≡ true

@@ -9,7 +9,6 @@ use lib.Dec.{eqb}
 use lib.ListN.{length, getD, set}
 use lib.Seq.{getD-set-same, getD-set-other}
 use borrow.Author.Tests.{eq-eqb, ne-eqb}
-use Rattle.sheet.specs.Below.{allBelow}
 use Rattle.state_order_queue.specs.Queues.{firstSet}
 
 -- ---- tests that hold together
@@ -27,12 +26,6 @@ implies-true false b h = refl
 pub true-implies : (a b : Bool) → not a || b ≡ true → a ≡ true → b ≡ true
 true-implies true b h k = h
 true-implies false b h k = cc
-
--- ---- a test at each number below a bound
-pub all-of : (n : ℕ) (p : ℕ → Bool) → ((v : ℕ) → v < n → p v ≡ true) → allBelow n p ≡ true
-unfolding allBelow
-all-of zero p h = refl
-all-of (suc n) p h = both-true (allBelow n p) (p n) (all-of n p (λ v l. h v (omega arith))) (h n (omega arith))
 
 -- ---- the first flag
 module _ (flags : List Bool) where

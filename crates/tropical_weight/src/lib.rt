@@ -5,10 +5,10 @@
 ghost use mathlib.Core.Path.{_≡_};
 ghost use Prim.Native.Nat.{ℕ, _≤_, _<_};
 ghost use lib.IntN.{natAbs};
-ghost use lib.Ieee.{Float, binary32, add, lt, ofBits, toBits};
+ghost use lib.Ieee.{binary32, add, lt, ofBits, toBits};
 ghost use Rattle.tropical_weight.specs.Limits.{unit, finest, weightLimit};
 ghost use Rattle.tropical_weight.specs.Tropical as Tropical;
-ghost use Rattle.tropical_weight.specs.Tropical.{_⊕_, _⊗_, ltT, eqT};
+ghost use Rattle.tropical_weight.specs.Tropical.{_⊕_, _⊗_, ltT};
 ghost use Rattle.tropical_weight.specs.Grid.{ofT, gridBits, gridShift, significand};
 ghost use Rattle.tropical_weight.specs.Single.{lesser, Computes, Decides, Approx, Costs};
 

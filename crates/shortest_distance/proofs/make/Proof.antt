@@ -2,7 +2,7 @@ use mathlib.Core.Path.{sym, ap, _∙_, subst}
 use denote.Ref.{now}
 use Rattle.state_order_queue.specs.declared.Queue.{Queue}
 use Rattle.state_order_queue.specs.Queues.{enqueued}
-use Rattle.shortest_distance.specs.Outcome.{Made}
+use Rattle.shortest_distance.specs.Sound.{Made}
 use Rattle.shortest_distance.proofs.Making.{prepares, start-low, sound-start, made-from, made-without}
 use borrow.Author.Needs.{needs}
 use Rattle.shortest_distance.proofs.make.Statement.{statement}
@@ -45,7 +45,7 @@ returns : tie.Need-returns
 returns c =
     let a = c .before .before .before .before .before .before .before .before .before .before .before .before .before .args in
     let r = c .before .before .before .before .before .before .before .before .before .before .before .before .before .pre in
-    subst (λ x. Made (now (a .sheet)) (now (a .work)) x) (sym (c .before .before .relax-heads .ensures .1))
+    subst (λ x. Made (now (a .sheet)) (now (a .work)) x) (sym (c .before .before .relax-heads .ensures))
     (made-from (now (a .sheet)) (now (a .work)) (r .0) (a .t) (r .1) (r .2) _ (c .before .before .before .before .before .before .before .before .before .prepare .ensures) (c .before .before .before .before .before .before .if1 .taken) (c .before .before .before .before .put .result) (c .before .before .before .before .put .ensures ∙ ap (λ (q : Queue). enqueued q (a .t .start)) (c .before .before .before .before .before .new .ensures)))
 
 same-length : tie.Need-same-length

@@ -47,7 +47,7 @@ returns c =
     let args = c .before .before .before .before .before .before .args in
     let turn = c .before .before .before .loop in
     let answer = sym (heads-end (now (args .sheet)) (args .links) (record { work = turn .work; queue = turn .queue }) (args .nodes - turn .turn) (sym (c .before .holds-none .ensures) ∙ c .if1 .taken)) ∙ turn .inv .3 in
-    (ap (λ (s : State). s .queue) answer, ap (λ (s : State). s .work) answer)
+    ap (λ (s : State). s .work) answer
 
 cast-v : tie.Need-cast-v Inv-loop μ-loop
 cast-v c = omega (arith, node c)
@@ -126,7 +126,7 @@ returns-2 c =
     let none : 0 ≡ args .nodes - turn .turn = omega arith in
     let last : State = record { work = turn .work; queue = turn .queue } in
     let answer = sym (heads-none (now (args .sheet)) (args .links) last) ∙ ap (λ (n : ℕ). relaxHeads (now (args .sheet)) (args .links) n last) none ∙ turn .inv .3 in
-    (ap (λ (s : State). s .queue) answer, ap (λ (s : State). s .work) answer)
+    ap (λ (s : State). s .work) answer
 
 pub relax-heads-spec : {M : Type 1} → statement M
 relax-heads-spec =

@@ -8,7 +8,8 @@ use denote.Ref.{now}
 use borrow.Author.Needs.{needs}
 use Rattle.sheet.specs.Below.{sumBelow}
 use Rattle.sheet.proofs.Below.{sum-mono}
-use Rattle.shortest_distance.specs.Slots.{infinite, countAt, prepared}
+use Rattle.sheet.specs.Records.{countAt}
+use Rattle.shortest_distance.specs.Slots.{infinite, prepared}
 use Rattle.shortest_distance.proofs.Areas.{prepared-next}
 use Rattle.shortest_distance.proofs.slots.prepare.Statement.{statement}
 use Rattle.shortest_distance.proofs.slots.prepare.Tie as tie
