@@ -8,7 +8,7 @@ use lib.Dec.{T, eqb, ltb, leb, ltb→lt}
 use lib.ListN.{length, getD, set, take, length-set, length-take, length-append}
 use borrow.Author.Tests.{leb-false}
 use Rattle.machine.proofs.Lists.{Perm, same, skip}
-use Rattle.search.specs.Heap.{swapped, parent, child, siftUp, siftDown, pushed, popped}
+use Rattle.search.specs.Heap.{swapped, parent, secondFirst, child, stays, siftUp, siftDown, pushed, popped}
 use Rattle.search.proofs.Counts.{occurs, occurs-last, counted, occurs-swap, occurs-rotated}
 
 module _ (before : ℕ → ℕ → Bool) where
@@ -36,14 +36,14 @@ module _ (before : ℕ → ℕ → Bool) where
 
   -- ---- down
   pub child-above : (h : List ℕ) (n i : ℕ) → i < child before h n i
-  child-above h n i = go (ltb (2 * i + 2) n && before (getD h (2 * i + 2) 0) (getD h (2 * i + 1) 0))
+  child-above h n i = go (ltb (2 * i + 2) n && secondFirst before h i)
     where
       go : (b : Bool) → i < cond b (2 * i + 2) (2 * i + 1)
       go true = omega arith
       go false = omega arith
 
   pub child-in : (h : List ℕ) (n i : ℕ) → 2 * i + 1 < n → child before h n i < n
-  child-in h n i r = go (ltb (2 * i + 2) n) (before (getD h (2 * i + 2) 0) (getD h (2 * i + 1) 0)) (ltb→lt (2 * i + 2) n)
+  child-in h n i r = go (ltb (2 * i + 2) n) (secondFirst before h i) (ltb→lt (2 * i + 2) n)
     where
       go : (a b : Bool) → (T a → 2 * i + 2 < n) → cond (a && b) (2 * i + 2) (2 * i + 1) < n
       go true true k = k tt
@@ -55,7 +55,7 @@ module _ (before : ℕ → ℕ → Bool) where
   occurs-down x zero n h i r a = refl
   occurs-down x (suc steps) n h i r a =
       let c = child before h n i in
-      go (leb n (2 * i + 1)) (before (getD h i 0) (getD h c 0)) refl
+      go (leb n (2 * i + 1)) (stays before h i c) refl
       (λ c-in. occurs-down x steps n (swapped before h i c) c (subst (λ (k : ℕ). n ≤ k) (sym (length-swapped h i c)) r) c-in ∙ occurs-swap x h i c (omega arith) (omega arith))
     where
       go : (b d : Bool) → leb n (2 * i + 1) ≡ b → (child before h n i < n → occurs x (siftDown before steps n (swapped before h i (child before h n i)) (child before h n i)) ≡ occurs x h)

@@ -20,16 +20,23 @@ module _ (before : ℕ → ℕ → Bool) where
       cond (eqb i 0) h (cond (before (getD h i 0) (getD h (parent i) 0)) up h)
 
   -- of the children of place i in a heap of n, the second where there is one that comes strictly before the first
-  abbrev pub child : List ℕ → ℕ → ℕ → ℕ
-  child h n i = cond (ltb (2 * i + 2) n && before (getD h (2 * i + 2) 0) (getD h (2 * i + 1) 0)) (2 * i + 2) (2 * i + 1)
+  abbrev pub secondFirst : List ℕ → ℕ → Bool
+  secondFirst h i = before (getD h (2 * i + 2) 0) (getD h (2 * i + 1) 0)
 
-  -- Down from place i in a heap of n: swapped with that child unless it comes strictly before it, so on ties too, and again from there. The first
+  abbrev pub child : List ℕ → ℕ → ℕ → ℕ
+  child h n i = cond (ltb (2 * i + 2) n && secondFirst h i) (2 * i + 2) (2 * i + 1)
+
+  -- what stands at place i stays above place j where it comes strictly before what stands there
+  abbrev pub stays : List ℕ → ℕ → ℕ → Bool
+  stays h i j = before (getD h i 0) (getD h j 0)
+
+  -- Down from place i in a heap of n: swapped with that child unless it stays, so on ties too, and again from there. The first
   -- argument is at least n - i.
   unfoldable pub siftDown : ℕ → ℕ → List ℕ → ℕ → List ℕ
   siftDown zero n h i = h
   siftDown (suc steps) n h i =
       let down = siftDown steps n (swapped h i (child h n i)) (child h n i) in
-      cond (leb n (2 * i + 1)) h (cond (before (getD h i 0) (getD h (child h n i) 0)) h down)
+      cond (leb n (2 * i + 1)) h (cond (stays h i (child h n i)) h down)
 
   -- x put in: at the end, and then up
   unfoldable pub pushed : ℕ → List ℕ → List ℕ

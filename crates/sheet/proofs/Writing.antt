@@ -34,6 +34,10 @@ sheet-stores l links nodes trailer =
     ∙ ap (λ (m : List ℕ). sets l 0 m) (ap (λ (m : List ℕ). m ++ C) (sym (bytesOfAll-append links nodes)) ∙ sym (bytesOfAll-append (links ++ nodes) trailer))
 
 -- ---- the number
+-- what is told apart by a number that is not 0
+pub not-zero : (k : ℕ) (x y : List ℕ) → (k ≡ 0 → ⊥) → cond (eqb k 0) x y ≡ y
+not-zero k x y a = ap (λ (b : Bool). cond b x y) (ne-eqb k 0 a)
+
 module _ (p : Parts) where
   -- what the test of records says
   pub records : recordsFit p ≡ true → (length (p .links) % 4 ≡ 0) × (length (p .nodes) % 3 ≡ 0) × (nodeCount p < 2 ^ 32) × (16 * linkCount p < 2 ^ 32)
@@ -71,7 +75,7 @@ module _ (p : Parts) where
   pub refused : (old : List ℕ) (k : ℕ) → (k ≡ 0 → ⊥) → writeNumber p (length old) ≡ k → (Refused k ≡ written p (length old)) × (old ≡ writtenOver p old)
   refused old k n e = (
     sym (ap (λ (x : ℕ). writtenBy (eqb x 0) p x) e ∙ ap (λ (b : Bool). writtenBy b p k) (ne-eqb k 0 n)),
-    sym (ap (λ (x : ℕ). cond (eqb x 0) (sheetOf p ++ drop (sheetLength p) old) old) e ∙ ap (λ (b : Bool). cond b (sheetOf p ++ drop (sheetLength p) old) old) (ne-eqb k 0 n)),
+    sym (not-zero (writeNumber p (length old)) _ old (λ z. n (sym e ∙ z))),
   )
 
   pub stored : (old : List ℕ) → length (sheetOf p) ≡ sheetLength p → sheetLength p ≤ length old → writeNumber p (length old) ≡ 0

@@ -15,6 +15,7 @@ use Rattle.sheet.specs.Sheet.{partsOf, statedLinks}
 use Rattle.sheet.proofs.Fields.{read-fields}
 use Rattle.sheet.proofs.Below.{length-listBelow}
 use Rattle.sheet.proofs.Bytes.{length-bytesOfAll}
+use Rattle.sheet.proofs.Writing.{not-zero}
 use Rattle.sheet.proofs.Sources.{machine-nodes}
 use Rattle.machine.specs.Distance.{dist, distances, height}
 use Rattle.machine.specs.Input.{inputNumber}
@@ -49,6 +50,10 @@ module _ (bytes : List ℕ) (words : ℕ) (room : ℕ) where
   unfolding distanceNumber
   number-state e = ap (λ (k : ℕ). cond (not (eqb k 0)) k (cond (ltb (words / 8) (slotsNeeded bytes)) 20 (cond (ltb room (length (answerOf bytes))) 21 0))) e
 
+-- what is told apart by 0 and 21
+neither : (k : ℕ) (x y : List ℕ) → (k ≡ 0 → ⊥) → (k ≡ 21 → ⊥) → cond (eqb k 0 || eqb k 21) x y ≡ y
+neither k x y a b = λ i. cond (ne-eqb k 0 a i || ne-eqb k 21 b i) x y
+
 -- what a number that refuses before the search leaves
 module _ (bytes work result : List ℕ) where
   pub record Outcome (answer : Distances) (work′ result′ : List ℕ) : Type 0 where
@@ -59,8 +64,8 @@ module _ (bytes work result : List ℕ) where
   early : (k : ℕ) → (k ≡ 0 → ⊥) → (k ≡ 21 → ⊥) → distanceNumber bytes (length work) (length result) ≡ k → Outcome (Refused k) work result
   early k a b e = record {
     answer-is = sym (ap (λ (n : ℕ). distancesBy (eqb n 0) (length (distances (machine bytes))) n) e ∙ ap (λ (t : Bool). distancesBy t (length (distances (machine bytes))) k) (ne-eqb k 0 a));
-    work-is = sym (ap (λ (n : ℕ). cond (eqb n 0 || eqb n 21) (cleared (slotsNeeded bytes) work) work) e ∙ (λ i. cond (ne-eqb k 0 a i || ne-eqb k 21 b i) (cleared (slotsNeeded bytes) work) work));
-    result-is = sym (ap (λ (n : ℕ). cond (eqb n 0) (answerOf bytes ++ drop (length (answerOf bytes)) result) result) e ∙ ap (λ (t : Bool). cond t (answerOf bytes ++ drop (length (answerOf bytes)) result) result) (ne-eqb k 0 a));
+    work-is = sym (neither (distanceNumber bytes (length work) (length result)) _ work (λ z. a (sym e ∙ z)) (λ z. b (sym e ∙ z)));
+    result-is = sym (not-zero (distanceNumber bytes (length work) (length result)) _ result (λ z. a (sym e ∙ z)));
   }
 
   pub outcome-input : (k : ℕ) → inputNumber bytes ≡ k → (k ≡ 0 → ⊥) → k ≤ 6 → Outcome (Refused k) work result
