@@ -25,7 +25,7 @@ use Rattle.sheet.proofs.Below.{split-at}
 use Rattle.sheet.proofs.Sources.{sources-rise, length-sources, counts-sum, machine-link, machine-links, machine-final, machine-nodes}
 use Rattle.machine.specs.Readings.{link, final, noLink}
 use Rattle.machine.specs.Climbs.{Climbs, Finite, Small}
-use Rattle.machine.proofs.Tests.{both}
+use Rattle.sheet.proofs.Apart.{both}
 use Rattle.machine.specs.Input.{countsFit, linksClimb, boundsNumber, inputNumber}
 
 -- ---- a weight's field on the grid

@@ -19,7 +19,7 @@ use Rattle.machine.specs.Readings.{link, isAt, runCost, ways}
 use Rattle.machine.specs.Climbs.{Climbs}
 use Rattle.machine.specs.Distance.{plusAll, dist, via, total, totalAt, relax}
 use Rattle.machine.specs.Parents.{orElse, lowest, attains, parent, bestEnd}
-use Rattle.machine.proofs.Tests.{both, not-both}
+use Rattle.sheet.proofs.Apart.{both, not-both}
 use Rattle.machine.proofs.Lists.{below-mem, mem-below}
 use Rattle.machine.proofs.Sums.{plusAll-le, plusAll-in, plusAll-append}
 use Rattle.machine.proofs.Runs.{at-some}

@@ -19,7 +19,7 @@ use Rattle.machine.specs.Readings.{link, final, finalWeight, isAt, IsRun
 use Rattle.machine.specs.Climbs.{Climbs, Finite}
 use Rattle.machine.specs.Distance.{dist, via, total, totalAt}
 use Rattle.machine.specs.Parents.{orElse, lowest, attains, parent, bestEnd, stepBack, follow, followed, best}
-use Rattle.machine.proofs.Tests.{both, not-both}
+use Rattle.sheet.proofs.Apart.{both, not-both}
 use Rattle.machine.proofs.Lists.{mem-below}
 use Rattle.machine.proofs.Sums.{plusAll-in}
 use Rattle.machine.proofs.Runs.{FromStart, ends, run-snoc, run-last, cost-snoc, some-at}

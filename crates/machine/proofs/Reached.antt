@@ -19,7 +19,7 @@ use Rattle.machine.specs.Readings.{link, isAt, IsRun, ways}
 use Rattle.machine.specs.Climbs.{Climbs, Finite}
 use Rattle.machine.specs.Distance.{dist, relax, reach, reached, heightBelow, height, distances}
 use Rattle.machine.specs.Demand.{_∈_}
-use Rattle.machine.proofs.Tests.{not-both}
+use Rattle.sheet.proofs.Apart.{not-both}
 use Rattle.machine.proofs.Lists.{here, map-mem, mem-map}
 use Rattle.sheet.proofs.Below.{length-listBelow, getD-listBelow}
 use Rattle.machine.proofs.Runs.{FromStart, over, more, ends, run-last, run-length, ways-are}

@@ -5,8 +5,7 @@ use mathlib.Core.List.{List}
 use Prim.Native.Nat.{ℕ, zero, suc, _+_, _*_, _≤_, _<_}
 use native.Mathlib.Nat.{add-zero, le-refl, le-of-lt}
 use native.Mathlib.Omega.{arith}
-use lib.Dec.{T, leb, ltb, eqb, eqb→eq}
-use lib.Ieee.Fits.{and-r}
+use lib.Dec.{T, leb, ltb, eqb}
 use lib.ListN.{length, getD}
 use borrow.Author.Tests.{eqb-true, eq-eqb}
 use Rattle.tropical_weight.specs.Limits.{nodeLimit, linkLimit}
@@ -14,12 +13,12 @@ use Rattle.sheet.specs.declared.read.Tested.the-variants.{Accepted, Refused}
 use Rattle.sheet.specs.declared.tr.Trailer.{Trailer}
 use Rattle.sheet.specs.Below.{allBelow, sumBelow}
 use Rattle.sheet.specs.Words.{word}
-use Rattle.sheet.specs.Sheet.{nodeCount, count, next, partsOf, sizesFit, startFits, nextsFit, weightsFit, verdict, readNumber, statedLinks, statedNodes, nodesFit, trailerField, trailerLength}
+use Rattle.sheet.specs.Sheet.{nodeCount, count, next, partsOf, sizesFit, startFits, nextsFit, weightsFit, verdict, readNumber, statedLinks, statedNodes, nodesFit}
 use Rattle.sheet.specs.Machine.{sourcesBelow}
 use Rattle.sheet.specs.Records.{trailerAt}
 use Rattle.sheet.specs.Answers.{tested, testedBy}
 use Rattle.sheet.proofs.Below.{allBelow-same, sumBelow-same}
-use Rattle.sheet.proofs.Fields.{read-fields, read-unfit}
+use Rattle.sheet.proofs.Fields.{read-fields, length-read, read-fits}
 use Rattle.sheet.proofs.Below.{sum-mono}
 use Rattle.sheet.proofs.Sources.{source-is, counts-sum}
 use Rattle.machine.specs.Input.{countsFit, linksClimb, boundsNumber, inputNumber}
@@ -86,13 +85,6 @@ module _ (bytes : List ℕ) where
       most false x y h k = k
 
   module _ (read : readNumber bytes ≡ 0) where
-    pub fits : sizesFit bytes ≡ true
-    fits = go (sizesFit bytes) refl
-      where
-        go : (b : Bool) → sizesFit bytes ≡ b → b ≡ true
-        go true q = refl
-        go false q = absurd (omega (arith, sym (read-unfit bytes q) ∙ read))
-
     -- by the number of tests 5 and 6
     by-bounds : (k : ℕ) → boundsNumber (partsOf bytes) ≡ k → inputAnswer bytes ≡ testedBy (eqb k 0) bytes k
     unfolding inputNumber
@@ -160,6 +152,4 @@ module _ (bytes : List ℕ) where
 
     -- the records lie in the sheet
     pub in-sheet : 16 * statedLinks bytes + 12 * statedNodes bytes ≤ length bytes
-    in-sheet =
-        let all : T (leb trailerLength (length bytes) && eqb (trailerField bytes 0) 0 && eqb (trailerField bytes 1) (16 * statedLinks bytes) && eqb (length bytes) (16 * statedLinks bytes + 12 * statedNodes bytes + trailerLength)) = subst T (sym fits) tt in
-        omega (arith, eqb→eq (length bytes) (16 * statedLinks bytes + 12 * statedNodes bytes + trailerLength) (and-r (leb trailerLength (length bytes) && eqb (trailerField bytes 0) 0 && eqb (trailerField bytes 1) (16 * statedLinks bytes)) (eqb (length bytes) (16 * statedLinks bytes + 12 * statedNodes bytes + trailerLength)) all))
+    in-sheet = omega (arith, length-read bytes (read-fits bytes read))

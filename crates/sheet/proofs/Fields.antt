@@ -5,14 +5,15 @@ use mathlib.Core.List.{List}
 use Prim.Native.Nat.{ℕ, zero, suc, _+_, _*_, _/_, _≤_, _<_}
 use native.Mathlib.Nat.{add-zero}
 use native.Mathlib.Omega.{arith}
-use lib.Dec.{T, ltb, eqb}
+use lib.Dec.{T, leb, ltb, eqb}
 use lib.ListN.{length, getD}
-use borrow.Author.Tests.{lt-leb, le-leb}
+use borrow.Author.Tests.{lt-leb, le-leb, eqb-true}
 use Rattle.sheet.specs.Below.{allBelow, sumBelow}
 use Rattle.sheet.specs.Words.{word, words}
 use Rattle.sheet.specs.Sheet.{Parts, linkCount, nodeCount, count, mark, finalBits, linkBits, next, wellMarked, startFits, onGridBits, nodesFit, nextsFit, weightsFit, verdict, partsOf, sizesFit, readNumber, statedLinks, statedNodes, trailerField, trailerLength}
 use Rattle.sheet.specs.Tests.{nodeTests, linkTests, judged}
 use Rattle.sheet.proofs.Below.{allBelow-same, sumBelow-same}
+use Rattle.sheet.proofs.Apart.{both}
 use Rattle.sheet.proofs.Passes.{firstFailing}
 
 -- ---- words one after the other
@@ -109,3 +110,15 @@ module _ (bytes : List ℕ) where
   pub sizes-long : trailerLength ≤ length bytes
       → sizesFit bytes ≡ eqb (trailerField bytes 0) 0 && eqb (trailerField bytes 1) (16 * statedLinks bytes) && eqb (length bytes) (16 * statedLinks bytes + 12 * statedNodes bytes + trailerLength)
   sizes-long h = ap (λ (b : Bool). b && eqb (trailerField bytes 0) 0 && eqb (trailerField bytes 1) (16 * statedLinks bytes) && eqb (length bytes) (16 * statedLinks bytes + 12 * statedNodes bytes + trailerLength)) (le-leb trailerLength (length bytes) h)
+
+  pub length-read : sizesFit bytes ≡ true → length bytes ≡ 16 * statedLinks bytes + 12 * statedNodes bytes + trailerLength
+  length-read e =
+      eqb-true (length bytes) (16 * statedLinks bytes + 12 * statedNodes bytes + trailerLength)
+      (both (leb trailerLength (length bytes) && eqb (trailerField bytes 0) 0 && eqb (trailerField bytes 1) (16 * statedLinks bytes)) (eqb (length bytes) (16 * statedLinks bytes + 12 * statedNodes bytes + trailerLength)) e .1)
+
+  pub read-fits : readNumber bytes ≡ 0 → sizesFit bytes ≡ true
+  read-fits e = go (sizesFit bytes) refl
+    where
+      go : (b : Bool) → sizesFit bytes ≡ b → b ≡ true
+      go true q = refl
+      go false q = absurd (omega (arith, sym (read-unfit q) ∙ e))

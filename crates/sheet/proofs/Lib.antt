@@ -1,4 +1,5 @@
 pub mod Below
+pub mod Apart
 pub mod Bytes
 pub mod Passes
 pub mod Fields

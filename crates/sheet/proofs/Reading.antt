@@ -5,15 +5,15 @@ use mathlib.Core.List.{List}
 use Prim.Native.Nat.{ℕ, zero, suc, _+_, _*_, _≤_, _<_}
 use native.Mathlib.Numerals.{add-one}
 use native.Mathlib.Omega.{arith}
-use lib.Dec.{T as Holds, leb, ltb, eqb, leb→le, ltb→lt, eqb→eq}
+use lib.Dec.{T as Holds, leb, ltb, leb→le, ltb→lt}
 use lib.ListN.{length}
 use lib.Ieee.Fits.{and-l, and-r}
 use borrow.Author.Tests.{lt-ltb, le-ltb, lt-leb, le-leb, leb-true, leb-false}
 use Rattle.sheet.specs.declared.reader.Step.the-variants as Step
-use Rattle.sheet.specs.Sheet.{sizesFit, readNumber, statedLinks, statedNodes, trailerField, trailerLength}
+use Rattle.sheet.specs.Sheet.{readNumber, statedLinks, statedNodes, trailerLength}
 use Rattle.sheet.specs.Records.{linkAt}
 use Rattle.sheet.specs.Reading.{hasLink, nextBy, nextLink, placeBy, placeAfter, placeAt}
-use Rattle.sheet.proofs.Fields.{read-unfit}
+use Rattle.sheet.proofs.Fields.{length-read, read-fits}
 
 -- ---- the tests in their order
 module _ (bytes : List ℕ) (l : ℕ) where
@@ -49,17 +49,8 @@ module _ (bytes : List ℕ) (accepted : readNumber bytes ≡ 0) where
   abbrev T : ℕ
   T = statedLinks bytes
 
-  fits : sizesFit bytes ≡ true
-  fits = by (sizesFit bytes) refl
-    where
-      by : (b : Bool) → sizesFit bytes ≡ b → b ≡ true
-      by true e = refl
-      by false e = ap (λ (k : ℕ). eqb k 0) (sym (read-unfit bytes e) ∙ accepted)
-
   sized : length bytes ≡ 16 * T + 12 * statedNodes bytes + trailerLength
-  sized =
-      eqb→eq (length bytes) (16 * T + 12 * statedNodes bytes + trailerLength)
-      (and-r (leb trailerLength (length bytes) && eqb (trailerField bytes 0) 0 && eqb (trailerField bytes 1) (16 * T)) (eqb (length bytes) (16 * T + 12 * statedNodes bytes + trailerLength)) (subst Holds (sym fits) tt))
+  sized = length-read bytes (read-fits bytes accepted)
 
   -- there is a link l just where the trailer states it
   pub has-accepted : (l : ℕ) → hasLink bytes l ≡ ltb l T

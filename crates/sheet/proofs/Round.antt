@@ -17,7 +17,7 @@ use Rattle.sheet.specs.Sheet.{Parts, linkCount, nodeCount, recordsFit, v
 use Rattle.sheet.specs.Answers.{writtenOver}
 use Rattle.sheet.specs.Machine.{machineOf}
 use Rattle.sheet.proofs.Bytes.{bytesOfAll-append, length-bytesOfAll}
-use Rattle.sheet.proofs.Fields.{length-words, getD-words, read-unfit}
+use Rattle.sheet.proofs.Fields.{length-words, getD-words, read-unfit, read-fields, length-read}
 use Rattle.sheet.proofs.Writing.{records, length-sheet}
 
 -- each element is below a bound: a byte below 256, a word below 2 ^ 32
@@ -185,17 +185,6 @@ module _ (bytes : List ℕ) (below : Below 256 bytes) (fits : sizesFit bytes ≡
   offset-nodes = eqb→eq _ _ (and-r (leb trailerLength (length bytes) && eqb (trailerField bytes 0) 0) (eqb (trailerField bytes 1) (16 * statedLinks bytes))
       (and-l (leb trailerLength (length bytes) && eqb (trailerField bytes 0) 0 && eqb (trailerField bytes 1) (16 * statedLinks bytes)) (eqb (length bytes) (16 * statedLinks bytes + 12 * statedNodes bytes + trailerLength)) T₀))
 
-  pub length-read : length bytes ≡ 16 * statedLinks bytes + 12 * statedNodes bytes + trailerLength
-  length-read = eqb→eq _ _ (and-r (leb trailerLength (length bytes) && eqb (trailerField bytes 0) 0 && eqb (trailerField bytes 1) (16 * statedLinks bytes)) (eqb (length bytes) (16 * statedLinks bytes + 12 * statedNodes bytes + trailerLength)) T₀)
-
-  pub links-read : linkCount (partsOf bytes) ≡ statedLinks bytes
-  unfolding partsOf
-  links-read = omega (arith, length-words bytes 0 (4 * statedLinks bytes))
-
-  pub nodes-read : nodeCount (partsOf bytes) ≡ statedNodes bytes
-  unfolding partsOf
-  nodes-read = omega (arith, length-words bytes (16 * statedLinks bytes) (3 * statedNodes bytes))
-
   trailer-read : trailerOf (partsOf bytes) ≡ words bytes (length bytes - 20) 5
   unfolding words partsOf
   trailer-read =
@@ -205,7 +194,7 @@ module _ (bytes : List ℕ) (below : Below 256 bytes) (fits : sizesFit bytes ≡
       let two-at : at + 4 * 2 ≡ at + 4 + 4 = omega arith in
       let three-at : at + 4 * 3 ≡ at + 4 + 4 + 4 = omega arith in
       let four-at : at + 4 * 4 ≡ at + 4 + 4 + 4 + 4 = omega arith in
-      (λ i. sym offset i ∷ (ap (λ (k : ℕ). 16 * k) links-read ∙ sym offset-nodes) i ∷ nodes-read i ∷ links-read i ∷ trailerField bytes 4 ∷ [])
+      (λ i. sym offset i ∷ (ap (λ (k : ℕ). 16 * k) (read-fields bytes .links-are) ∙ sym offset-nodes) i ∷ read-fields bytes .nodes-are i ∷ read-fields bytes .links-are i ∷ trailerField bytes 4 ∷ [])
       ∙ (λ i. word bytes (zero-at i) ∷ word bytes (one-at i) ∷ word bytes (two-at i) ∷ word bytes (three-at i) ∷ word bytes (four-at i) ∷ [])
 
   pub bytes-back : sheetOf (partsOf bytes) ≡ bytes
@@ -215,12 +204,12 @@ module _ (bytes : List ℕ) (below : Below 256 bytes) (fits : sizesFit bytes ≡
       let n = statedNodes bytes in
       let a = 4 * (4 * t) in
       let b = 4 * (3 * n) in
-      let at : length bytes - 20 ≡ a + b = omega (arith, length-read) in
+      let at : length bytes - 20 ≡ a + b = omega (arith, length-read bytes fits) in
       let from : 16 * t ≡ a = omega arith in
-      let all : length bytes ≡ a + b + 20 = omega (arith, length-read) in
+      let all : length bytes ≡ a + b + 20 = omega (arith, length-read bytes fits) in
       bytesOfAll-append (words bytes 0 (4 * t) ++ words bytes (16 * t) (3 * n)) (trailerOf (partsOf bytes))
       ∙ (λ i. bytesOfAll-append (words bytes 0 (4 * t)) (words bytes (16 * t) (3 * n)) i ++ bytesOfAll (trailer-read i))
-      ∙ (λ i. bytesOfAll-words (4 * t) bytes 0 below (omega (arith, length-read)) i ++ bytesOfAll-words (3 * n) bytes (16 * t) below (omega (arith, length-read)) i ++ bytesOfAll-words 5 bytes (length bytes - 20) below (omega (arith, length-read)) i)
+      ∙ (λ i. bytesOfAll-words (4 * t) bytes 0 below (omega (arith, length-read bytes fits)) i ++ bytesOfAll-words (3 * n) bytes (16 * t) below (omega (arith, length-read bytes fits)) i ++ bytesOfAll-words 5 bytes (length bytes - 20) below (omega (arith, length-read bytes fits)) i)
       ∙ (λ i. take a bytes ++ take b (drop (from i) bytes) ++ take 20 (drop (at i) bytes))
       ∙ ap (λ (r : List ℕ). r ++ take 20 (drop (a + b) bytes)) (sym (take-add a b bytes))
       ∙ sym (take-add (a + b) 20 bytes)
@@ -229,8 +218,8 @@ module _ (bytes : List ℕ) (below : Below 256 bytes) (fits : sizesFit bytes ≡
   records-read : recordsFit (partsOf bytes) ≡ true
   unfolding partsOf
   records-read =
-      let small-nodes : nodeCount (partsOf bytes) < 2 ^ 32 = subst (λ (k : ℕ). k < 2 ^ 32) (sym nodes-read) (word-lt bytes (length bytes - 20 + 4 * 2) below) in
-      let small-links : 16 * linkCount (partsOf bytes) < 2 ^ 32 = subst (λ (k : ℕ). k < 2 ^ 32) (offset-nodes ∙ ap (λ (k : ℕ). 16 * k) (sym links-read)) (word-lt bytes (length bytes - 20 + 4 * 1) below) in
+      let small-nodes : nodeCount (partsOf bytes) < 2 ^ 32 = subst (λ (k : ℕ). k < 2 ^ 32) (sym (read-fields bytes .nodes-are)) (word-lt bytes (length bytes - 20 + 4 * 2) below) in
+      let small-links : 16 * linkCount (partsOf bytes) < 2 ^ 32 = subst (λ (k : ℕ). k < 2 ^ 32) (offset-nodes ∙ ap (λ (k : ℕ). 16 * k) (sym (read-fields bytes .links-are))) (word-lt bytes (length bytes - 20 + 4 * 1) below) in
       let whole-links : length (partsOf bytes .links) % 4 ≡ 0 = omega (arith, length-words bytes 0 (4 * statedLinks bytes)) in
       let whole-nodes : length (partsOf bytes .nodes) % 3 ≡ 0 = omega (arith, length-words bytes (16 * statedLinks bytes) (3 * statedNodes bytes)) in
       λ i. eq-eqb _ _ whole-links i && eq-eqb _ _ whole-nodes i && lt-ltb _ _ small-nodes i && lt-ltb _ _ small-links i
@@ -249,7 +238,7 @@ written-again bytes old below accepted room = go (sizesFit bytes) refl
     go false e = absurd (omega (arith, sym (read-unfit bytes e) ∙ accepted))
     go true e =
         let p = partsOf bytes in
-        let size : sheetLength p ≡ length bytes = (λ i. 16 * links-read bytes below e i + 12 * nodes-read bytes below e i + 20) ∙ sym (length-read bytes below e) in
+        let size : sheetLength p ≡ length bytes = (λ i. 16 * read-fields bytes .links-are i + 12 * read-fields bytes .nodes-are i + 20) ∙ sym (length-read bytes e) in
         let zero-number : writeNumber p (length old) ≡ 0 =
         ap (λ (k : ℕ). cond (not (eqb k 0)) k (cond (ltb (length old) (sheetLength p)) 21 0)) (number-again bytes below e ∙ accepted) ∙ ap (λ (b : Bool). cond b 21 0) (le-ltb (length old) (sheetLength p) (omega arith)) in
         ap (λ (k : ℕ). cond (eqb k 0) (sheetOf p ++ drop (sheetLength p) old) old) zero-number ∙ λ i. bytes-back bytes below e i ++ drop (size i) old

@@ -17,7 +17,7 @@ use Rattle.sheet.specs.Records.{linkAt, countAt}
 use Rattle.sheet.proofs.Below.{sum-mono}
 use Rattle.state_order_queue.specs.declared.Queue.{Queue}
 use Rattle.state_order_queue.specs.Queues.{holds, isEmpty, enqueued, dequeued}
-use Rattle.state_order_queue.proofs.Flags.{and-true}
+use Rattle.sheet.proofs.Apart.{both}
 use Rattle.state_order_queue.proofs.Sets.{or-either, enqueued-full, enqueued-holds, enqueued-valid, dequeued-full, dequeued-valid, dequeued-holds, front-held}
 use Rattle.shortest_distance.specs.Slots.{distanceWord, firstWord}
 use Rattle.shortest_distance.specs.Relaxation.{State, reaches, relaxLink, relaxLinks, relaxHead, relaxHeads}
@@ -92,7 +92,7 @@ module _ (bytes : List ℕ) (links nodes : ℕ) where
       firsts = h .firsts;
       full = dequeued-full (s .queue) (h .full);
       valid = dequeued-valid (s .queue) (h .full) (h .valid);
-      held = λ v e. h .held v (and-true (not (eqb v (s .queue .front))) (holds (s .queue) v) (sym (dequeued-holds (s .queue) (h .full) (h .valid) filled v) ∙ e) .1);
+      held = λ v e. h .held v (both (not (eqb v (s .queue .front))) (holds (s .queue) v) (sym (dequeued-holds (s .queue) (h .full) (h .valid) filled v) ∙ e) .1);
     }
 
     -- its links are among those of the sheet

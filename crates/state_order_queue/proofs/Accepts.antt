@@ -14,7 +14,8 @@ use Rattle.state_order_queue.specs.declared.Back.the-variants.{None, At}
 use Rattle.state_order_queue.specs.declared.Queue.{Queue}
 use Rattle.state_order_queue.specs.Queues.{endsFit, endsSet, isInside, flagsInside, isValid}
 use Rattle.state_order_queue.specs.Conditions.{Accepted}
-use Rattle.state_order_queue.proofs.Flags.{and-true, both-true, implies-true, true-implies}
+use Rattle.sheet.proofs.Apart.{both}
+use Rattle.state_order_queue.proofs.Flags.{both-true, implies-true, true-implies}
 use Rattle.sheet.proofs.Below.{allBelow-at, allBelow-of}
 
 pub none-at : {A : Type 0} {b : ℕ} → None ≡ At b → A
@@ -50,10 +51,10 @@ accepted-of front None flags fit ends inside = record {
   none-at-0 = λ e. eqb-true front 0 fit;
 }
 accepted-of front (At b) flags fit ends inside =
-    let fits = and-true _ _ fit in
+    let fits = both _ _ fit in
     let bound : b < nodeLimit = ltb-true _ _ (fits .1) in
-    let flagged : front ≤ b → (getD flags front false ≡ true) × (getD flags b false ≡ true) = λ l. and-true _ _ (either-of (ltb b front) _ ends (le-ltb _ _ l)) in
-    let between : (v : ℕ) → v < nodeLimit → getD flags v false ≡ true → (front ≤ v) × (v ≤ b) = λ v l h. let k = and-true _ _ (true-implies (getD flags v false) _ (set-of front (At b) flags inside v l) h) in (leb-true _ _ (k .0), leb-true _ _ (k .1)) in
+    let flagged : front ≤ b → (getD flags front false ≡ true) × (getD flags b false ≡ true) = λ l. both _ _ (either-of (ltb b front) _ ends (le-ltb _ _ l)) in
+    let between : (v : ℕ) → v < nodeLimit → getD flags v false ≡ true → (front ≤ v) × (v ≤ b) = λ v l h. let k = both _ _ (true-implies (getD flags v false) _ (set-of front (At b) flags inside v l) h) in (leb-true _ _ (k .0), leb-true _ _ (k .1)) in
     record {
       front-fits = leb-true _ _ (fits .0);
       back-fits = λ c e. rw (sym (at-same e)) bound;
@@ -85,6 +86,6 @@ valid-of front (At b) flags a = (
 pub valid-exactly : (q : Queue) → (isValid q ≡ true) ↔ Accepted q
 unfolding isValid
 valid-exactly q = (
-  λ h. let k = and-true _ _ h in let m = and-true _ _ (k .0) in accepted-of (q .front) (q .back) (q .flags) (m .0) (m .1) (k .1),
+  λ h. let k = both _ _ h in let m = both _ _ (k .0) in accepted-of (q .front) (q .back) (q .flags) (m .0) (m .1) (k .1),
   λ a. let k = valid-of (q .front) (q .back) (q .flags) a in both-true _ _ (both-true _ _ (k .0) (k .1)) (k .2),
 )

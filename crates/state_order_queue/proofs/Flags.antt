@@ -12,10 +12,6 @@ use borrow.Author.Tests.{eq-eqb, ne-eqb}
 use Rattle.state_order_queue.specs.Queues.{firstSet}
 
 -- ---- tests that hold together
-pub and-true : (a b : Bool) → a && b ≡ true → (a ≡ true) × (b ≡ true)
-and-true true b h = (refl, h)
-and-true false b h = (h, cc)
-
 pub both-true : (a b : Bool) → a ≡ true → b ≡ true → a && b ≡ true
 both-true a b h k = simp (h, k)
 

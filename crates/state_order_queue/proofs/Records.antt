@@ -9,15 +9,15 @@ use Rattle.state_order_queue.specs.declared.Back.{Back}
 use Rattle.state_order_queue.specs.declared.Back.the-variants.{None, At}
 use Rattle.state_order_queue.specs.declared.Queue.{Queue}
 use Rattle.state_order_queue.specs.Queues.{firstSet, endsFit, isValid, dequeued}
-use Rattle.state_order_queue.proofs.Flags.{and-true}
+use Rattle.sheet.proofs.Apart.{both}
 
 -- the ends of a record with a back
 pub ends-bound : (front b : ℕ) (back : Back) → back ≡ At b → endsFit front back ≡ true → (front ≤ nodeLimit) × (b < nodeLimit)
-ends-bound front b back e h = let k = and-true _ _ (rw e at h) in (leb-true _ _ (k .0), ltb-true _ _ (k .1))
+ends-bound front b back e h = let k = both _ _ (rw e at h) in (leb-true _ _ (k .0), ltb-true _ _ (k .1))
 
 pub valid-bound : (q : Queue) (b : ℕ) → q .back ≡ At b → isValid q ≡ true → b < nodeLimit
 unfolding isValid
-valid-bound q b e h = ends-bound (q .front) b (q .back) e (and-true _ _ (and-true _ _ h .0) .0) .1
+valid-bound q b e h = ends-bound (q .front) b (q .back) e (both _ _ (both _ _ h .0) .0) .1
 
 -- ---- taking, by the way the code goes
 module _ (q : Queue) where

@@ -16,7 +16,8 @@ use Rattle.state_order_queue.specs.declared.Back.the-variants.{None, At}
 use Rattle.state_order_queue.specs.declared.Queue.{Queue}
 use Rattle.state_order_queue.specs.Queues.{firstSet, holds, emptyFrom, isEmpty, isValid, emptied, frontWith, backWith, enqueued, dequeued}
 use Rattle.state_order_queue.specs.Conditions.{Accepted}
-use Rattle.state_order_queue.proofs.Flags.{and-true, first-bounds, first-clear, first-flag, flag-put, flag-taken}
+use Rattle.sheet.proofs.Apart.{both, not-both}
+use Rattle.state_order_queue.proofs.Flags.{first-bounds, first-clear, first-flag, flag-put, flag-taken}
 use Rattle.state_order_queue.proofs.Records.{dequeued-at}
 use Rattle.state_order_queue.proofs.Accepts.{none-at, at-none, at-same, valid-exactly}
 
@@ -33,7 +34,7 @@ or-either true b h = inl refl
 or-either false b h = inr h
 
 pub clash : {A : Type 0} {t : Bool} → t ≡ false → t ≡ true → A
-clash {A} {t} h k = let z : _≡_ {A = ℕ} 0 1 = cc in absurd (omega arith)
+clash {A} {t} h k = absurd (not-both k h)
 
 -- ---- a new queue
 pub emptied-full : length (emptied .flags) ≡ nodeLimit
@@ -159,7 +160,7 @@ module _ (q : Queue) (full : length (q .flags) ≡ nodeLimit) where
     rest-accepted = record {
       front-fits = omega (arith, a .back-fits b e, bounds);
       back-fits = λ c d. rw (sym (at-same d)) (a .back-fits b e);
-      inside = λ c v d i h. let m = a .inside b v e i (and-true (not (eqb v (q .front))) (holds q v) (sym (rest-holds v) ∙ h) .1) in rw (sym (at-same d)) (after v (m .0) h (ltb v next) refl, m .1);
+      inside = λ c v d i h. let m = a .inside b v e i (both (not (eqb v (q .front))) (holds q v) (sym (rest-holds v) ∙ h) .1) in rw (sym (at-same d)) (after v (m .0) h (ltb v next) refl, m .1);
       none-set = λ v d i. at-none d;
       first-set = λ c d i. first-flag rest (b + 1 - q .front) (q .front) (omega (arith, at-same d));
       last-set = λ c d i. rw (sym (at-same d)) (last (omega (arith, at-same d)) (ℕ-discrete b (q .front)));
