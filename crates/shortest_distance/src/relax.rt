@@ -33,19 +33,8 @@ fn relax_link(k: Link, distance: f32, work: &mut [u32]) -> bool
     word == INFINITE
 }
 
-// Relaxes link number l, and puts its next node in at the first distance that the node gets.
-fn relax_one(sheet: &[u8], l: usize, distance: f32, work: &mut [u32], q: Queue) -> Queue
-    requires { ⌜ (16 * l + 16 ≤ length (now sheet)) × (8 * wordAt (now sheet) (16 * l + 12) < length (now work)) × (wordAt (now sheet) (16 * l + 12) < nodeLimit) ⌝ }
-    ensures { λ r. ⌜ (r ≡ relaxLink (linkAt (now (sheet .entry)) l) distance (record { work = now (work .entry); queue = q }) .queue) × (now (work .exit) ≡ relaxLink (linkAt (now (sheet .entry)) l) distance (record { work = now (work .entry); queue = q }) .work) ⌝ }
-{
-    let k = sheet::tr::link_at(sheet, l);
-    if relax_link(k, distance, work) {
-        return state_order_queue::put(q, k.nextstate);
-    }
-    q
-}
-
-// Relaxes so many links from a number on.
+// Relaxes so many links from a number on, and puts each next node in at the first distance that it
+// gets: the queue goes by value, so no call takes it but then.
 fn relax_links(
     sheet: &[u8],
     first: u32,
@@ -60,13 +49,10 @@ fn relax_links(
     let mut queue = q;
     let mut i = 0u32;
     while i < count {
-        queue = relax_one(
-            sheet,
-            (first as usize) + (i as usize),
-            distance,
-            work,
-            queue,
-        );
+        let k = sheet::tr::link_at(sheet, (first as usize) + (i as usize));
+        if relax_link(k, distance, work) {
+            queue = state_order_queue::put(queue, k.nextstate);
+        }
         i += 1;
     }
     queue
