@@ -7,40 +7,20 @@ text of the requirements with exact fractions and shares nothing with the librar
 
     python3 tools/distance_cases.py > crates/replay_distances/stdin
 """
-import math, random, struct
+import random, struct
 from fractions import Fraction
+from sheets import A, NONE, f, fields, read_number, real, sheet, with_word
 
-NONE = 0xFFFFFFFF
 INFINITY = 0x7F800000
-
-def on_grid(bits):
-    x = struct.unpack('<f', struct.pack('<I', bits))[0]
-    if not math.isfinite(x) or bits == 0x80000000: return False
-    k = Fraction(x) * 64
-    return k.denominator == 1 and abs(k) <= 4096
-
-def fields(b):
-    _, _, n, t, start = struct.unpack('<5I', b[-20:])
-    links = [struct.unpack_from('<4I', b, 16 * l) for l in range(t)]
-    nodes = [struct.unpack_from('<3I', b, 16 * t + 12 * v) for v in range(n)]
-    return links, nodes, start
 
 def sources(nodes): return [v for v, (count, _, _) in enumerate(nodes) for _ in range(count)]
 
 def number(b):
     """the refusal from the input, 1 to 6, or 0"""
-    if len(b) < 20: return 1
-    link_offset, node_offset, n, t, start = struct.unpack('<5I', b[-20:])
-    if link_offset != 0 or node_offset != 16 * t or len(b) != 16 * t + 12 * n + 20: return 1
-    links, nodes, start = fields(b)
-    for count, mark, bits in nodes:
-        if mark not in (0, 1) or (mark == 0 and bits != 0): return 1
-    if sum(count for count, _, _ in nodes) != t: return 1
-    if not (start < n or start == NONE): return 2
-    if any(nxt >= n for _, _, _, nxt in links): return 3
-    if any(not on_grid(bits) for _, _, bits, _ in links): return 4
-    if any(mark == 1 and not on_grid(bits) for _, mark, bits in nodes): return 4
-    if n > 4096 or t > 16384: return 5
+    k = read_number(b)
+    if k: return k
+    links, nodes, _ = fields(b)
+    if len(nodes) > 4096 or len(links) > 16384: return 5
     if any(link[3] <= v for v, link in zip(sources(nodes), links)): return 6
     return 0
 
@@ -52,14 +32,14 @@ def distances(b):
     least[start] = Fraction(0)
     for v, (_, _, bits, nxt) in zip(sources(nodes), links):
         if least[v] is None: continue
-        to = least[v] + Fraction(struct.unpack('<f', struct.pack('<I', bits))[0])
+        to = least[v] + Fraction(real(bits))
         if least[nxt] is None or to < least[nxt]: least[nxt] = to
     return least[:1 + max(v for v, d in enumerate(least) if d is not None)]
 
 def value(d):
     if d is None: return INFINITY
     bits = f(float(d))
-    assert Fraction(struct.unpack('<f', struct.pack('<I', bits))[0]) == d
+    assert Fraction(real(bits)) == d
     return bits
 
 def outcome(b, words, room):
@@ -72,19 +52,11 @@ def outcome(b, words, room):
     if room < 4 * len(ws): return 21, 8 * n, b''
     return 0, 8 * n, struct.pack('<%dI' % len(ws), *ws)
 
-def f(x): return struct.unpack('<I', struct.pack('<f', x))[0]
-
-def sheet(links, nodes, start):
-    ws = [w for l in links for w in l] + [w for v in nodes for w in v] + [0, 16 * len(links), len(nodes), len(links), start]
-    return struct.pack('<%dI' % len(ws), *ws)
-
 def climbing(n, ways, start):
     """a sheet of n nodes from (source, weight, next), none of its nodes final but the last"""
     ways = sorted(ways, key=lambda w: w[0])
     links = [(i + 1, i + 1, f(weight), nxt) for i, (_, weight, nxt) in enumerate(ways)]
     return sheet(links, [(sum(w[0] == v for w in ways), int(v == n - 1), 0) for v in range(n)], start)
-
-def with_word(b, i, w): return b[:4 * i] + struct.pack('<I', w) + b[4 * i + 4:]
 
 def raised(block):
     w = struct.unpack('<H', block[-4:-2])[0]
@@ -126,8 +98,6 @@ def case(what, b, words=None, room=None):
     assert read(written(b)) == b and read(written(answer)) == answer
     lines.append(f'{k} {words} {room} {zeros} {len(b)} {written(b)} {written(answer)} # {what}')
 
-A = sheet([(1, 1, f(1), 1), (2, 2, f(.5), 2), (3, 3, f(.25), 3), (5, 5, f(0), 2), (4, 4, f(.75), 3)],
-          [(2, 0, 0), (2, 0, 0), (1, 0, 0), (0, 1, f(.5))], 0)
 EMPTY = sheet([], [], NONE)
 TRAILER = len(A) // 4 - 5
 NAMES = ['link offset', 'node offset', 'node count', 'link count', 'start']

@@ -1,46 +1,13 @@
 #!/usr/bin/env python3
 """Writes the cases that crates/replay_sheets replays: a line a case, the number that reading must answer (0: accepted), the bytes in
-hexadecimal, and what the case is. The numbers come from `number` below, which follows the text of the requirements with exact fractions
-and shares nothing with the library.
+hexadecimal, and what the case is. The numbers come from `read_number` of sheets.py, which follows the text of the requirements with exact
+fractions and shares nothing with the library.
 
     python3 tools/sheet_cases.py > crates/replay_sheets/stdin
 """
-import itertools, math, random, struct
-from fractions import Fraction
+import itertools, random, struct
+from sheets import A, NONE, f, read_number, sheet, with_word
 
-NONE = 0xFFFFFFFF
-
-def on_grid(bits):
-    x = struct.unpack('<f', struct.pack('<I', bits))[0]
-    if not math.isfinite(x) or bits == 0x80000000: return False
-    k = Fraction(x) * 64
-    return k.denominator == 1 and abs(k) <= 4096
-
-def number(b):
-    if len(b) < 20: return 1
-    link_offset, node_offset, n, t, start = struct.unpack('<5I', b[-20:])
-    if link_offset != 0 or node_offset != 16 * t or len(b) != 16 * t + 12 * n + 20: return 1
-    links = [struct.unpack_from('<4I', b, 16 * l) for l in range(t)]
-    nodes = [struct.unpack_from('<3I', b, 16 * t + 12 * v) for v in range(n)]
-    for count, mark, bits in nodes:
-        if mark not in (0, 1) or (mark == 0 and bits != 0): return 1
-    if sum(count for count, _, _ in nodes) != t: return 1
-    if not (start < n or start == NONE): return 2
-    if any(nxt >= n for _, _, _, nxt in links): return 3
-    if any(not on_grid(bits) for _, _, bits, _ in links): return 4
-    if any(mark == 1 and not on_grid(bits) for _, mark, bits in nodes): return 4
-    return 0
-
-def f(x): return struct.unpack('<I', struct.pack('<f', x))[0]
-
-def sheet(links, nodes, start):
-    ws = [w for l in links for w in l] + [w for v in nodes for w in v] + [0, 16 * len(links), len(nodes), len(links), start]
-    return struct.pack('<%dI' % len(ws), *ws)
-
-def with_word(b, i, w): return b[:4 * i] + struct.pack('<I', w) + b[4 * i + 4:]
-
-A = sheet([(1, 1, f(1), 1), (2, 2, f(.5), 2), (3, 3, f(.25), 3), (5, 5, f(0), 2), (4, 4, f(.75), 3)],
-          [(2, 0, 0), (2, 0, 0), (1, 0, 0), (0, 1, f(.5))], 0)
 EMPTY = sheet([], [], NONE)
 ONE = sheet([], [(0, 1, f(-2))], 0)
 TWO = sheet([(7, 9, f(3), 1)], [(1, 0, 0), (0, 1, f(1))], 0)
@@ -66,7 +33,7 @@ def bad(b, i):
     return w + 1 & NONE
 
 cases = []
-def case(what, b): cases.append((number(b), b, what))
+def case(what, b): cases.append((read_number(b), b, what))
 
 for n in range(41):
     case(f'{n} zero bytes', bytes(n)); case(f'{n} bytes of FF', b'\xff' * n)

@@ -2,7 +2,7 @@
 // that points back; every field is 32-bit and little-endian.
 pub mod read;
 pub mod reader;
-pub mod tests;
+mod tests;
 pub mod tr;
 pub mod words;
 pub mod write;
