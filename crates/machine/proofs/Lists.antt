@@ -2,11 +2,13 @@
 use mathlib.Core.Path.{_≡_, refl, sym, ap, _∙_, subst}
 use mathlib.Core.Logic.{_⊎_, inl, inr}
 use mathlib.Core.List.{List, [], _∷_, _++_, map, List·Memᴰ·head, List·Memᴰ·tail, List·Memᴰ·cases-cons, List·Memᴰ·not-nil, List·Memᴰ·append-cases, List·Memᴰ·eq-of-singleton, Memᴰ·append-left, Memᴰ·append-right}
-use Prim.Native.Nat.{ℕ, zero, suc, _<_}
+use mathlib.Core.Bool.{Bool, true, false, cond}
+use Prim.Native.Nat.{ℕ, zero, suc, _+_, _≤_, _<_}
 use native.Mathlib.Decide.{ℕ-discrete}
 use native.Mathlib.Omega.{arith}
-use lib.ListN.{length}
+use lib.ListN.{length, length-append}
 use Rattle.sheet.specs.Below.{listBelow}
+use Rattle.sheet.proofs.Apart.{not-both}
 use Rattle.machine.specs.Demand.{_∈_, NoDup}
 
 -- ---- members
@@ -66,9 +68,20 @@ pub nodup-apart : {A : Type 0} (l k : List A) → NoDup (l ++ k) → (a : A) →
 nodup-apart [] k n a p q = List·Memᴰ·not-nil p
 nodup-apart (x ∷ l) k n a p q = elim (List·Memᴰ·cases-cons p) [ inl e ↦ n .0 (Memᴰ·append-right l (mem-eq e q)) | inr h ↦ nodup-apart l k (n .1) a h q ]
 
+pub nodup-end : {A : Type 0} (l k : List A) → NoDup (l ++ k) → NoDup k
+nodup-end [] k n = n
+nodup-end (x ∷ l) k n = nodup-end l k (n .1)
+
+-- of a map that tells the members apart
+pub nodup-map-in : {A B : Type 0} (f : A → B) (l : List A) → ((a b : A) → a ∈ l → b ∈ l → f a ≡ f b → a ≡ b) → NoDup l → NoDup (map f l)
+nodup-map-in f [] inj n = tt
+nodup-map-in f (x ∷ l) inj n = (
+  λ m. let r = mem-map f l m in n .0 (mem-eq (sym (inj x (r .0) (here x l) (List·Memᴰ·tail (r .1)) (r .2))) (r .1)),
+  nodup-map-in f l (λ a b p q. inj a b (List·Memᴰ·tail p) (List·Memᴰ·tail q)) (n .1),
+)
+
 pub nodup-map : {A B : Type 0} (f : A → B) (l : List A) → ((a b : A) → f a ≡ f b → a ≡ b) → NoDup l → NoDup (map f l)
-nodup-map f [] inj n = tt
-nodup-map f (x ∷ l) inj n = (λ m. let r = mem-map f l m in n .0 (mem-eq (sym (inj x (r .0) (r .2))) (r .1)), nodup-map f l inj (n .1))
+nodup-map f l inj n = nodup-map-in f l (λ a b p q. inj a b) n
 
 -- ---- permutations
 pub data Perm {A : Type 0} : List A → List A → Type 0 where
@@ -135,3 +148,87 @@ leftover {A} (x ∷ l) k n f =
     go : (a : A) {j : List A} → a ∈ l → (a ≡ x) ⊎ a ∈ j → a ∈ j
     go a m (inl e) = absurd (n .0 (mem-eq e m))
     go a m (inr q) = q
+
+pub perm-eq : {A : Type 0} {l k : List A} → l ≡ k → Perm l k
+perm-eq {l} e = subst (Perm l) e (perm-refl l)
+
+pub perm-left : {A : Type 0} (a : List A) {l k : List A} → Perm l k → Perm (a ++ l) (a ++ k)
+perm-left [] p = p
+perm-left (x ∷ a) p = skip x (perm-left a p)
+
+pub perm-right : {A : Type 0} (a : List A) {l k : List A} → Perm l k → Perm (l ++ a) (k ++ a)
+perm-right a same = perm-refl a
+perm-right a (skip x p) = skip x (perm-right a p)
+perm-right a (flip x y l) = flip x y (l ++ a)
+perm-right a (thru p q) = thru (perm-right a p) (perm-right a q)
+
+-- one in the middle put first
+pub perm-middle : {A : Type 0} (l : List A) (x : A) (k : List A) → Perm (l ++ (x ∷ k)) (x ∷ (l ++ k))
+perm-middle [] x k = perm-refl (x ∷ k)
+perm-middle (y ∷ l) x k = thru (skip y (perm-middle l x k)) (flip y x (l ++ k))
+
+-- a list without repeats is no longer than one that has all its members
+pub nodup-length : {A : Type 0} (l k : List A) → NoDup l → ((a : A) → a ∈ l → a ∈ k) → length l ≤ length k
+nodup-length l k n f = let r = leftover l k n f in omega (arith, perm-length (r .1), length-append l (r .0))
+
+-- and where it is no shorter it has all of it
+pub nodup-fills : {A : Type 0} (l k : List A) → NoDup l → ((a : A) → a ∈ l → a ∈ k) → length k ≤ length l → (a : A) → a ∈ k → a ∈ l
+nodup-fills {A} l k n f b a h = let r = leftover l k n f in go (r .0) (omega (arith, perm-length (r .1), length-append l (r .0))) (List·Memᴰ·append-cases l (perm-mem (r .1) h))
+  where
+    go : (j : List A) → length j ≡ 0 → a ∈ l ⊎ a ∈ j → a ∈ l
+    go j e (inl q) = q
+    go [] e (inr q) = absurd (List·Memᴰ·not-nil q)
+    go (x ∷ j) e (inr q) = absurd (omega (arith, e))
+
+-- ---- each member passes, or one fails
+pub each-or : {A P : Type 0} {Q : A → Type 0} (l : List A) → ((a : A) → a ∈ l → Q a ⊎ P) → ((a : A) → a ∈ l → Q a) ⊎ P
+each-or [] f = inl (λ a h. absurd (List·Memᴰ·not-nil h))
+each-or {A} {P} {Q} (x ∷ l) f = go (f x (here x l)) (each-or l (λ a h. f a (List·Memᴰ·tail h)))
+  where
+    go : Q x ⊎ P → ((a : A) → a ∈ l → Q a) ⊎ P → ((a : A) → a ∈ (x ∷ l) → Q a) ⊎ P
+    go (inr p) g = inr p
+    go (inl q) (inr p) = inr p
+    go (inl q) (inl g) = inl (λ a h. elim (List·Memᴰ·cases-cons h) [ inl e ↦ subst Q (sym e) q | inr k ↦ g a k ])
+
+-- ---- the members that pass a test
+unfoldable pub keep : {A : Type 0} → (A → Bool) → List A → List A
+keep p [] = []
+keep p (x ∷ l) = cond (p x) (x ∷ keep p l) (keep p l)
+
+pub keep-append : {A : Type 0} (p : A → Bool) (l k : List A) → keep p (l ++ k) ≡ keep p l ++ keep p k
+unfolding keep
+keep-append p [] k = refl
+keep-append {A} p (x ∷ l) k = go (p x) (keep-append p l k)
+  where
+    go : (t : Bool) → keep p (l ++ k) ≡ keep p l ++ keep p k → cond t (x ∷ keep p (l ++ k)) (keep p (l ++ k)) ≡ cond t (x ∷ keep p l) (keep p l) ++ keep p k
+    go true e = ap (λ r. x ∷ r) e
+    go false e = e
+
+pub keep-mem : {A : Type 0} (p : A → Bool) (l : List A) {a : A} → a ∈ keep p l → (a ∈ l) × (p a ≡ true)
+unfolding keep
+keep-mem p [] h = absurd (List·Memᴰ·not-nil h)
+keep-mem p (x ∷ l) {a} h = go (p x) refl h (λ q. keep-mem p l q)
+  where
+    go : (t : Bool) → p x ≡ t → a ∈ cond t (x ∷ keep p l) (keep p l) → (a ∈ keep p l → (a ∈ l) × (p a ≡ true)) → (a ∈ (x ∷ l)) × (p a ≡ true)
+    go true e h ih = elim (List·Memᴰ·cases-cons h) [ inl z ↦ (List·Memᴰ·head z, ap p z ∙ e) | inr q ↦ let y = ih q in (List·Memᴰ·tail (y .0), y .1) ]
+    go false e h ih = let y = ih h in (List·Memᴰ·tail (y .0), y .1)
+
+pub mem-keep : {A : Type 0} (p : A → Bool) (l : List A) {a : A} → a ∈ l → p a ≡ true → a ∈ keep p l
+unfolding keep
+mem-keep p [] h e = absurd (List·Memᴰ·not-nil h)
+mem-keep p (x ∷ l) {a} h e = go (p x) refl (List·Memᴰ·cases-cons h) (λ q. mem-keep p l q e)
+  where
+    go : (t : Bool) → p x ≡ t → (a ≡ x) ⊎ a ∈ l → (a ∈ l → a ∈ keep p l) → a ∈ cond t (x ∷ keep p l) (keep p l)
+    go true f (inl z) ih = List·Memᴰ·head z
+    go true f (inr q) ih = List·Memᴰ·tail (ih q)
+    go false f (inl z) ih = absurd (not-both (ap p (sym z) ∙ e) f)
+    go false f (inr q) ih = ih q
+
+pub keep-nodup : {A B : Type 0} (f : A → B) (p : A → Bool) (l : List A) → NoDup (map f l) → NoDup (map f (keep p l))
+unfolding keep
+keep-nodup f p [] n = tt
+keep-nodup f p (x ∷ l) n = go (p x) (keep-nodup f p l (n .1))
+  where
+    go : (t : Bool) → NoDup (map f (keep p l)) → NoDup (map f (cond t (x ∷ keep p l) (keep p l)))
+    go true k = (λ h. let y = mem-map f (keep p l) h in n .0 (mem-eq (sym (y .2)) (map-mem f (keep-mem p l (y .1) .0))), k)
+    go false k = k

@@ -2,12 +2,12 @@
 use mathlib.Core.Path.{_≡_, refl, sym, ap, _∙_, subst}
 use mathlib.Core.Logic.{_⊎_, inl, inr}
 use mathlib.Core.Bool.{Bool, true, false, cond}
-use mathlib.Core.List.{List, [], _∷_, _++_, List·Memᴰ·tail, List·Memᴰ·cases-cons, List·Memᴰ·not-nil, List·Memᴰ·append-cases, Memᴰ·append-left, Memᴰ·append-right}
+use mathlib.Core.List.{List, [], _∷_, _++_, map, List·Memᴰ·tail, List·Memᴰ·cases-cons, List·Memᴰ·not-nil, List·Memᴰ·append-cases, List·Memᴰ·eq-of-singleton, Memᴰ·append-left, Memᴰ·append-right}
 use lib.Dec.{T}
 use Rattle.tropical_weight.specs.Tropical.{Tropical, leT, _≼_}
 use Rattle.tropical_weight.proofs.Semiring.{≼-eq, ≼-trans, ≼-antisym, ≼-total}
 use Rattle.machine.specs.Demand.{_∈_, RisesFrom, Rises, insert, sort}
-use Rattle.machine.proofs.Lists.{Perm, same, skip, flip, thru, perm-refl, perm-mem, here}
+use Rattle.machine.proofs.Lists.{Perm, same, skip, flip, thru, perm-refl, perm-mem, here, mem-eq, map-mem, mem-map, keep, keep-mem}
 
 -- ---- insertion, by the order
 dec : (a b : Tropical) → (a ≼ b) ⊎ (a ≼ b → ⊥)
@@ -140,6 +140,24 @@ ordered-front (a ∷ l) k o = (λ b h. o .0 b (Memᴰ·append-left k h), ordered
 pub ordered-across : (l k : List Tropical) → Ordered (l ++ k) → (a b : Tropical) → a ∈ l → b ∈ k → a ≼ b
 ordered-across [] k o a b p q = absurd (List·Memᴰ·not-nil p)
 ordered-across (x ∷ l) k o a b p q = elim (List·Memᴰ·cases-cons p) [ inl e ↦ ≼-trans (≼-eq e) (o .0 b (Memᴰ·append-right l q)) | inr h ↦ ordered-across l k (o .1) a b h q ]
+
+-- one more at the end
+pub ordered-snoc : (l : List Tropical) (b : Tropical) → Ordered l → ((a : Tropical) → a ∈ l → a ≼ b) → Ordered (l ++ (b ∷ []))
+ordered-snoc [] b o f = (λ a h. absurd (List·Memᴰ·not-nil h), tt)
+ordered-snoc (x ∷ l) b o f = (
+  λ a h. elim (List·Memᴰ·append-cases l h) [ inl q ↦ o .0 a q | inr q ↦ ≼-trans (f x (here x l)) (≼-eq (sym (List·Memᴰ·eq-of-singleton q))) ],
+  ordered-snoc l b (o .1) (λ a h. f a (List·Memᴰ·tail h)),
+)
+
+-- some of them
+pub ordered-keep : {A : Type 0} (f : A → Tropical) (p : A → Bool) (l : List A) → Ordered (map f l) → Ordered (map f (keep p l))
+unfolding keep
+ordered-keep f p [] o = tt
+ordered-keep f p (x ∷ l) o = go (p x) (ordered-keep f p l (o .1))
+  where
+    go : (t : Bool) → Ordered (map f (keep p l)) → Ordered (map f (cond t (x ∷ keep p l) (keep p l)))
+    go true k = (λ b h. let y = mem-map f (keep p l) h in o .0 b (mem-eq (sym (y .2)) (map-mem f (keep-mem p l (y .1) .0))), k)
+    go false k = k
 
 insert-low : (a : Tropical) (l : List Tropical) → ((b : Tropical) → b ∈ l → a ≼ b) → insert a l ≡ a ∷ l
 unfolding insert

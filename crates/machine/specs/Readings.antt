@@ -38,6 +38,11 @@ pub record Reading : Type 0 where
   pub run : List ℕ
   pub end : ℕ
 
+-- the start, or 0 where there is none
+abbrev pub nodeOr : Option ℕ → ℕ
+nodeOr none = 0
+nodeOr (some s) = s
+
 -- A reading leads from the start to a node with mark 1, over any number of links. No start, no reading.
 pub record IsReading (m : Machine) (x : Reading) : Type 0 where
   pub from : ℕ
@@ -45,6 +50,15 @@ pub record IsReading (m : Machine) (x : Reading) : Type 0 where
   pub starts : m .start ≡ some from
   pub runs : IsRun m from (x .run) (x .end)
   pub marked : final m (x .end) ≡ some weight
+
+-- the node that a run from u leads to
+abbrev pub endFrom : Machine → ℕ → List ℕ → ℕ
+endFrom m u [] = u
+endFrom m u (l ∷ r) = endFrom m (link m l .next) r
+
+-- a run from the start as a reading; where there is no start there is none
+abbrev pub readingOf : Machine → List ℕ → Reading
+readingOf m r = record { run = r; end = endFrom m (nodeOr (m .start)) r }
 
 -- the weight of ending at a node: infinite where its mark is 0
 abbrev pub finalWeight : Option Tropical → Tropical

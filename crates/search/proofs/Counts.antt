@@ -8,7 +8,7 @@ use native.Mathlib.Omega.{arith}
 use lib.Dec.{eqb}
 use lib.ListN.{length, getD, set, take, length-set}
 use lib.Seq.{getD-set-same, getD-set-other, take-suc, take-length}
-use borrow.Author.Tests.{eqb-true, eq-eqb}
+use borrow.Author.Tests.{eqb-true, eq-eqb, ne-eqb}
 use Rattle.machine.specs.Demand.{_∈_}
 use Rattle.machine.proofs.Lists.{Perm, same, skip, thru, perm-sym, pull}
 
@@ -34,6 +34,14 @@ occurs-append x (y ∷ l) k = omega (arith, occurs-append x l k)
 pub occurs-last : (x y : ℕ) (l : List ℕ) → occurs x (l ++ (y ∷ [])) ≡ occurs x (y ∷ l)
 unfolding occurs
 occurs-last x y l = omega (arith, occurs-append x l (y ∷ []))
+
+pub occurs-here : (x : ℕ) (l : List ℕ) → occurs x (x ∷ l) ≡ suc (occurs x l)
+unfolding occurs
+occurs-here x l = omega (arith, one-self x)
+
+pub occurs-other : (x y : ℕ) (l : List ℕ) → (x ≡ y → ⊥) → occurs x (y ∷ l) ≡ occurs x l
+unfolding occurs one-if
+occurs-other x y l n = ap (λ b. cond b 1 0 + occurs x l) (ne-eqb x y n) ∙ omega arith
 
 occurs-in : (x : ℕ) (l : List ℕ) → 0 < occurs x l → x ∈ l
 unfolding occurs one-if

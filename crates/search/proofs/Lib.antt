@@ -3,3 +3,12 @@ pub mod Counts
 pub mod Contents
 pub mod HeapOrder
 pub mod Ranks
+pub mod Trails
+pub mod Backwards
+pub mod Unreversed
+pub mod Fans
+pub mod BestFirst
+pub mod Mirror
+pub mod Steps
+pub mod Ran
+pub mod Complete

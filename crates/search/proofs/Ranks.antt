@@ -81,3 +81,7 @@ module _ (r : Reversed) (es : List Put) where
         record { not-before = failing (rankOf c) (half c) (rankOf a) (half a) (≼-trans (x .0) (y .0), λ l m. x .1 (≼-trans (y .0) l) (y .1 (≼-trans l (x .0)) m)) };
     other-way = λ a b h. record { not-before = failing (rankOf b) (half b) (rankOf a) (half a) (turned (rankOf a) (half a) (rankOf b) (half b) h) };
   }
+
+  -- one that the test does not put before another ranks no lower
+  pub ranks-follow : (i j : ℕ) → before r es j i ≡ false → rankOf i ≼ rankOf j
+  ranks-follow i j e = fails (rankOf j) (half j) (rankOf i) (half i) e .0

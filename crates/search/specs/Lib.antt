@@ -1,3 +1,5 @@
 pub mod Heap
 pub mod Reversed
 pub mod Search
+pub mod ListMachine
+pub mod Listed

@@ -3,8 +3,8 @@ use mathlib.Core.Path.{_≡_, refl, sym, ap, _∙_, subst}
 use mathlib.Core.Logic.{_⊎_, inl, inr}
 use mathlib.Core.Bool.{Bool, true, false, not, _&&_}
 use mathlib.Core.List.{List, [], _∷_, _++_}
-use Prim.Native.Nat.{ℕ, zero, suc, _+_, _-_, _≤_, _<_}
-use native.Mathlib.Nat.{le-of-eq, eq-or-lt-of-le}
+use Prim.Native.Nat.{ℕ, zero, suc, _+_, _-_, _*_, _≤_, _<_}
+use native.Mathlib.Nat.{le-of-eq, eq-or-lt-of-le, mul-zero, mul-add}
 use native.Mathlib.Numerals.{add-one}
 use native.Mathlib.Omega.{arith}
 use lib.Dec.{T, ltb, ltb→lt, nltb→le}
@@ -87,3 +87,43 @@ sum-mono f (suc b) a h = go (eq-or-lt-of-le h) (λ k. sum-mono f b a k)
     go : (a ≡ suc b) ⊎ (a < suc b) → (a ≤ b → sumBelow a f ≤ sumBelow b f) → sumBelow a f ≤ sumBelow b f + f b
     go (inl e) r = le-of-eq (ap (λ (k : ℕ). sumBelow k f) e)
     go (inr l) r = let k : sumBelow a f ≤ sumBelow b f = r (omega arith) in omega arith
+
+-- ---- sums compared, added and multiplied, and the sum of what is 0 but at one number
+pub sumBelow-le : (n : ℕ) (f g : ℕ → ℕ) → ((i : ℕ) → i < n → f i ≤ g i) → sumBelow n f ≤ sumBelow n g
+unfolding sumBelow
+sumBelow-le zero f g h = omega arith
+sumBelow-le (suc n) f g h = omega (arith, sumBelow-le n f g (λ i k. h i (omega arith)), h n (omega arith))
+
+pub sumBelow-add : (n : ℕ) (f g : ℕ → ℕ) → sumBelow n (λ i. f i + g i) ≡ sumBelow n f + sumBelow n g
+unfolding sumBelow
+sumBelow-add zero f g = omega arith
+sumBelow-add (suc n) f g = omega (arith, sumBelow-add n f g)
+
+pub sumBelow-times : (k n : ℕ) (f : ℕ → ℕ) → sumBelow n (λ i. k * f i) ≡ k * sumBelow n f
+unfolding sumBelow
+sumBelow-times k zero f = sym (mul-zero k)
+sumBelow-times k (suc n) f = omega (arith, sumBelow-times k n f, mul-add k (sumBelow n f) (f n))
+
+-- the first summand apart
+pub sumBelow-first : (n : ℕ) (f : ℕ → ℕ) → sumBelow (suc n) f ≡ f 0 + sumBelow n (λ i. f (suc i))
+unfolding sumBelow
+sumBelow-first zero f = omega arith
+sumBelow-first (suc n) f = omega (arith, sumBelow-first n f)
+
+pub sumBelow-none : (n : ℕ) (f : ℕ → ℕ) → ((i : ℕ) → i < n → f i ≡ 0) → sumBelow n f ≡ 0
+unfolding sumBelow
+sumBelow-none zero f h = refl
+sumBelow-none (suc n) f h = omega (arith, sumBelow-none n f (λ i k. h i (omega arith)), h n (omega arith))
+
+-- what is 0 but at x, where x is below the bound, and where it may not be
+pub sumBelow-only : (n : ℕ) (f : ℕ → ℕ) (x : ℕ) → ((i : ℕ) → (i ≡ x → ⊥) → f i ≡ 0) → x < n → sumBelow n f ≡ f x
+unfolding sumBelow
+sumBelow-only zero f x h b = absurd (omega arith)
+sumBelow-only (suc n) f x h b = go (eq-or-lt-of-le (let k : x ≤ n = omega arith in k)) (sumBelow-only n f x h)
+  where
+    go : (x ≡ n) ⊎ (x < n) → (x < n → sumBelow n f ≡ f x) → sumBelow n f + f n ≡ f x
+    go (inl e) r = omega (arith, sumBelow-none n f (λ i k. h i (λ q. omega arith)), ap f e)
+    go (inr l) r = omega (arith, r l, h n (λ q. omega arith))
+
+pub sumBelow-most : (n : ℕ) (f : ℕ → ℕ) (x : ℕ) → ((i : ℕ) → (i ≡ x → ⊥) → f i ≡ 0) → sumBelow n f ≤ f x
+sumBelow-most n f x h = elim (split-at x n) [ inl b ↦ le-of-eq (sumBelow-only n f x h b) | inr b ↦ omega (arith, sumBelow-none n f (λ i k. h i (λ q. omega arith))) ]

@@ -2,13 +2,13 @@
 use Prim.Native.Nat.{ℕ, zero, suc}
 use mathlib.Core.Bool.{cond}
 use mathlib.Core.Option.{Option, none, some}
-use mathlib.Core.List.{List, [], _++_}
+use mathlib.Core.List.{List, [], _∷_, _++_, flatMap}
 use lib.Dec.{eqb}
 use lib.ListN.{getD, replicate}
-use lib.Ieee.{binary32, ofBits}
+use lib.Ieee.{binary32, ofBits, toBits}
 use Rattle.tropical_weight.specs.Limits.{unit}
 use Rattle.tropical_weight.specs.Tropical.{Tropical, fin}
-use Rattle.tropical_weight.specs.Grid.{unitsOf}
+use Rattle.tropical_weight.specs.Grid.{unitsOf, ofT}
 use Rattle.sheet.specs.Below.{listBelow}
 use Rattle.sheet.specs.Sheet.{Parts, noStart, linkCount, nodeCount, ilabel, olabel, linkBits, next, count, mark, finalBits}
 
@@ -58,4 +58,41 @@ machineOf p = record {
   links = listBelow (linkCount p) (linkOf p);
   finals = listBelow (nodeCount p) (λ v. finalOf (mark p v) (finalBits p v));
   start = startOf (p .start);
+}
+
+-- ---- as a sheet
+-- the field of a weight
+abbrev pub bitsOf : Tropical → ℕ
+bitsOf w = toBits binary32 (ofT unit w)
+
+abbrev pub linkFields : Link → List ℕ
+linkFields k = k .ilabel ∷ k .olabel ∷ bitsOf (k .weight) ∷ k .next ∷ []
+
+-- how many links leave v
+unfoldable pub leaving : List Link → ℕ → ℕ
+leaving [] v = 0
+leaving (k ∷ ks) v = cond (eqb (k .source) v) (suc (leaving ks v)) (leaving ks v)
+
+-- the mark of a node, and its final weight's field
+abbrev pub finalFields : Option Tropical → List ℕ
+finalFields none = 0 ∷ 0 ∷ []
+finalFields (some w) = 1 ∷ bitsOf w ∷ []
+
+-- the fields of the nodes from v on
+unfoldable pub nodeFields : List Link → ℕ → List (Option Tropical) → List ℕ
+unfolding leaving
+nodeFields ks v [] = []
+nodeFields ks v (f ∷ fs) = (leaving ks v ∷ finalFields f) ++ nodeFields ks (suc v) fs
+
+abbrev pub startField : Option ℕ → ℕ
+startField none = noStart
+startField (some s) = s
+
+-- a machine whose links stand by source, in the fields of a sheet
+unfoldable pub partsFor : Machine → Parts
+unfolding flatMap nodeFields
+partsFor m = record {
+  links = flatMap linkFields (m .links);
+  nodes = nodeFields (m .links) 0 (m .finals);
+  start = startField (m .start);
 }

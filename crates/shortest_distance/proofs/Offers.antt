@@ -14,7 +14,8 @@ use Rattle.tropical_weight.proofs.Semiring.{eqT-eq, zero-⊕}
 use Rattle.tropical_weight.proofs.Exact.{times-ofT, lesser-ofT, ofT-injective, bits-back}
 use Rattle.tropical_weight.proofs.Sums.{within-⊕}
 use Rattle.tropical_weight.proofs.Near.{approx-ofT, shortest-delta-small}
-use Rattle.shortest_distance.specs.Slots.{bitsOf, infinite}
+use Rattle.sheet.specs.Machine.{bitsOf}
+use Rattle.shortest_distance.specs.Slots.{infinite}
 use Rattle.shortest_distance.specs.Relaxation.{delta, offered, improves, relaxedWord, reaches}
 
 -- the unit is one that the laws cover

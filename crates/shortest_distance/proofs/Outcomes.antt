@@ -17,6 +17,7 @@ use Rattle.sheet.proofs.Below.{length-listBelow}
 use Rattle.sheet.proofs.Bytes.{length-bytesOfAll}
 use Rattle.sheet.proofs.Writing.{not-zero}
 use Rattle.sheet.proofs.Sources.{machine-nodes}
+use Rattle.sheet.specs.Machine.{bitsOf}
 use Rattle.machine.specs.Distance.{dist, distances, height}
 use Rattle.machine.specs.Input.{inputNumber}
 use Rattle.machine.proofs.Lists.{map-append}
@@ -25,7 +26,7 @@ use Rattle.machine.proofs.Reached.{height-le}
 use Rattle.state_order_queue.specs.Queues.{emptied}
 use Rattle.shortest_distance.specs.declared.Distances.{Distances}
 use Rattle.shortest_distance.specs.declared.Distances.the-variants.{Count, Refused}
-use Rattle.shortest_distance.specs.Slots.{infinite, bitsOf, distanceWord, distanceWords, heightIn, cleared}
+use Rattle.shortest_distance.specs.Slots.{infinite, distanceWord, distanceWords, heightIn, cleared}
 use Rattle.shortest_distance.specs.Handed.{handed, handedBy, handedOver}
 use Rattle.shortest_distance.specs.Outcome.{machine, answerOf, slotsNeeded, distanceNumber, distancesBy, distanceAnswer, workAfter, resultAfter}
 use Rattle.shortest_distance.specs.Sound.{Made}

@@ -21,7 +21,7 @@ use Rattle.tropical_weight.proofs.Exact.{bits-back}
 use Rattle.tropical_weight.proofs.Semiring.{⊕-comm, zero-⊕}
 use Rattle.tropical_weight.proofs.Sums.{within-mono, terms-within, limits}
 use Rattle.sheet.specs.Below.{sumBelow}
-use Rattle.sheet.specs.Machine.{Machine}
+use Rattle.sheet.specs.Machine.{Machine, bitsOf}
 use Rattle.sheet.specs.Records.{linkAt, countAt}
 use Rattle.sheet.proofs.Below.{sum-mono, split-at}
 use Rattle.machine.specs.Readings.{link}
@@ -31,7 +31,7 @@ use Rattle.machine.proofs.Relax.{row-size, relax-is}
 use Rattle.machine.proofs.Bounds.{row-within, step-within}
 use Rattle.state_order_queue.specs.Queues.{holds, isValid, isEmpty, enqueued, dequeued}
 use Rattle.state_order_queue.proofs.Sets.{enqueued-full, enqueued-holds, enqueued-valid, dequeued-full, dequeued-valid, empty-exactly, front-held, front-least, dequeued-holds}
-use Rattle.shortest_distance.specs.Slots.{bitsOf, distanceWord, firstWord}
+use Rattle.shortest_distance.specs.Slots.{distanceWord, firstWord}
 use Rattle.shortest_distance.specs.Relaxation.{State, relaxedWord, reaches, relaxLink, relaxLinks, relaxHead, relaxHeads}
 use Rattle.shortest_distance.proofs.Offers.{isFinite, finite-⊕, not-finite, relaxed-is, reaches-is}
 

@@ -16,7 +16,7 @@ use Rattle.tropical_weight.specs.Limits.{weightLimit, nodeLimit}
 use Rattle.tropical_weight.specs.Tropical.{Tropical, inf, one}
 use Rattle.tropical_weight.specs.Grid.{ofK}
 use Rattle.tropical_weight.proofs.Sums.{limits}
-use Rattle.sheet.specs.Machine.{Machine}
+use Rattle.sheet.specs.Machine.{Machine, bitsOf}
 use Rattle.sheet.proofs.Below.{split-at}
 use Rattle.machine.specs.Climbs.{Finite}
 use Rattle.machine.specs.Distance.{startRow, relax, dist, reached, heightBelow}
@@ -24,7 +24,7 @@ use Rattle.machine.proofs.Reached.{reached-finite, unreached-inf}
 use Rattle.machine.proofs.Bounds.{dist-limit}
 use Rattle.state_order_queue.specs.Queues.{holds, emptied, enqueued}
 use Rattle.state_order_queue.proofs.Sets.{emptied-full, emptied-valid, enqueued-full, enqueued-holds, enqueued-valid}
-use Rattle.shortest_distance.specs.Slots.{bitsOf, infinite, distanceWord, prepared, heightIn}
+use Rattle.shortest_distance.specs.Slots.{infinite, distanceWord, prepared, heightIn}
 use Rattle.shortest_distance.specs.Relaxation.{State}
 use Rattle.shortest_distance.proofs.Areas.{length-prepared, prepared-distance, prepared-first, prepared-beyond}
 use Rattle.shortest_distance.proofs.Offers.{isFinite, bits-inf, bits-finite}

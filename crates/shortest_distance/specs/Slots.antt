@@ -5,16 +5,8 @@ use mathlib.Core.Bool.{cond}
 use mathlib.Core.List.{List, _++_}
 use lib.Dec.{eqb}
 use lib.ListN.{getD, set, replicate, drop}
-use lib.Ieee.{binary32, toBits}
-use Rattle.tropical_weight.specs.Limits.{unit}
-use Rattle.tropical_weight.specs.Tropical.{Tropical}
-use Rattle.tropical_weight.specs.Grid.{ofT}
 use Rattle.sheet.specs.Below.{listBelow}
 use Rattle.sheet.specs.Records.{firstLink}
-
--- the bits of a distance
-abbrev pub bitsOf : Tropical → ℕ
-bitsOf w = toBits binary32 (ofT unit w)
 
 -- the bits of infinity
 abbrev pub infinite : ℕ

@@ -11,7 +11,8 @@ use Rattle.machine.specs.Distance.{dist}
 use Rattle.state_order_queue.specs.declared.Queue.{Queue}
 use Rattle.state_order_queue.specs.Queues.{holds, isValid}
 use Rattle.sheet.specs.Records.{countAt}
-use Rattle.shortest_distance.specs.Slots.{bitsOf, distanceWord, firstWord}
+use Rattle.sheet.specs.Machine.{bitsOf}
+use Rattle.shortest_distance.specs.Slots.{distanceWord, firstWord}
 use Rattle.shortest_distance.specs.Outcome.{machine, slotsNeeded}
 
 pub record Sound (bytes : List ℕ) (links nodes : ℕ) (work : List ℕ) (queue : Queue) : Type 0 where
