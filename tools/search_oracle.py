@@ -1,6 +1,7 @@
 #!/usr/bin/env python3
-"""The search for the n cheapest readings, from the text of the requirements, apart from the library: prints costs, readings and entries
-taken of the small machines whose values crates/search/proofs/Bench.antt states. Weights are in units.
+"""The search for the n cheapest readings, from the text of the requirements, apart from the library: prints costs, readings, entries
+taken, and the links of the trimmed list machine as (source, next, weight, input link or None), of the small machines whose values
+crates/search/proofs/Bench.antt states. Weights are in units.
 
     python3 tools/search_oracle.py
 """
@@ -71,7 +72,20 @@ class Search:
 
     def run(self):
         while self.heap and len(self.listed) < self.n: self.step()
-        return [self.entries[i][1] for i in self.listed], [self.reading(i) for i in self.listed], self.taken
+        return [self.entries[i][1] for i in self.listed], [self.reading(i) for i in self.listed], self.taken, self.trimmed()
+
+    def trimmed(self):
+        """entry i is state i + 1, and 0 the start; states that the start does not lead to, or that do not lead to state 1, go"""
+        links = [(0, i + 1, 0, None) for i in self.listed]
+        links += [(i + 1, e[2] + 1, e[1] - self.entries[e[2]][1], e[3]) for i, e in enumerate(self.entries) if i]
+        def closed(seen, step):
+            while True:
+                more = {step(k)[1] for k in links if step(k)[0] in seen} - seen
+                if not more: return seen
+                seen = seen | more
+        stay = sorted(closed({0}, lambda k: (k[0], k[1])) & closed({1}, lambda k: (k[1], k[0])))
+        number = {q: i for i, q in enumerate(stay)}
+        return [(number[s], number[t], w, l) for s, t, w, l in links if s in number and t in number]
 
 A = [(0, 64, 1), (0, 32, 2), (1, 16, 3), (1, 0, 2), (2, 48, 3)], [None, None, None, 32], 0
 B = [(0, 0, 1), (0, 0, 1), (1, 0, 2), (1, 0, 2), (1, 0, 2)], [None, None, 0], 0

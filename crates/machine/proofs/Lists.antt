@@ -1,12 +1,12 @@
 -- Laws of lists: members, lists without repeats, permutations, and what is left of a list. Assumes nothing.
 use mathlib.Core.Path.{_≡_, refl, sym, ap, _∙_, subst}
 use mathlib.Core.Logic.{_⊎_, inl, inr}
-use mathlib.Core.List.{List, [], _∷_, _++_, map, List·Memᴰ·head, List·Memᴰ·tail, List·Memᴰ·cases-cons, List·Memᴰ·not-nil, List·Memᴰ·append-cases, List·Memᴰ·eq-of-singleton, Memᴰ·append-left, Memᴰ·append-right}
+use mathlib.Core.List.{List, [], _∷_, _++_, map, append-nil, List·Memᴰ·head, List·Memᴰ·tail, List·Memᴰ·cases-cons, List·Memᴰ·not-nil, List·Memᴰ·append-cases, List·Memᴰ·eq-of-singleton, Memᴰ·append-left, Memᴰ·append-right}
 use mathlib.Core.Bool.{Bool, true, false, cond}
 use Prim.Native.Nat.{ℕ, zero, suc, _+_, _≤_, _<_}
 use native.Mathlib.Decide.{ℕ-discrete}
 use native.Mathlib.Omega.{arith}
-use lib.ListN.{length, length-append}
+use lib.ListN.{getD, length, length-append}
 use Rattle.sheet.specs.Below.{listBelow}
 use Rattle.sheet.proofs.Apart.{not-both}
 use Rattle.machine.specs.Demand.{_∈_, NoDup}
@@ -29,6 +29,11 @@ mem-map {A} f (x ∷ l) {b} m = go (λ q. mem-map f l q) (List·Memᴰ·cases-co
     go : (b ∈ map f l → (a : A) × (a ∈ l) × (b ≡ f a)) → (b ≡ f x) ⊎ b ∈ map f l → (a : A) × (a ∈ (x ∷ l)) × (b ≡ f a)
     go ih (inl e) = (x, here x l, e)
     go ih (inr q) = let r = ih q in (r .0, List·Memᴰ·tail (r .1), r .2)
+
+pub getD-mem : {A : Type 0} (l : List A) (d : A) (i : ℕ) → i < length l → getD l i d ∈ l
+getD-mem [] d i b = absurd (omega arith)
+getD-mem (x ∷ l) d zero b = here x l
+getD-mem (x ∷ l) d (suc i) b = List·Memᴰ·tail (getD-mem l d i (omega arith))
 
 -- of the list f 0, .., f (n - 1)
 pub below-mem : {A : Type 0} (f : ℕ → A) (n v : ℕ) → v < n → f v ∈ listBelow n f
@@ -166,6 +171,10 @@ perm-right a (thru p q) = thru (perm-right a p) (perm-right a q)
 pub perm-middle : {A : Type 0} (l : List A) (x : A) (k : List A) → Perm (l ++ (x ∷ k)) (x ∷ (l ++ k))
 perm-middle [] x k = perm-refl (x ∷ k)
 perm-middle (y ∷ l) x k = thru (skip y (perm-middle l x k)) (flip y x (l ++ k))
+
+pub perm-swap : {A : Type 0} (l k : List A) → Perm (l ++ k) (k ++ l)
+perm-swap [] k = perm-eq (sym (append-nil k))
+perm-swap (x ∷ l) k = thru (skip x (perm-swap l k)) (perm-sym (perm-middle k x l))
 
 -- a list without repeats is no longer than one that has all its members
 pub nodup-length : {A : Type 0} (l k : List A) → NoDup l → ((a : A) → a ∈ l → a ∈ k) → length l ≤ length k

@@ -269,16 +269,19 @@ module _ (r : Reversed) (n : ℕ) where
       q : Perm (ws ++ trailsOf ds) (us ++ trailsOf ds)
       q = perm-right (trailsOf ds) p
 
+  -- what was put in, and what is put in now
+  pub put-taking : (f : Fate) (x : Trail) (ws : List Trail) (ds : List Taken) → Perm (putIn (taking f x ws ds)) (born f x ++ (x ∷ (ws ++ trailsOf ds)))
+  put-taking f x ws ds =
+      thru (perm-eq (append-assoc (born f x) ws (trailsOf (ds ++ (took x f ∷ []))) ∙ ap (λ l. born f x ++ l) (ap (λ l. ws ++ l) (map-append (λ (d : Taken). d .trail) ds (took x f ∷ [])) ∙ sym (append-assoc ws (trailsOf ds) (x ∷ [])))))
+      (perm-left (born f x) (thru (perm-middle (ws ++ trailsOf ds) x []) (perm-eq (ap (λ l. x ∷ l) (append-nil (ws ++ trailsOf ds))))))
+
   module _ (c : Consistent r) (f : Fate) (x : Trail) (ws : List Trail) (ds : List Taken) (i : Sound (record { waiting = x ∷ ws; taken = ds }))
       (least : (t : Trail) → t ∈ ws → rankOf r x ≼ rankOf r t) (fit : Fits ds x f) where
     abbrev was : List Trail
     was = x ∷ (ws ++ trailsOf ds)
 
-    -- what was put in, and what is put in now
     both : Perm (putIn (taking f x ws ds)) (born f x ++ was)
-    both =
-        thru (perm-eq (append-assoc (born f x) ws (trailsOf (ds ++ (took x f ∷ []))) ∙ ap (λ l. born f x ++ l) (ap (λ l. ws ++ l) (map-append (λ (d : Taken). d .trail) ds (took x f ∷ [])) ∙ sym (append-assoc ws (trailsOf ds) (x ∷ [])))))
-        (perm-left (born f x) (thru (perm-middle (ws ++ trailsOf ds) x []) (perm-eq (ap (λ l. x ∷ l) (append-nil (ws ++ trailsOf ds))))))
+    both = put-taking f x ws ds
 
     is-born : (g : Fate) (t : Trail) → t ∈ born g x → (m : Move) × (m ∈ moves r (site x)) × (t ≡ m ∷ x) × (g ≡ expanded)
     is-born expanded t h = let y = mem-map (λ m. m ∷ x) (moves r (site x)) h in (y .0, y .1, y .2, refl)

@@ -2,9 +2,9 @@
 use mathlib.Core.Path.{_≡_, refl, sym, ap, _∙_, subst}
 use mathlib.Core.Logic.{_⊎_, inl, inr}
 use mathlib.Core.Bool.{true}
-use mathlib.Core.Option.{none, some}
+use mathlib.Core.Option.{Option, none, some}
 use mathlib.Core.List.{List, [], _∷_, map, map-map, List·Memᴰ·head, Memᴰ·append-right}
-use Prim.Native.Nat.{ℕ, suc, _≤_, _<_, min}
+use Prim.Native.Nat.{ℕ, zero, suc, _≤_, _<_, min}
 use native.Mathlib.Omega.{arith}
 use lib.ListN.{getD, length, take, length-map}
 use Rattle.tropical_weight.specs.Tropical.{_≼_}
@@ -14,20 +14,21 @@ use Rattle.sheet.proofs.Below.{split-at}
 use Rattle.machine.specs.Readings.{Reading, IsReading, readingOf, readingCost, readings}
 use Rattle.machine.specs.Climbs.{Climbs}
 use Rattle.machine.specs.Demand.{_∈_, NoDup, Demand}
-use Rattle.machine.proofs.Lists.{mem-eq, map-mem, mem-map, map-same, nodup-end, nodup-map-in, nodup-length, keep, keep-nodup}
+use Rattle.machine.proofs.Lists.{perm-mem, mem-eq, map-mem, mem-map, map-same, nodup-end, nodup-map-in, nodup-length, keep, keep-nodup}
 use Rattle.machine.proofs.Sort.{Ordered, ordered-keep, ordered-rises}
 use Rattle.machine.proofs.Readings.{readings-are, readings-once}
 use Rattle.machine.proofs.Demand.{sorted, demand-costs}
-use Rattle.search.specs.Reversed.{Reversed, reversed}
+use Rattle.search.specs.Reversed.{Back, Reversed, reversed}
 use Rattle.search.specs.Search.{first, costOf, Search, stopped, begun, mostTaken, search, costs, runs, runOf}
 use Rattle.search.proofs.Trails.{back, stop, Trail, site, cost, inputs, rankOf, Made, finished-rank, back-from}
-use Rattle.search.proofs.Backwards.{consistent, leads-in}
+use Rattle.search.proofs.Backwards.{consistent, leads-in, out-final, out-link}
 use Rattle.search.proofs.Unreversed.{trail-reads, reading-made, inputs-once}
 use Rattle.search.proofs.Fans.{put-bound}
 use Rattle.search.proofs.BestFirst.{Taken, took, expanded, listed, trailsOf, isListed, listedOf, State, took-listed, made, all-settled}
-use Rattle.search.proofs.Mirror.{at, entryAt, entryOf, run-is}
-use Rattle.search.proofs.Steps.{Holds, holds-begun, site-in, nodesOf, node-mem, trailsAt, trails-at, trails-once, trails-count}
+use Rattle.search.proofs.Mirror.{at, at-in, entryAt, entryOf, lastInput, run-is}
+use Rattle.search.proofs.Steps.{Holds, each, holds-begun, site-in, nodesOf, node-mem, trailsAt, trails-at, trails-once, trails-count}
 use Rattle.search.proofs.Ran.{stopped-is, stopped-empty, Ran, ran}
+use Rattle.search.proofs.Numbered.{Numbered}
 use Rattle.search.proofs.Counts.{occurs}
 
 module _ (m : Machine) (c : Climbs m) (n : ℕ) where
@@ -86,11 +87,11 @@ module _ (m : Machine) (c : Climbs m) (n : ℕ) where
 
   -- entries taken
   pub taken-bound : s .taken ≤ mostTaken m n
-  taken-bound = omega (arith, holds .each, put-in)
+  taken-bound = omega (arith, each r n size s holds, put-in)
 
   -- and so the removals allowed are enough
   pub stops : stopped r n s ≡ true
-  stops = elim (run .ended) [ inl e ↦ e | inr e ↦ stopped-empty r n s (omega (arith, e, holds .each, put-in)) ]
+  stops = elim (run .ended) [ inl e ↦ e | inr e ↦ stopped-empty r n s (omega (arith, e, each r n size s holds, put-in)) ]
 
   -- ---- the readings
   -- the trails that were listed
@@ -204,3 +205,43 @@ module _ (m : Machine) (c : Climbs m) (n : ℕ) where
       one-cost i h =
           let y = ended (at (holds .trails) i) (subst (λ l. at (holds .trails) i ∈ l) (holds .lists) (map-mem (at (holds .trails)) h)) in
           ap costOf (holds .mirrors .told i .entry) ∙ end-cost (at (holds .trails) i) (y .1) ∙ sym (trail-reads m (at (holds .trails) i) (y .0) (y .1) .1)
+
+  -- ---- the numbers of its entries
+  abbrev ts : List Trail
+  ts = holds .trails
+
+  -- every entry's trail was made
+  entry-made : (i : ℕ) → i < length (s .entries) → Made r (at ts i)
+  entry-made i b = made r n (consistent m c) state (holds .sound) (at ts i) (perm-mem (holds .all) (at-in ts i (omega (arith, holds .mirrors .size))))
+
+  -- the input link of an entry is one of the machine's
+  pub inputs-in : (i : ℕ) → i < length (s .entries) → (l : ℕ) → getD (s .entries) i first .input ≡ some l → l < length (m .links)
+  inputs-in i b l e = go (at ts i) (entry-made i b) (sym (holds .mirrors .told i .input) ∙ e)
+    where
+      node : (v : ℕ) (b : Back) → b ∈ r .out v → b .input ≡ some l → l < length (m .links)
+      node zero b h q = let x = out-final m b h in let y = x .3 in let z : _≡_ {A = ℕ} 0 1 = cc in absurd (omega arith)
+      node (suc v) b h q = let x = out-link m v b h in let y = x .3 in let z : x .0 ≡ l = cc in omega (arith, x .1)
+
+      go : (t : Trail) → Made r t → lastInput t ≡ some l → l < length (m .links)
+      go [] h q = let z : _≡_ {A = ℕ} 0 1 = cc in absurd (omega arith)
+      go (stop ∷ t) h q = let z : _≡_ {A = ℕ} 0 1 = cc in absurd (omega arith)
+      go (back b ∷ t) h q = let x = back-from r (site t) b (h .0) in node (x .0) b (x .2) q
+
+  listed-ended : (i : ℕ) → i ∈ s .listed → site (at ts i) ≡ none
+  listed-ended i h = ended (at ts i) (subst (λ l. at ts i ∈ l) (holds .lists) (map-mem (at ts) h)) .1
+
+  pub numbered : Numbered s
+  numbered = record {
+    some-in = omega (arith, holds .mirrors .filled, holds .mirrors .size);
+    zeroth = λ i. record { from = from-zero i; input = (holds .mirrors .told 0 .input ∙ ap lastInput (holds .mirrors .zeroth)) i; entry = (holds .mirrors .told 0 .entry ∙ ap entryOf (holds .mirrors .zeroth)) i };
+    earlier = λ i p b. omega (arith, holds .mirrors .told i .earlier);
+    inside = λ i h. omega (arith, holds .mirrors .in-list i h, holds .mirrors .size);
+    later-one = λ i h. not-first i (listed-ended i h);
+  }
+    where
+      from-zero : getD (s .entries) 0 first .from ≡ 0
+      from-zero = omega (arith, holds .mirrors .told 0 .earlier)
+
+      not-first : (i : ℕ) → site (at ts i) ≡ none → 0 < i
+      not-first zero e = let k : _≡_ {A = Option ℕ} (some 0) none = sym (ap site (holds .mirrors .zeroth)) ∙ e in let z : _≡_ {A = ℕ} 0 1 = cc in absurd (omega arith)
+      not-first (suc i) e = omega arith

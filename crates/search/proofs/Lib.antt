@@ -11,4 +11,5 @@ pub mod BestFirst
 pub mod Mirror
 pub mod Steps
 pub mod Ran
+pub mod Numbered
 pub mod Complete

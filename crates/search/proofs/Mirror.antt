@@ -12,7 +12,7 @@ use lib.Seq.{getD-append-seam}
 use Rattle.tropical_weight.specs.Tropical.{Tropical, _⊗_}
 use Rattle.tropical_weight.proofs.Semiring.{one-⊗, ⊗-one}
 use Rattle.machine.specs.Demand.{_∈_}
-use Rattle.machine.proofs.Lists.{Perm, thru, perm-eq, perm-mem, perm-map, perm-left, perm-middle, here, map-append, map-same}
+use Rattle.machine.proofs.Lists.{Perm, thru, perm-eq, perm-mem, perm-map, perm-left, perm-middle, here, map-append, map-same, getD-mem}
 use Rattle.search.specs.Reversed.{Reversed}
 use Rattle.search.specs.Heap.{pushed}
 use Rattle.search.specs.Search.{Entry, half, finished, Put, first, Search, rank, before, precedes, put, putAll, expansion, withInput, runOf}
@@ -55,6 +55,9 @@ at ts i = getD ts i []
 pub at-old : (ts us : List Trail) (i : ℕ) → i < length ts → at (ts ++ us) i ≡ at ts i
 at-old ts us i b = List·getD-append ts us [] i b
 
+pub at-in : (ts : List Trail) (i : ℕ) → i < length ts → at ts i ∈ ts
+at-in ts i b = getD-mem ts [] i b
+
 -- entry i is that of trail i, and came from that of its tail
 pub record Told (es : List Put) (ts : List Trail) (i : ℕ) : Type 0 where
   pub entry : getD es i first .entry ≡ entryOf (at ts i)
@@ -73,16 +76,11 @@ module _ (r : Reversed) where
     pub order : Ordered (before r (s .entries)) (s .heap)
 
   -- ---- one entry more
-  member-at : (h : List ℕ) (j : ℕ) → j < length h → getD h j 0 ∈ h
-  member-at [] j b = absurd (omega arith)
-  member-at (x ∷ h) zero b = here x h
-  member-at (x ∷ h) (suc j) b = List·Memᴰ·tail (member-at h j (omega arith))
-
   order-more : (es : List Put) (e : Put) (h : List ℕ) → ((i : ℕ) → i ∈ h → i < length es) → Ordered (before r es) h → Ordered (before r (es ++ (e ∷ []))) h
   order-more es e h b o j p q = record {
     not-before =
-        ap₂ (λ (x y : Put). precedes r (x .entry) (y .entry)) (List·getD-append es (e ∷ []) first (getD h j 0) (b (getD h j 0) (member-at h j q)))
-        (List·getD-append es (e ∷ []) first (getD h ((j - 1) / 2) 0) (b (getD h ((j - 1) / 2) 0) (member-at h ((j - 1) / 2) (omega arith))))
+        ap₂ (λ (x y : Put). precedes r (x .entry) (y .entry)) (List·getD-append es (e ∷ []) first (getD h j 0) (b (getD h j 0) (getD-mem h 0 j q)))
+        (List·getD-append es (e ∷ []) first (getD h ((j - 1) / 2) 0) (b (getD h ((j - 1) / 2) 0) (getD-mem h 0 ((j - 1) / 2) (omega arith))))
         ∙ o j p q .not-before;
   }
 

@@ -16,7 +16,7 @@ use Rattle.tropical_weight.proofs.Semiring.{≼-eq, ≼-trans}
 use Rattle.sheet.proofs.Below.{split-at}
 use Rattle.machine.specs.Readings.{isAt}
 use Rattle.machine.specs.Demand.{_∈_, NoDup}
-use Rattle.machine.proofs.Lists.{Perm, perm-mem, perm-sym, perm-map, perm-length, here, mem-eq, map-mem, mem-map, map-append, map-same, keep, keep-append, keep-mem, keep-nodup, nodup-end}
+use Rattle.machine.proofs.Lists.{Perm, thru, perm-refl, perm-mem, perm-sym, perm-map, perm-length, perm-left, perm-right, perm-swap, here, mem-eq, map-mem, mem-map, map-append, map-same, keep, keep-append, keep-mem, keep-nodup, nodup-end}
 use Rattle.machine.proofs.Runs.{at-some}
 use Rattle.search.specs.Reversed.{Back, Reversed}
 use Rattle.search.specs.Heap.{popped}
@@ -27,7 +27,7 @@ use Rattle.search.proofs.HeapOrder.{Ordered, popped-ordered, head-first
 use Rattle.search.proofs.Ranks.{entries-strict, ranks-follow}
 use Rattle.search.proofs.Trails.{back, stop, Trail, site, cost, moves, movesFrom, rankOf, Made, Consistent, back-from}
 use Rattle.search.proofs.Fans.{fanSum, fan-append}
-use Rattle.search.proofs.BestFirst.{Fate, expanded, dropped, listed, Taken, took, trailsOf, isListed, listedOf, Sound, made, born, sound-first, sound-perm, sound-taking}
+use Rattle.search.proofs.BestFirst.{Fate, expanded, dropped, listed, Taken, took, trailsOf, isListed, listedOf, putIn, Sound, made, born, put-taking, sound-first, sound-perm, sound-taking}
 use Rattle.search.proofs.Mirror.{half-site, finished-site, rank-is, at, at-old, Mirrors, Told, Grown, putBy, expansion-moves, puts}
 
 -- ---- the nodes that were expanded
@@ -118,10 +118,15 @@ module _ (r : Reversed) (n size : ℕ) where
     -- the first n taken at a node are expanded
     pub visited : (v : ℕ) → occurs v (nodesOf done) ≡ min n (getD (s .visits) v 0)
     pub counted : length done ≡ s .taken
-    -- each entry waits, or was taken
-    pub each : length trails ≡ length (s .heap) + s .taken
+    -- each waits, or was taken
+    pub all : Perm trails (putIn (record { waiting = map (at trails) (s .heap); taken = done }))
     -- and was put in by an expansion, but for the first
     pub grew : length trails ≡ 1 + fanSum (λ v. length (movesFrom r v)) (nodesOf done)
+
+  pub each : (s : Search) (i : Holds s) → length (i .trails) ≡ length (s .heap) + s .taken
+  each s i =
+      perm-length (i .all) ∙ length-append (map (at (i .trails)) (s .heap)) (trailsOf (i .done))
+      ∙ omega (arith, length-map (s .heap) (at (i .trails)), length-map (i .done) (λ (d : Taken). d .trail), i .counted)
 
   pub holds-begun : Holds (begun size)
   unfolding keep nodesOf occurs fanSum
@@ -142,7 +147,7 @@ module _ (r : Reversed) (n size : ℕ) where
     wide = length-replicate size 0;
     visited = λ v. omega (arith, no-visits v (split-at v size));
     counted = refl;
-    each = refl;
+    all = perm-refl ([] ∷ []);
     grew = refl;
   }
     where
@@ -187,8 +192,8 @@ module _ (r : Reversed) (n size : ℕ) where
       t-made : Made r t
       t-made = made r n c (record { waiting = t ∷ map (at ts) h; taken = i .done }) ready t (here t (map (at ts) h ++ trailsOf (i .done)))
 
-      shrunk : length (s .heap) ≡ suc (length h)
-      shrunk = perm-length whole
+      all-ready : Perm ts (t ∷ (map (at ts) h ++ trailsOf (i .done)))
+      all-ready = thru (i .all) (perm-right (trailsOf (i .done)) (perm-map (at ts) whole))
 
       -- the entries are the same, and the heap is h
       mirrors-h : (vs ls : List ℕ) (k : ℕ) → ((j : ℕ) → j ∈ ls → j < length ts) → Mirrors r (record { entries = s .entries; heap = h; visits = vs; listed = ls; taken = k }) ts
@@ -224,7 +229,7 @@ module _ (r : Reversed) (n size : ℕ) where
         wide = i .wide;
         visited = λ v. ap (occurs v) same ∙ i .visited v;
         counted = longer listed;
-        each = omega (arith, i .each, shrunk);
+        all = thru all-ready (perm-sym (put-taking r n listed t (map (at ts) h) (i .done)));
         grew = i .grew ∙ ap (λ l. 1 + fanSum (λ v. length (movesFrom r v)) l) (sym same);
       }
         where
@@ -274,7 +279,7 @@ module _ (r : Reversed) (n size : ℕ) where
             | no z ↦ omega (arith, i .visited w, visit-other w z)
           ];
           counted = longer dropped;
-          each = omega (arith, i .each, shrunk);
+          all = thru all-ready (perm-sym (put-taking r n dropped t (map (at ts) h) (i .done)));
           grew = i .grew ∙ ap (λ l. 1 + fanSum (λ v. length (movesFrom r v)) l) (sym same);
         }
           where
@@ -295,7 +300,8 @@ module _ (r : Reversed) (n size : ℕ) where
             | no y ↦ omega (arith, ap (occurs w) nodes, occurs-append w (nodesOf (i .done)) (v ∷ []), occurs-other w v [] y, i .visited w, ap (λ l. getD l w 0) (g .visits), visit-other w y)
           ];
           counted = longer expanded ∙ sym (g .taken);
-          each = omega (arith, wider, g .taken, i .each, shrunk, heaps);
+          all = thru (perm-swap ts (born r n expanded t)) (thru (perm-left (born r n expanded t) all-ready)
+              (thru (perm-sym (put-taking r n expanded t (map (at ts) h) (i .done))) (perm-right (trailsOf (i .done ++ (took t expanded ∷ []))) (perm-sym (g .heap)))));
           grew = omega (arith, wider, sizes, i .grew, ap (fanSum (λ v. length (movesFrom r v))) nodes, fan-append (λ v. length (movesFrom r v)) (nodesOf (i .done)) (v ∷ []));
         }
           where
@@ -316,9 +322,6 @@ module _ (r : Reversed) (n size : ℕ) where
 
             sizes : length (born r n expanded t) ≡ length (movesFrom r v)
             sizes = length-map (moves r (site t)) (λ m. m ∷ t) ∙ ap (λ s. length (moves r s)) (parts .0)
-
-            heaps : length (z .heap) ≡ length (born r n expanded t) + length h
-            heaps = sym (length-map (z .heap) (at (ts ++ born r n expanded t))) ∙ perm-length (g .heap) ∙ length-append (born r n expanded t) (map (at ts) h) ∙ ap (λ y. length (born r n expanded t) + y) (length-map h (at ts))
 
       take-half : (v : ℕ) (k : Tropical) → getD (s .entries) x first .entry ≡ half v k → Holds (takenBy r n x h (half v k) s)
       take-half v k e = go (leb (suc (was v k e)) n) refl

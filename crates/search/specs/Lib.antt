@@ -3,3 +3,4 @@ pub mod Reversed
 pub mod Search
 pub mod ListMachine
 pub mod Listed
+pub mod Trimming
