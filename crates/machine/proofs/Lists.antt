@@ -1,14 +1,16 @@
--- Laws of lists: members, lists without repeats, permutations, and what is left of a list. Assumes nothing.
+-- Laws of lists: members, lists without repeats, permutations, what is left of a list, and elements by place. Assumes nothing.
 use mathlib.Core.Path.{_≡_, refl, sym, ap, _∙_, subst}
 use mathlib.Core.Logic.{_⊎_, inl, inr}
-use mathlib.Core.List.{List, [], _∷_, _++_, map, append-nil, List·Memᴰ·head, List·Memᴰ·tail, List·Memᴰ·cases-cons, List·Memᴰ·not-nil, List·Memᴰ·append-cases, List·Memᴰ·eq-of-singleton, Memᴰ·append-left, Memᴰ·append-right}
+use mathlib.Core.List.{List, [], _∷_, _++_, map, reverse, reverse-cons, append-nil, List·Memᴰ·head, List·Memᴰ·tail, List·Memᴰ·cases-cons, List·Memᴰ·not-nil, List·Memᴰ·append-cases, List·Memᴰ·eq-of-singleton, Memᴰ·append-left, Memᴰ·append-right}
 use mathlib.Core.Bool.{Bool, true, false, cond}
 use Prim.Native.Nat.{ℕ, zero, suc, _+_, _≤_, _<_}
 use native.Mathlib.Decide.{ℕ-discrete}
 use native.Mathlib.Omega.{arith}
-use lib.ListN.{getD, length, length-append}
+use lib.ListN.{length, getD, length-append, length-map}
+use lib.Seq.{ext-getD}
 use Rattle.sheet.specs.Below.{listBelow}
 use Rattle.sheet.proofs.Apart.{not-both}
+use Rattle.sheet.proofs.Below.{length-listBelow, getD-listBelow}
 use Rattle.machine.specs.Demand.{_∈_, NoDup}
 
 -- ---- members
@@ -29,11 +31,6 @@ mem-map {A} f (x ∷ l) {b} m = go (λ q. mem-map f l q) (List·Memᴰ·cases-co
     go : (b ∈ map f l → (a : A) × (a ∈ l) × (b ≡ f a)) → (b ≡ f x) ⊎ b ∈ map f l → (a : A) × (a ∈ (x ∷ l)) × (b ≡ f a)
     go ih (inl e) = (x, here x l, e)
     go ih (inr q) = let r = ih q in (r .0, List·Memᴰ·tail (r .1), r .2)
-
-pub getD-mem : {A : Type 0} (l : List A) (d : A) (i : ℕ) → i < length l → getD l i d ∈ l
-getD-mem [] d i b = absurd (omega arith)
-getD-mem (x ∷ l) d zero b = here x l
-getD-mem (x ∷ l) d (suc i) b = List·Memᴰ·tail (getD-mem l d i (omega arith))
 
 -- of the list f 0, .., f (n - 1)
 pub below-mem : {A : Type 0} (f : ℕ → A) (n v : ℕ) → v < n → f v ∈ listBelow n f
@@ -241,3 +238,34 @@ keep-nodup f p (x ∷ l) n = go (p x) (keep-nodup f p l (n .1))
     go : (t : Bool) → NoDup (map f (keep p l)) → NoDup (map f (cond t (x ∷ keep p l) (keep p l)))
     go true k = (λ h. let y = mem-map f (keep p l) h in n .0 (mem-eq (sym (y .2)) (map-mem f (keep-mem p l (y .1) .0))), k)
     go false k = k
+
+-- ---- backwards
+pub mem-reverse : {A : Type 0} {a : A} (l : List A) → a ∈ reverse l → a ∈ l
+mem-reverse [] h = h
+mem-reverse {A} {a} (x ∷ l) h = elim (List·Memᴰ·append-cases (reverse l) (subst (λ k. a ∈ k) (reverse-cons x l) h)) [ inl q ↦ List·Memᴰ·tail (mem-reverse l q) | inr q ↦ List·Memᴰ·head (List·Memᴰ·eq-of-singleton q) ]
+
+-- ---- by place
+pub getD-mem : {A : Type 0} (l : List A) (i : ℕ) (d : A) → i < length l → getD l i d ∈ l
+getD-mem [] i d h = absurd (omega arith)
+getD-mem (x ∷ l) zero d h = here x l
+getD-mem (x ∷ l) (suc i) d h = List·Memᴰ·tail (getD-mem l i d (omega arith))
+
+pub getD-map : {A B : Type 0} (f : A → B) (l : List A) (i : ℕ) (d : A) (e : B) → i < length l → getD (map f l) i e ≡ f (getD l i d)
+getD-map f [] i d e h = absurd (omega arith)
+getD-map f (x ∷ l) zero d e h = refl
+getD-map f (x ∷ l) (suc i) d e h = getD-map f l i d e (omega arith)
+
+-- a map over the places of a list is one over the list
+pub map-places : {A B : Type 0} (f : ℕ → B) (g : A → B) (l : List A) (d : A) → ((i : ℕ) → i < length l → f i ≡ g (getD l i d)) → map f (listBelow (length l) (λ i. i)) ≡ map g l
+map-places {A} {B} f g l d h = ext-getD (f 0) (map f places) (map g l) (long ∙ sym (length-map l g)) at
+  where
+    places : List ℕ
+    places = listBelow (length l) (λ i. i)
+
+    long : length (map f places) ≡ length l
+    long = length-map places f ∙ length-listBelow (length l) (λ i. i)
+
+    at : (i : ℕ) → i < length (map f places) → getD (map f places) i (f 0) ≡ getD (map g l) i (f 0)
+    at i b =
+        let c : i < length l = omega (arith, long) in
+        getD-map f places i 0 (f 0) (omega (arith, length-map places f)) ∙ ap f (getD-listBelow (length l) (λ i. i) i 0 c) ∙ h i c ∙ sym (getD-map g l i d (f 0) c)

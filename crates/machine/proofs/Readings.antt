@@ -9,11 +9,11 @@ use native.Mathlib.Omega.{arith}
 use lib.ListN.{getD, length}
 use Rattle.tropical_weight.specs.Tropical.{Tropical}
 use Rattle.sheet.specs.Machine.{Machine}
-use Rattle.machine.specs.Readings.{final, IsRun, waysTo, Reading, IsReading, endsAt, readings, readingsBelow}
+use Rattle.machine.specs.Readings.{final, nodeOr, IsRun, waysTo, Reading, IsReading, readingOf, endsAt, readings, readingsBelow}
 use Rattle.machine.specs.Climbs.{Climbs}
 use Rattle.machine.specs.Demand.{_∈_, NoDup}
 use Rattle.machine.proofs.Lists.{mem-eq, map-mem, mem-map, nodup-append, nodup-map}
-use Rattle.machine.proofs.Runs.{run-end, ways-are, ways-once}
+use Rattle.machine.proofs.Runs.{run-end, run-ends, ways-are, ways-once}
 
 -- a node with mark 1 is below N
 marked-in : (fs : List (Option Tropical)) (v : ℕ) (w : Tropical) → getD fs v none ≡ some w → v < length fs
@@ -22,6 +22,12 @@ marked-in (f ∷ fs) zero w e = omega arith
 marked-in (f ∷ fs) (suc v) w e = omega (arith, marked-in fs v w e)
 
 module _ (m : Machine) where
+  -- a reading is that of its run
+  pub reading-is : (x : Reading) → IsReading m x → readingOf m (x .run) ≡ x
+  reading-is x i =
+      let h : IsRun m (nodeOr (m .start)) (x .run) (x .end) = subst (λ k. IsRun m k (x .run) (x .end)) (ap nodeOr (sym (i .starts))) (i .runs) in
+      ap (λ k. record { run = x .run; end = k }) (run-ends m (x .run) (nodeOr (m .start)) (x .end) h)
+
   pub final-in : (v : ℕ) (w : Tropical) → final m v ≡ some w → v < length (m .finals)
   final-in v w e = marked-in (m .finals) v w e
 

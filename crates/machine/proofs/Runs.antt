@@ -13,7 +13,7 @@ use borrow.Author.Tests.{eqb-true, eq-eqb, leb-true, leb-false}
 use Rattle.tropical_weight.specs.Tropical.{_⊗_}
 use Rattle.tropical_weight.proofs.Semiring.{⊗-assoc, one-⊗, ⊗-one}
 use Rattle.sheet.specs.Machine.{Machine}
-use Rattle.machine.specs.Readings.{link, isAt, IsRun, runCost, ways, waysTo}
+use Rattle.machine.specs.Readings.{link, isAt, IsRun, endFrom, runCost, ways, waysTo}
 use Rattle.machine.specs.Climbs.{Climbs}
 use Rattle.machine.specs.Demand.{_∈_, NoDup}
 use Rattle.machine.proofs.Lists.{here, mem-eq, map-mem, mem-map, nodup-append, nodup-map}
@@ -75,6 +75,14 @@ module _ (m : Machine) where
   cost-snoc (k ∷ r) l = ap (λ x. link m k .weight ⊗ x) (cost-snoc r l) ∙ sym (⊗-assoc (link m k .weight) (runCost m r) (link m l .weight))
 
   -- the links of a run tell where it ends
+  pub run-ends : (r : List ℕ) (u v : ℕ) → IsRun m u r v → endFrom m u r ≡ v
+  run-ends [] u v h = h
+  run-ends (l ∷ r) u v h = run-ends r (link m l .next) v (h .2)
+
+  pub run-in : (r : List ℕ) (u v : ℕ) → IsRun m u r v → (l : ℕ) → l ∈ r → l < length (m .links)
+  run-in [] u v h l k = absurd (List·Memᴰ·not-nil k)
+  run-in (j ∷ r) u v h l k = elim (List·Memᴰ·cases-cons k) [ inl e ↦ omega (arith, e, h .0) | inr q ↦ run-in r (link m j .next) v (h .2) l q ]
+
   pub run-end : (r : List ℕ) (u v w : ℕ) → IsRun m u r v → IsRun m u r w → v ≡ w
   run-end [] u v w h k = sym h ∙ k
   run-end (l ∷ r) u v w h k = run-end r (link m l .next) v w (h .2) (k .2)

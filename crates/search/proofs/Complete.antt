@@ -93,6 +93,9 @@ module _ (m : Machine) (c : Climbs m) (n : ℕ) where
   pub stops : stopped r n s ≡ true
   stops = elim (run .ended) [ inl e ↦ e | inr e ↦ stopped-empty r n s (omega (arith, e, each r n size s holds, put-in)) ]
 
+  pub few-listed : length (s .listed) ≤ n
+  few-listed = run .few
+
   -- ---- the readings
   -- the trails that were listed
   abbrev ls : List Trail

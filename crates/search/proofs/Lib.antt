@@ -13,3 +13,8 @@ pub mod Steps
 pub mod Ran
 pub mod Numbered
 pub mod Complete
+pub mod Trims
+pub mod Results
+pub mod Readback
+pub mod BackOne
+pub mod Lists

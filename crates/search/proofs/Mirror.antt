@@ -56,7 +56,7 @@ pub at-old : (ts us : List Trail) (i : ℕ) → i < length ts → at (ts ++ us) 
 at-old ts us i b = List·getD-append ts us [] i b
 
 pub at-in : (ts : List Trail) (i : ℕ) → i < length ts → at ts i ∈ ts
-at-in ts i b = getD-mem ts [] i b
+at-in ts i b = getD-mem ts i [] b
 
 -- entry i is that of trail i, and came from that of its tail
 pub record Told (es : List Put) (ts : List Trail) (i : ℕ) : Type 0 where
@@ -79,8 +79,8 @@ module _ (r : Reversed) where
   order-more : (es : List Put) (e : Put) (h : List ℕ) → ((i : ℕ) → i ∈ h → i < length es) → Ordered (before r es) h → Ordered (before r (es ++ (e ∷ []))) h
   order-more es e h b o j p q = record {
     not-before =
-        ap₂ (λ (x y : Put). precedes r (x .entry) (y .entry)) (List·getD-append es (e ∷ []) first (getD h j 0) (b (getD h j 0) (getD-mem h 0 j q)))
-        (List·getD-append es (e ∷ []) first (getD h ((j - 1) / 2) 0) (b (getD h ((j - 1) / 2) 0) (getD-mem h 0 ((j - 1) / 2) (omega arith))))
+        ap₂ (λ (x y : Put). precedes r (x .entry) (y .entry)) (List·getD-append es (e ∷ []) first (getD h j 0) (b (getD h j 0) (getD-mem h j 0 q)))
+        (List·getD-append es (e ∷ []) first (getD h ((j - 1) / 2) 0) (b (getD h ((j - 1) / 2) 0) (getD-mem h ((j - 1) / 2) 0 (omega arith))))
         ∙ o j p q .not-before;
   }
 

@@ -10,6 +10,7 @@ use Rattle.tropical_weight.proofs.Semiring.{⊗-comm, ⊗-assoc, ⊗-one}
 use Rattle.sheet.specs.Machine.{Machine}
 use Rattle.machine.specs.Readings.{link, final, finalWeight, nodeOr, IsRun, runCost, Reading, IsReading, endFrom, readingOf, readingCost}
 use Rattle.machine.specs.Demand.{_∈_}
+use Rattle.machine.proofs.Readings.{reading-is}
 use Rattle.machine.proofs.Runs.{at-some, some-at}
 use Rattle.search.specs.Reversed.{Back, outOf, isEnd, reversed}
 use Rattle.search.proofs.Trails.{back, stop, Trail, site, cost, inputs, moves, Made, back-from, stop-from, out-moves, end-moves}
@@ -37,10 +38,6 @@ module _ (m : Machine) where
       let v = link m l .next in
       let w = link m l .weight in
       ap (λ a. a ⊗ w) (half-cost v r) ∙ ⊗-comm (runCost m r ⊗ finalWeight (final m (endFrom m v r))) w ∙ sym (⊗-assoc w (runCost m r) (finalWeight (final m (endFrom m v r))))
-
-  run-ends : (r : List ℕ) (u v : ℕ) → IsRun m u r v → endFrom m u r ≡ v
-  run-ends [] u v h = h
-  run-ends (l ∷ r) u v h = run-ends r (link m l .next) v (h .2)
 
   half-made : (r : List ℕ) (u v : ℕ) (w : Tropical) → IsRun m u r v → final m v ≡ some w → Made (reversed m) (halfOf u r) × (site (halfOf u r) ≡ some (suc u))
   half-made [] u v w h e = ((out-moves (reversed m) 0 (final-out m u (finalWeight (final m u)) marked), tt), refl)
@@ -124,7 +121,7 @@ module _ (m : Machine) where
         wholeOf (x .run),
         (subst (λ k. stop ∈ moves (reversed m) k) (sym (y .1)) (end-moves (reversed m) (suc u) s), y .0),
         refl,
-        ap (readingOf m) (half-inputs u (x .run)) ∙ ap (λ k. record { run = x .run; end = k }) (run-ends (x .run) u (x .end) h),
+        ap (readingOf m) (half-inputs u (x .run)) ∙ reading-is m x i,
       )
 
   pub inputs-once : (t u : Trail) → Made (reversed m) t → Made (reversed m) u → site t ≡ none → site u ≡ none → inputs t ≡ inputs u → t ≡ u

@@ -2,5 +2,5 @@ pub mod Heap
 pub mod Reversed
 pub mod Search
 pub mod ListMachine
+pub mod States
 pub mod Listed
-pub mod Trimming

@@ -1,11 +1,12 @@
 -- The machines that lists are answered by: the list machine, trimmed, and the parents' one way; and the bytes of the result. Definitions only.
-use mathlib.Core.Bool.{Bool, false, _||_, cond}
+use mathlib.Core.Bool.{Bool, true, false, _&&_, _||_, cond}
 use mathlib.Core.Option.{Option, none, some}
 use mathlib.Core.List.{List, [], _∷_, _++_, map, reverse}
-use Prim.Native.Nat.{ℕ, zero, suc, _+_, _-_}
+use Prim.Native.Nat.{ℕ, zero, suc, _-_}
 use lib.Dec.{eqb}
 use lib.ListN.{length, getD, replicate}
 use Rattle.tropical_weight.specs.Tropical.{Tropical, one}
+use Rattle.sheet.specs.Below.{sumBelow, listBelow}
 use Rattle.sheet.specs.Words.{bytesOfAll}
 use Rattle.sheet.specs.Sheet.{noStart, sheetOf}
 use Rattle.sheet.specs.Machine.{Link, Machine, partsFor}
@@ -43,7 +44,57 @@ bestResult m x =
     let way : Machine = record { links = backLinks m 1 (reverse (x .run)); finals = final m (x .end) ∷ replicate k none; start = some k } in
     record { machine = way; repeats = map some (reverse (x .run)); taken = 0 }
 
--- ---- from n = 2: entry i is state i + 1 before trimming, and its one link leads to the state of the entry it came from
+-- A link, and the number of the input link that it repeats, or none.
+pub record Copy : Type 0 where
+  pub link : Link
+  pub repeats : Option ℕ
+
+-- ---- from n = 2, before trimming: state 0 is the start, and entry i is state i + 1
+-- the start's link to a listed entry's state
+abbrev pub startCopy : ℕ → Copy
+startCopy i = record { link = blank 0 one (suc i); repeats = none }
+
+-- the link of an entry that was put in by an input link, or else by one from node 0 to a final node, or finished
+abbrev pub linkBy : Machine → Option ℕ → Entry → ℕ → ℕ → Link
+linkBy m (some l) e s n = moved (link m l) s n
+linkBy m none (half v c) s n = blank s (finalWeight (final m (v - 1))) n
+linkBy m none (finished c) s n = blank s one n
+
+-- an entry's one link, to the state of the entry it came from
+abbrev pub entryCopy : Machine → Search → ℕ → Copy
+entryCopy m s j = let e = getD (s .entries) j first in record { link = linkBy m (e .input) (e .entry) (suc j) (suc (e .from)); repeats = e .input }
+
+-- all but the first have a link; the states of the others count from 2 in the order they were put in, those never taken included
+unfoldable pub copies : Machine → Search → List Copy
+unfolding listBelow
+copies m s = map startCopy (s .listed) ++ listBelow (length (s .entries) - 1) (λ j. entryCopy m s (suc j))
+
+-- state 1, the first entry's, is final with weight 0
+abbrev pub finalsOf : Search → List (Option Tropical)
+finalsOf s = none ∷ some one ∷ replicate (length (s .entries) - 1) none
+
+abbrev pub untrimmed : Machine → Search → Machine
+untrimmed m s = record { links = map (λ (k : Copy). k .link) (copies m s); finals = finalsOf s; start = some 0 }
+
+-- ---- the states that stay
+module _ (stays : ℕ → Bool) where
+  -- as many as stay below q
+  abbrev pub newNumber : ℕ → ℕ
+  newNumber q = sumBelow q (λ i. cond (stays i) 1 0)
+
+  -- the links between states that stay
+  unfoldable pub linksStay : List Copy → List Copy
+  unfolding sumBelow
+  linksStay [] = []
+  linksStay (k ∷ ks) =
+      let new : Copy = record { link = moved (k .link) (newNumber (k .link .source)) (newNumber (k .link .next)); repeats = k .repeats } in
+      cond (stays (k .link .source) && stays (k .link .next)) (new ∷ linksStay ks) (linksStay ks)
+
+  -- the final weights of those from q on
+  unfoldable pub finalsStay : ℕ → List (Option Tropical) → List (Option Tropical)
+  finalsStay q [] = []
+  finalsStay q (f ∷ fs) = cond (stays q) (f ∷ finalsStay (suc q) fs) (finalsStay (suc q) fs)
+
 -- whether entry j is i or one that i came from; the second argument is at least i
 unfoldable pub isBehind : List Put → ℕ → ℕ → ℕ → Bool
 isBehind es zero i j = eqb i j
@@ -55,59 +106,32 @@ unfolding isBehind
 onWay es [] j = false
 onWay es (i ∷ is) j = isBehind es i i j || onWay es is j
 
-module _ (s : Search) where
-  -- the entries from 1 to k that are on a way, rising
-  unfoldable pub kept : ℕ → List ℕ
-  unfolding onWay
-  kept zero = []
-  kept (suc k) = kept k ++ cond (onWay (s .entries) (s .listed) (suc k)) (suc k ∷ []) []
+-- the start, and the states on a way from it to the final state
+abbrev pub staysIn : Search → ℕ → Bool
+staysIn s zero = true
+staysIn s (suc i) = onWay (s .entries) (s .listed) i
 
-  -- The state of an entry on a way: the first is state 1, the others count from 2.
-  unfoldable pub stateOf : ℕ → ℕ
-  unfolding kept
-  stateOf zero = 1
-  stateOf (suc k) = 2 + length (kept k)
-
-  abbrev pub later : List ℕ
-  later = kept (length (s .entries) - 1)
-
-  abbrev pub startLink : ℕ → Link
-  startLink i = blank 0 one (stateOf i)
-
--- the link of an entry that was put in by an input link, or else by one from node 0 to a final node, or finished
-abbrev pub linkBy : Machine → Option ℕ → Entry → ℕ → ℕ → Link
-linkBy m (some l) e s n = moved (link m l) s n
-linkBy m none (half v c) s n = blank s (finalWeight (final m (v - 1))) n
-linkBy m none (finished c) s n = blank s one n
-
-abbrev pub entryLink : Machine → Search → ℕ → Link
-entryLink m s j = let e = getD (s .entries) j first in linkBy m (e .input) (e .entry) (stateOf s j) (stateOf s (e .from))
-
--- State 0 is the start, with a link to each listed entry's state in order; state 1 is final with weight 0.
-abbrev pub listMachine : Machine → Search → Machine
-listMachine m s = record {
-  links = map (startLink s) (s .listed) ++ map (entryLink m s) (later s);
-  finals = none ∷ some one ∷ replicate (length (later s)) none;
-  start = some 0;
-}
-
-abbrev pub listResult : Machine → Search → Result
-listResult m s = record {
-  machine = listMachine m s;
-  repeats = replicate (length (s .listed)) none ++ map (λ j. getD (s .entries) j first .input) (later s);
-  taken = s .taken;
-}
+-- the list machine, trimmed
+unfoldable pub trimmed : Machine → Search → Result
+unfolding onWay copies linksStay finalsStay
+trimmed m s =
+    let ks = linksStay (staysIn s) (copies m s) in
+    record {
+      machine = record { links = map (λ (k : Copy). k .link) ks; finals = finalsStay (staysIn s) 0 (finalsOf s); start = some 0 };
+      repeats = map (λ (k : Copy). k .repeats) ks;
+      taken = s .taken;
+    }
 
 -- ---- for any n
 abbrev pub resultBy : Machine → ℕ → Option Reading → Result
 resultBy m n none = empty
 resultBy m zero (some x) = empty
 resultBy m (suc zero) (some x) = bestResult m x
-resultBy m (suc (suc k)) (some x) = listResult m (search m (suc (suc k)))
+resultBy m (suc (suc k)) (some x) = trimmed m (search m (suc (suc k)))
 
 -- the parents give a reading where there is one
 unfoldable pub resultFor : Machine → ℕ → Result
-unfolding best search stateOf backLinks
+unfolding best search trimmed backLinks
 resultFor m n = resultBy m n (best m)
 
 -- the word of a link

@@ -6,5 +6,6 @@ pub mod Fields
 pub mod Writing
 pub mod Round
 pub mod Sources
+pub mod Encoding
 pub mod Reading
 pub mod Bench

@@ -82,7 +82,7 @@ bytesOf-word bytes at b h =
     ∙ ap (λ (r : List ℕ). getD bytes (suc (suc at)) 0 ∷ r) (drop-cons bytes (suc (suc (suc at))) 0 (omega arith))))))
 
 -- ---- words and their bytes
-words-of : (ws pre post : List ℕ) → Below 4294967296 ws → words (pre ++ bytesOfAll ws ++ post) (length pre) (length ws) ≡ ws
+pub words-of : (ws pre post : List ℕ) → Below 4294967296 ws → words (pre ++ bytesOfAll ws ++ post) (length pre) (length ws) ≡ ws
 unfolding words bytesOfAll
 words-of [] pre post b = refl
 words-of (w ∷ ws) pre post b =
@@ -172,6 +172,13 @@ module _ (p : Parts) (e : recordsFit p ≡ true) (links-below : Below 4294967296
 pub word-lt : (bytes : List ℕ) (at : ℕ) → Below 256 bytes → word bytes at < 4294967296
 unfolding word
 word-lt bytes at b = omega (arith, b at, b (at + 1), b (at + 2), b (at + 3))
+
+-- fields that were read are 32-bit
+pub words-below : (n : ℕ) (bytes : List ℕ) (at : ℕ) → Below 256 bytes → Below 4294967296 (words bytes at n)
+unfolding words
+words-below zero bytes at b i = omega arith
+words-below (suc n) bytes at b zero = word-lt bytes at b
+words-below (suc n) bytes at b (suc i) = words-below n bytes (at + 4) b i
 
 module _ (bytes : List ℕ) (below : Below 256 bytes) (fits : sizesFit bytes ≡ true) where
   T₀ : T (leb trailerLength (length bytes) && eqb (trailerField bytes 0) 0 && eqb (trailerField bytes 1) (16 * statedLinks bytes) && eqb (length bytes) (16 * statedLinks bytes + 12 * statedNodes bytes + trailerLength))

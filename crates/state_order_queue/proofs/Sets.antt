@@ -16,23 +16,12 @@ use Rattle.state_order_queue.specs.declared.Back.the-variants.{None, At}
 use Rattle.state_order_queue.specs.declared.Queue.{Queue}
 use Rattle.state_order_queue.specs.Queues.{firstSet, holds, emptyFrom, isEmpty, isValid, emptied, frontWith, backWith, enqueued, dequeued}
 use Rattle.state_order_queue.specs.Conditions.{Accepted}
-use Rattle.sheet.proofs.Apart.{both, not-both}
+use Rattle.sheet.proofs.Apart.{both, not-both, or-either, or-left, or-right}
 use Rattle.state_order_queue.proofs.Flags.{first-bounds, first-clear, first-flag, flag-put, flag-taken}
 use Rattle.state_order_queue.proofs.Records.{dequeued-at}
 use Rattle.state_order_queue.proofs.Accepts.{none-at, at-none, at-same, valid-exactly}
 
 -- ---- small facts on tests
-or-left : (a b : Bool) → a ≡ true → a || b ≡ true
-or-left a b h = simp h
-
-or-right : (a b : Bool) → b ≡ true → a || b ≡ true
-or-right true b h = refl
-or-right false b h = h
-
-pub or-either : (a b : Bool) → a || b ≡ true → (a ≡ true) ⊎ (b ≡ true)
-or-either true b h = inl refl
-or-either false b h = inr h
-
 pub clash : {A : Type 0} {t : Bool} → t ≡ false → t ≡ true → A
 clash {A} {t} h k = absurd (not-both k h)
 
