@@ -109,7 +109,7 @@ marked (some w ∷ fs) = suc (marked fs)
 abbrev pub mostTaken : Machine → ℕ → ℕ
 mostTaken m n = 1 + marked (m .finals) + n * (length (m .links) + 1)
 
--- the search for n, from 2, of a machine that has a reading; that so many removals are enough is still to be proved
+-- the search for n; it stops by itself within so many removals
 unfoldable pub search : Machine → ℕ → Search
 unfolding after
 search m n = after (reversed m) (mostTaken m n) n (begun (suc (length (m .finals))))
