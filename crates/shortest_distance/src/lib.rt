@@ -34,7 +34,7 @@ fn hand_over(work: &[u32], count: u32, result: &mut [u8]) -> Distances
 }
 
 // Makes the distances of an accepted sheet in the slots of its nodes.
-fn make(sheet: &[u8], t: Trailer, work: &mut [u32])
+pub fn make(sheet: &[u8], t: Trailer, work: &mut [u32])
     requires { ⌜ (inputNumber (now sheet) ≡ 0) × (t ≡ trailerAt (now sheet)) × (8 * t .nodes ≤ length (now work)) ⌝ }
     ensures { λ _. ⌜ Made (now (sheet .entry)) (now (work .entry)) (now (work .exit)) ⌝ }
 {

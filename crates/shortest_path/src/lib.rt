@@ -1,0 +1,1 @@
+// Lists of the cheapest readings (shortest_path.rs and reverse.rs of rustfst), in lent slots.
