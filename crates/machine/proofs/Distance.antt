@@ -13,7 +13,7 @@ use Rattle.sheet.specs.Machine.{Machine}
 use Rattle.machine.specs.Readings.{link, final, finalWeight, IsRun, runCost, waysTo, Reading, IsReading, readingCost, endsAt, readings, readingsBelow}
 use Rattle.machine.specs.Climbs.{Climbs, Finite}
 use Rattle.machine.specs.Distance.{plusAll, dist, via, total, totalAt}
-use Rattle.machine.proofs.Lists.{map-mem, mem-map, map-append}
+use Rattle.machine.proofs.Lists.{map-mem, mem-map, below-mem, map-append}
 use Rattle.machine.proofs.Sums.{plusAll-le, plusAll-greatest, plusAll-in, plusAll-append, plusAll-⊗}
 use Rattle.machine.proofs.Runs.{FromStart, run-snoc, cost-snoc, run-length, ways-are}
 use Rattle.machine.proofs.Readings.{readings-are}
@@ -42,6 +42,11 @@ module _ (m : Machine) where
   pub total-is : total m ≡ plusAll (map (readingCost m) (readings m))
   unfolding total
   total-is = totals (length (m .finals))
+
+  -- and no more than that of the readings that end at a node
+  pub total-below : (u : ℕ) → u < length (m .finals) → total m ≼ totalAt m u
+  unfolding total
+  total-below u h = plusAll-le (listBelow (length (m .finals)) (totalAt m)) (below-mem (totalAt m) (length (m .finals)) u h)
 
   -- ---- finite weights have finite sums
   module _ (f : Finite m) where

@@ -3,7 +3,7 @@ use mathlib.Core.Path.{_≡_, refl, sym, ap, _∙_, subst}
 use mathlib.Core.Logic.{_⊎_, inl, inr}
 use mathlib.Core.List.{List, [], _∷_, _++_, map, reverse, reverse-cons, append-nil, List·Memᴰ·head, List·Memᴰ·tail, List·Memᴰ·cases-cons, List·Memᴰ·not-nil, List·Memᴰ·append-cases, List·Memᴰ·eq-of-singleton, Memᴰ·append-left, Memᴰ·append-right}
 use mathlib.Core.Bool.{Bool, true, false, cond}
-use Prim.Native.Nat.{ℕ, zero, suc, _+_, _≤_, _<_}
+use Prim.Native.Nat.{ℕ, zero, suc, _≤_, _<_}
 use native.Mathlib.Decide.{ℕ-discrete}
 use native.Mathlib.Omega.{arith}
 use lib.ListN.{length, getD, length-append, length-map}
@@ -249,6 +249,10 @@ pub getD-mem : {A : Type 0} (l : List A) (i : ℕ) (d : A) → i < length l → 
 getD-mem [] i d h = absurd (omega arith)
 getD-mem (x ∷ l) zero d h = here x l
 getD-mem (x ∷ l) (suc i) d h = List·Memᴰ·tail (getD-mem l i d (omega arith))
+
+pub mem-getD : {A : Type 0} {a : A} {l : List A} (d : A) → a ∈ l → (i : ℕ) × (i < length l) × (getD l i d ≡ a)
+mem-getD d (List·Memᴰ·head e) = (0, omega arith, sym e)
+mem-getD d (List·Memᴰ·tail h) = let r = mem-getD d h in (suc (r .0), omega (arith, r .1), r .2)
 
 pub getD-map : {A B : Type 0} (f : A → B) (l : List A) (i : ℕ) (d : A) (e : B) → i < length l → getD (map f l) i e ≡ f (getD l i d)
 getD-map f [] i d e h = absurd (omega arith)

@@ -11,17 +11,14 @@ use lib.ListN.{getD, length}
 use borrow.Author.Tests.{eqb-true, eq-eqb}
 use Rattle.tropical_weight.specs.Tropical.{Tropical, one, _≼_, _⊗_}
 use Rattle.tropical_weight.proofs.Semiring.{≼-eq, ≼-trans}
-use Rattle.sheet.specs.Below.{listBelow}
 use Rattle.sheet.specs.Machine.{Link, Machine}
 use Rattle.machine.specs.Readings.{noLink, link, final, finalWeight}
 use Rattle.machine.specs.Climbs.{Climbs}
-use Rattle.machine.specs.Distance.{dist, total, totalAt}
+use Rattle.machine.specs.Distance.{dist}
 use Rattle.machine.specs.Demand.{_∈_, NoDup}
-use Rattle.machine.proofs.Lists.{below-mem}
-use Rattle.machine.proofs.Sums.{plusAll-le}
 use Rattle.machine.proofs.Runs.{at-some}
 use Rattle.machine.proofs.Readings.{final-in}
-use Rattle.machine.proofs.Distance.{dist-start, dist-link}
+use Rattle.machine.proofs.Distance.{total-below, dist-start, dist-link}
 use Rattle.search.specs.Reversed.{Back, outOfZero, linksInto, outOf, isEnd, distanceTo, reversed}
 use Rattle.search.proofs.Trails.{Consistent}
 
@@ -162,23 +159,16 @@ module _ (m : Machine) where
   leads-up zero b h = let x = out-final b h in omega (arith, ap (λ (b : Back). b .next) (x .3))
   leads-up (suc v) b h = let x = out-link v b h in omega (arith, ap (λ (b : Back). b .next) (x .3))
 
-  total-below : (u : ℕ) → u < length (m .finals) → total m ≼ totalAt m u
-  unfolding total
-  total-below u h = plusAll-le (listBelow (length (m .finals)) (totalAt m)) (below-mem (totalAt m) (length (m .finals)) u h)
-
   module _ (c : Climbs m) where
-    pub leads-in : (v : ℕ) (b : Back) → b ∈ reversed m .out v → (0 < b .next) × (b .next < suc (length (m .finals)))
-    leads-in v b h = (leads-up v b h, below v b h)
-      where
-        below : (v : ℕ) (b : Back) → b ∈ outOf m v → b .next < suc (length (m .finals))
-        below zero b h = let x = out-final b h in omega (arith, ap (λ (b : Back). b .next) (x .3), final-in m (x .0) (x .1) (x .2))
-        below (suc v) b h = let x = out-link v b h in omega (arith, ap (λ (b : Back). b .next) (x .3), c .rises (x .0) (x .1), c .inside (x .0) (x .1))
+    pub leads-in : (v : ℕ) (b : Back) → b ∈ outOf m v → b .next < suc (length (m .finals))
+    leads-in zero b h = let x = out-final b h in omega (arith, ap (λ (b : Back). b .next) (x .3), final-in m (x .0) (x .1) (x .2))
+    leads-in (suc v) b h = let x = out-link v b h in omega (arith, ap (λ (b : Back). b .next) (x .3), c .rises (x .0) (x .1), c .inside (x .0) (x .1))
 
     -- no link beats the distances
     link-step : (v : ℕ) (b : Back) → b ∈ outOf m v → distanceTo m v ≼ distanceTo m (b .next) ⊗ b .weight
     link-step zero b h =
         let x = out-final b h in
-        ≼-trans (total-below (x .0) (final-in m (x .0) (x .1) (x .2)))
+        ≼-trans (total-below m (x .0) (final-in m (x .0) (x .1) (x .2)))
         (≼-eq (ap (λ o. dist m (x .0) ⊗ finalWeight o) (x .2) ∙ ap (λ (y : Back). distanceTo m (y .next) ⊗ y .weight) (sym (x .3))))
     link-step (suc v) b h =
         let x = out-link v b h in

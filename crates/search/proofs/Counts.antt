@@ -8,7 +8,7 @@ use native.Mathlib.Omega.{arith}
 use lib.Dec.{eqb}
 use lib.ListN.{length, getD, set, take, length-set}
 use lib.Seq.{getD-set-same, getD-set-other, take-suc, take-length}
-use borrow.Author.Tests.{eqb-true, eq-eqb, ne-eqb}
+use borrow.Author.Tests.{eqb-true, eqb-false, eq-eqb, ne-eqb}
 use Rattle.machine.specs.Demand.{_∈_}
 use Rattle.machine.proofs.Lists.{Perm, same, skip, thru, perm-sym, pull}
 
@@ -42,6 +42,14 @@ occurs-here x l = omega (arith, one-self x)
 pub occurs-other : (x y : ℕ) (l : List ℕ) → (x ≡ y → ⊥) → occurs x (y ∷ l) ≡ occurs x l
 unfolding occurs one-if
 occurs-other x y l n = ap (λ b. cond b 1 0 + occurs x l) (ne-eqb x y n) ∙ omega arith
+
+-- a list with one member more where y is x, by a list that counts x
+pub occurs-one : {A : Type 0} (x y : ℕ) (l : List ℕ) (a : A) (k : List A) → length k ≡ occurs x l → length (cond (eqb y x) (a ∷ k) k) ≡ occurs x (y ∷ l)
+occurs-one x y l a k e = go (eqb y x) refl
+  where
+    go : (t : Bool) → eqb y x ≡ t → length (cond t (a ∷ k) k) ≡ occurs x (y ∷ l)
+    go true q = ap suc e ∙ sym (occurs-here x l) ∙ ap (λ z. occurs x (z ∷ l)) (sym (eqb-true y x q))
+    go false q = e ∙ sym (occurs-other x y l (λ z. eqb-false y x q (sym z)))
 
 occurs-in : (x : ℕ) (l : List ℕ) → 0 < occurs x l → x ∈ l
 unfolding occurs one-if

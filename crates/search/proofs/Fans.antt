@@ -1,14 +1,12 @@
 -- How many entries are put in: no more than the machine's marks and links allow, where node 0 is expanded at most once and any other at most n times. Assumes nothing.
 use mathlib.Core.Path.{_≡_, refl, sym, ap, _∙_}
-use mathlib.Core.Bool.{Bool, true, false, cond}
+use mathlib.Core.Bool.{cond}
 use mathlib.Core.Option.{Option, none, some}
 use mathlib.Core.List.{List, [], _∷_, _++_, map, List·Memᴰ·tail}
 use Prim.Native.Nat.{ℕ, zero, suc, _+_, _*_, _≤_, _<_}
 use native.Mathlib.Nat.{zero-mul, one-mul, add-mul, mul-le-mul-left, mul-le-mul-right}
 use native.Mathlib.Omega.{arith}
-use lib.Dec.{eqb}
 use lib.ListN.{length, length-append, length-map}
-use borrow.Author.Tests.{eqb-true, eqb-false}
 use Rattle.tropical_weight.specs.Tropical.{Tropical}
 use Rattle.sheet.specs.Below.{sumBelow}
 use Rattle.sheet.specs.Machine.{Link, Machine}
@@ -16,9 +14,9 @@ use Rattle.sheet.proofs.Below.{sumBelow-same, sumBelow-le, sumBelow-add, sumBel
 use Rattle.machine.specs.Demand.{_∈_}
 use Rattle.machine.specs.Readings.{isAt}
 use Rattle.machine.proofs.Lists.{here}
-use Rattle.search.specs.Reversed.{outOfZero, linksInto, outOf, isEnd, reversed}
+use Rattle.search.specs.Reversed.{Reversed, outOfZero, linksInto, outOf, isEnd, reversed}
 use Rattle.search.specs.Search.{marked, mostTaken}
-use Rattle.search.proofs.Counts.{occurs, occurs-append, occurs-here, occurs-other}
+use Rattle.search.proofs.Counts.{occurs, occurs-append, occurs-here, occurs-other, occurs-one}
 use Rattle.search.proofs.Trails.{back, stop, movesFrom}
 
 -- ---- lists of numbers
@@ -77,6 +75,10 @@ occurs-sum size (y ∷ l) =
       occurs-sum size l,
     )
 
+-- what one expansion of a node puts in
+abbrev pub fanOf : Reversed → ℕ → ℕ
+fanOf r v = length (movesFrom r v)
+
 -- ---- of a machine
 marks : (fs : List (Option Tropical)) (v : ℕ) → length (outOfZero fs v) ≡ marked fs
 unfolding outOfZero marked
@@ -91,12 +93,7 @@ nexts ks = map (λ k. k .next) ks
 into-count : (v : ℕ) (ks : List Link) (l : ℕ) → length (linksInto v ks l) ≡ occurs v (nexts ks)
 unfolding linksInto
 into-count v [] l = unfold occurs in refl
-into-count v (k ∷ ks) l = go (eqb (k .next) v) refl (into-count v ks (suc l))
-  where
-    go : (t : Bool) → eqb (k .next) v ≡ t → length (linksInto v ks (suc l)) ≡ occurs v (nexts ks)
-        → length (cond t (record { input = some l; weight = k .weight; next = suc (k .source) } ∷ linksInto v ks (suc l)) (linksInto v ks (suc l))) ≡ occurs v (k .next ∷ nexts ks)
-    go true e r = ap suc r ∙ sym (occurs-here v (nexts ks)) ∙ ap (λ (u : ℕ). occurs v (u ∷ nexts ks)) (sym (eqb-true (k .next) v e))
-    go false e r = r ∙ sym (occurs-other v (k .next) (nexts ks) (λ q. eqb-false (k .next) v e (sym q)))
+into-count v (k ∷ ks) l = occurs-one v (k .next) (nexts ks) (record { input = some l; weight = k .weight; next = suc (k .source) }) (linksInto v ks (suc l)) (into-count v ks (suc l))
 
 -- the start, where there is one
 abbrev starts : Option ℕ → List ℕ
@@ -105,11 +102,7 @@ starts (some s) = s ∷ []
 
 stop-count : (o : Option ℕ) (v : ℕ) → length (cond (isAt o v) (stop ∷ []) []) ≡ occurs v (starts o)
 stop-count none v = unfold occurs in refl
-stop-count (some s) v = go (eqb s v) refl
-  where
-    go : (t : Bool) → eqb s v ≡ t → length (cond t (stop ∷ []) []) ≡ occurs v (s ∷ [])
-    go true e = sym (ap (λ (u : ℕ). occurs v (u ∷ [])) (eqb-true s v e) ∙ occurs-alone v)
-    go false e = sym (occurs-not s v (λ q. eqb-false s v e (sym q)))
+stop-count (some s) v = occurs-one v s [] stop [] (unfold occurs in refl)
 
 -- the most that a node is expanded
 abbrev pub cap : ℕ → ℕ → ℕ
@@ -117,9 +110,8 @@ cap n zero = 1
 cap n (suc v) = n
 
 module _ (m : Machine) where
-  -- what one expansion of a node puts in
-  abbrev pub fan : ℕ → ℕ
-  fan v = length (movesFrom (reversed m) v)
+  abbrev fan : ℕ → ℕ
+  fan v = fanOf (reversed m) v
 
   -- node v, once for each entry that an expansion of v + 1 puts in
   abbrev targets : List ℕ

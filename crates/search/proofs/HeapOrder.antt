@@ -2,7 +2,7 @@
 -- head. Assumes nothing.
 use mathlib.Core.Path.{_≡_, refl, sym, ap, _∙_, subst}
 use mathlib.Core.Bool.{Bool, true, false, cond, _&&_}
-use mathlib.Core.List.{List, [], _∷_, _++_, List·Memᴰ·head, List·Memᴰ·tail}
+use mathlib.Core.List.{List, [], _∷_, _++_}
 use Prim.Native.Nat.{ℕ, zero, suc, _+_, _-_, _*_, _/_, _≤_, _<_}
 use native.Mathlib.Decide.{ℕ-discrete}
 use native.Mathlib.Omega.{arith}
@@ -11,6 +11,7 @@ use lib.ListN.{length, getD, set, take, length-set, length-take, length-append, 
 use lib.Seq.{getD-set-same, getD-set-other, getD-take}
 use borrow.Author.Tests.{ltb-false, leb-true, leb-false, eqb-true, eqb-false}
 use Rattle.machine.specs.Demand.{_∈_}
+use Rattle.machine.proofs.Lists.{mem-getD}
 use Rattle.search.specs.Heap.{swapped, secondFirst, child, stays, siftUp, siftDown, pushed, popped}
 use Rattle.search.proofs.Contents.{length-swapped, child-above, child-in, popped-one, popped-more}
 
@@ -270,9 +271,5 @@ module _ (before : ℕ → ℕ → Bool) where
         go (yes e) f = held refl (ap (at h) e) (self (at h 0))
         go (no n) f = o .chain (at h 0) (at h (up j)) (at h j) (f (omega (arith, n))) (k j (omega (arith, n)) q)
 
-    place : (x : ℕ) (l : List ℕ) → x ∈ l → (j : ℕ) × (j < length l) × (at l j ≡ x)
-    place x (y ∷ l) (List·Memᴰ·head e) = (0, omega arith, sym e)
-    place x (y ∷ l) (List·Memᴰ·tail m) = let r = place x l m in (suc (r .0), omega (arith, r .1), r .2)
-
     pub head-first : (a : ℕ) (l : List ℕ) → Ordered (a ∷ l) → (x : ℕ) → x ∈ (a ∷ l) → Above a x
-    head-first a l k x m = let r = place x (a ∷ l) m in held refl (sym (r .2)) (over-all (r .0) (a ∷ l) k (r .0) (omega arith) (r .1))
+    head-first a l k x m = let r = mem-getD 0 m in held refl (sym (r .2)) (over-all (r .0) (a ∷ l) k (r .0) (omega arith) (r .1))

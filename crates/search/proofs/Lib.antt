@@ -13,6 +13,8 @@ pub mod Steps
 pub mod Ran
 pub mod Numbered
 pub mod Complete
+pub mod Entries
+pub mod OnWays
 pub mod Trims
 pub mod Results
 pub mod Readback

@@ -1,10 +1,9 @@
 -- Demand 3 of the result for every n from 1 to 64, about the list that is read back from its bytes alone. Assumes nothing.
 use mathlib.Core.Path.{_≡_, refl, sym, ap, _∙_, subst}
-use mathlib.Core.Logic.{inl, inr}
 use mathlib.Core.Option.{Option, none, some}
 use mathlib.Core.List.{List, [], _∷_, _++_, map, List·Memᴰ·not-nil, List·Memᴰ·eq-of-singleton}
 use Prim.Native.Nat.{ℕ, zero, suc, _+_, _*_, _^_, _≤_, _<_}
-use native.Mathlib.Nat.{mul-le-mul-left, mul-le-mul-right}
+use native.Mathlib.Nat.{mul-le-mul-right}
 use native.Mathlib.Omega.{arith}
 use lib.ListN.{length, length-map}
 use Rattle.tropical_weight.specs.Limits.{nodeLimit, linkLimit}
@@ -16,7 +15,7 @@ use Rattle.sheet.proofs.Sources.{machine-links, machine-nodes}
 use Rattle.machine.specs.Readings.{Reading, IsReading, readingOf, readings}
 use Rattle.machine.specs.Climbs.{Climbs, Finite}
 use Rattle.machine.specs.Parents.{best}
-use Rattle.machine.specs.Demand.{_∈_, Demand}
+use Rattle.machine.specs.Demand.{Demand}
 use Rattle.machine.specs.Input.{inputNumber}
 use Rattle.machine.proofs.Lists.{nodup-length}
 use Rattle.machine.proofs.Runs.{run-length, run-in}
@@ -25,9 +24,10 @@ use Rattle.machine.proofs.Parents.{best-is, best-some}
 use Rattle.machine.proofs.Accepted.{Passes, passes, few-nodes, few-links, link-at, climbs-machine, finite-machine}
 use Rattle.machine.proofs.Demand.{demand-best, demand-none}
 use Rattle.search.specs.Search.{marked, mostTaken, search, runs, runOf}
-use Rattle.search.specs.ListMachine.{Result, empty, bestResult, trimmed, resultBy, resultFor, resultBytes}
+use Rattle.search.specs.ListMachine.{Result, bestResult, trimmed, resultBy, resultFor, resultBytes}
 use Rattle.search.specs.Listed.{listOf}
-use Rattle.search.proofs.Complete.{holds, put-in, few-listed, taken-bound, demand-search, numbered, inputs-in}
+use Rattle.search.proofs.Complete.{holds, put-in, few-listed, taken-bound, demand-search}
+use Rattle.search.proofs.Entries.{numbered, inputs-in}
 use Rattle.search.proofs.Trims.{trimmed-is}
 use Rattle.search.proofs.Results.{Labels, empty-back}
 use Rattle.search.proofs.Readback.{Fits, list-back}

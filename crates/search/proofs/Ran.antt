@@ -12,20 +12,13 @@ use Rattle.sheet.proofs.Apart.{not-both}
 use Rattle.machine.specs.Demand.{_∈_}
 use Rattle.search.specs.Reversed.{Back, Reversed}
 use Rattle.search.specs.Heap.{popped}
-use Rattle.search.specs.Search.{Entry, half, finished, Put, first, Search, before, put, putAll, expansion, takenBy, step, stopped, after}
+use Rattle.search.specs.Search.{Entry, half, finished, first, Search, before, putAll, expansion, takenBy, step, stopped, after}
 use Rattle.search.proofs.Trails.{Consistent}
+use Rattle.search.proofs.Mirror.{putAll-keeps}
 use Rattle.search.proofs.Steps.{Holds, holds-step}
 
 module _ (r : Reversed) (n : ℕ) where
   -- ---- what one removal adds to the list and to the count
-  putAll-listed : (es : List Put) (s : Search) → putAll r es s .listed ≡ s .listed
-  putAll-listed [] s = refl
-  putAll-listed (e ∷ es) s = putAll-listed es (put r e s)
-
-  putAll-taken : (es : List Put) (s : Search) → putAll r es s .taken ≡ s .taken
-  putAll-taken [] s = refl
-  putAll-taken (e ∷ es) s = putAll-taken es (put r e s)
-
   -- one more taken, and at most one more listed
   abbrev OneMore : Search → Search → Type 0
   OneMore s z = (length (z .listed) ≤ suc (length (s .listed))) × (z .taken ≡ suc (s .taken))
@@ -38,7 +31,7 @@ module _ (r : Reversed) (n : ℕ) where
       z = record { entries = s .entries; heap = h; visits = set (s .visits) v (suc (getD (s .visits) v 0)); listed = s .listed; taken = suc (s .taken) }
 
       go : (t : Bool) → OneMore s (cond t (putAll r (expansion r x v c) z) z)
-      go true = (omega (arith, ap length (putAll-listed (expansion r x v c) z)), putAll-taken (expansion r x v c) z)
+      go true = let k = putAll-keeps r (expansion r x v c) z in (omega (arith, ap length (k .1)), k .2)
       go false = (omega arith, refl)
 
   step-one : (s : Search) → OneMore s (step r n s)

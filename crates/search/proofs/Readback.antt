@@ -1,175 +1,40 @@
 -- From n = 2, the list read back from the bytes of a search's result is the list of the readings that the search listed. Assumes nothing.
 use mathlib.Core.Path.{_≡_, refl, sym, ap, ap₂, _∙_}
-use mathlib.Core.Logic.{_⊎_, inl, inr}
-use mathlib.Core.Bool.{Bool, true, false, _||_, cond, or-true}
+use mathlib.Core.Logic.{inl, inr}
+use mathlib.Core.Bool.{Bool, cond}
 use mathlib.Core.Option.{Option, none, some}
-use mathlib.Core.List.{List, [], _∷_, _++_, map, append-nil, List·Memᴰ·cases-cons, List·Memᴰ·not-nil}
+use mathlib.Core.List.{List, [], _∷_, _++_, map}
 use Prim.Native.Nat.{ℕ, zero, suc, _+_, _-_, _^_, _≤_, _<_}
-use native.Mathlib.Decide.{ℕ-discrete}
 use native.Mathlib.Omega.{arith}
-use lib.Dec.{eqb}
-use lib.ListN.{length, getD, replicate, length-append, length-map, length-replicate, getD-replicate, List·getD-append, List·getD-eq-default}
-use lib.Seq.{getD-append-add, getD-append-seam}
-use borrow.Author.Tests.{eqb-true, eq-eqb, ne-eqb}
+use lib.ListN.{length, getD, replicate, length-append, length-map, length-replicate, getD-replicate, List·getD-append}
+use lib.Seq.{getD-append-add}
+use borrow.Author.Tests.{eq-eqb, ne-eqb}
 use Rattle.tropical_weight.specs.Tropical.{Tropical, one}
 use Rattle.sheet.specs.Below.{listBelow}
 use Rattle.sheet.specs.Sheet.{Parts, noStart, linkCount, nodeCount, next, mark}
 use Rattle.sheet.specs.Machine.{Link, Machine, partsFor}
-use Rattle.sheet.proofs.Apart.{or-either, or-left, or-right}
 use Rattle.sheet.proofs.Below.{split-at}
 use Rattle.sheet.proofs.Encoding.{LinkFits, Writable, nodes-are, links-are, start-is, next-is, mark-some, mark-none, source-of}
 use Rattle.machine.specs.Readings.{noLink}
 use Rattle.machine.specs.Demand.{_∈_}
 use Rattle.machine.proofs.Lists.{getD-mem, getD-map, map-places}
-use Rattle.search.specs.Search.{Entry, half, finished, Put, first, Search, withInput, runOf, runs}
-use Rattle.search.specs.ListMachine.{isBehind, onWay, linkBy, wordFor, resultBytes}
+use Rattle.search.specs.Search.{Entry, half, finished, first, Search, withInput, runOf, runs}
+use Rattle.search.specs.ListMachine.{linkBy, wordFor, resultBytes}
 use Rattle.search.specs.States.{kept, stateOf, later, startLink, entryLink, listMachine, listResult}
 use Rattle.search.specs.Listed.{linksFrom, repeated, along, wayFrom, oneWay, ways, listOf}
+use Rattle.search.proofs.Mirror.{run-first}
 use Rattle.search.proofs.Numbered.{Numbered}
+use Rattle.search.proofs.OnWays.{cameFrom, OnWay, linkBy-ends, way-listed, way-from, kept-le, kept-at, kept-place, state-pos, state-le, state-lt, state-in, state-at}
 use Rattle.search.proofs.Results.{Labels, labels-all, Storable, read-result, sourceAt, out-one, out-front, repeated-is}
+
+abbrev pub inputOf : Search → ℕ → Option ℕ
+inputOf s j = getD (s .entries) j first .input
 
 -- The fields of the result hold what it has: 2 ^ 28 links make 2 ^ 32 bytes.
 pub record Fits (m : Machine) (s : Search) : Type 0 where
   pub labels : Labels m
   pub few : length (s .listed) + length (s .entries) ≤ 2 ^ 28
-  pub inputs : (i l : ℕ) → i < length (s .entries) → getD (s .entries) i first .input ≡ some l → l < noStart
-
-either : (t : Bool) → (t ≡ true) ⊎ (t ≡ false)
-either true = inl refl
-either false = inr refl
-
--- ---- the entries on a way
-abbrev cameFrom : Search → ℕ → ℕ
-cameFrom s i = getD (s .entries) i first .from
-
-abbrev isOn : Search → ℕ → Bool
-isOn s j = onWay (s .entries) (s .listed) j
-
-module _ (s : Search) (w : Numbered s) where
-  from-lt : (i : ℕ) → 0 < i → cameFrom s i < i
-  from-lt i h = elim (split-at i (length (s .entries))) [
-    | inl b ↦ w .earlier i h b
-    | inr b ↦ omega (arith, ap (λ (e : Put). e .from) (List·getD-eq-default (s .entries) first b))
-  ]
-
-  from-le : (i k : ℕ) → i ≤ suc k → cameFrom s i ≤ k
-  from-le zero k h = omega (arith, ap (λ (e : Put). e .from) (w .zeroth))
-  from-le (suc i) k h = omega (arith, from-lt (suc i) (omega arith))
-
-  behind-self : (k i : ℕ) → isBehind (s .entries) k i i ≡ true
-  unfolding isBehind
-  behind-self zero i = eq-eqb i i refl
-  behind-self (suc k) i = or-left (eqb i i) (isBehind (s .entries) k (cameFrom s i) i) (eq-eqb i i refl)
-
-  -- with an entry, the one it came from
-  behind-from : (k i j : ℕ) → i ≤ k → 0 < j → isBehind (s .entries) k i j ≡ true → isBehind (s .entries) k i (cameFrom s j) ≡ true
-  unfolding isBehind
-  behind-from zero i j h b e = absurd (omega (arith, eqb-true i j e))
-  behind-from (suc k) i j h b e = go (or-either (eqb i j) (isBehind (s .entries) k (cameFrom s i) j) e) (behind-from k (cameFrom s i) j (from-le i k h) b)
-    where
-      go : (eqb i j ≡ true) ⊎ (isBehind (s .entries) k (cameFrom s i) j ≡ true) → (isBehind (s .entries) k (cameFrom s i) j ≡ true → isBehind (s .entries) k (cameFrom s i) (cameFrom s j) ≡ true)
-          → eqb i (cameFrom s j) || isBehind (s .entries) k (cameFrom s i) (cameFrom s j) ≡ true
-      go (inl q) ih = or-right (eqb i (cameFrom s j)) (isBehind (s .entries) k (cameFrom s i) (cameFrom s j)) (ap (λ x. isBehind (s .entries) k (cameFrom s x) (cameFrom s j)) (eqb-true i j q) ∙ behind-self k (cameFrom s j))
-      go (inr q) ih = or-right (eqb i (cameFrom s j)) (isBehind (s .entries) k (cameFrom s i) (cameFrom s j)) (ih q)
-
-  way-from : (is : List ℕ) (j : ℕ) → 0 < j → onWay (s .entries) is j ≡ true → onWay (s .entries) is (cameFrom s j) ≡ true
-  unfolding onWay
-  way-from [] j b e = e
-  way-from (i ∷ is) j b e = elim (or-either (isBehind (s .entries) i i j) (onWay (s .entries) is j) e) [
-    | inl q ↦ or-left (isBehind (s .entries) i i (cameFrom s j)) (onWay (s .entries) is (cameFrom s j)) (behind-from i i j (omega arith) b q)
-    | inr q ↦ or-right (isBehind (s .entries) i i (cameFrom s j)) (onWay (s .entries) is (cameFrom s j)) (way-from is j b q)
-  ]
-
-  way-self : (is : List ℕ) (i : ℕ) → i ∈ is → onWay (s .entries) is i ≡ true
-  unfolding onWay
-  way-self [] i h = absurd (List·Memᴰ·not-nil h)
-  way-self (x ∷ is) i h = elim (List·Memᴰ·cases-cons h) [
-    | inl q ↦ or-left (isBehind (s .entries) x x i) (onWay (s .entries) is i) (ap (λ y. isBehind (s .entries) x x y) q ∙ behind-self x x)
-    | inr q ↦ or-right (isBehind (s .entries) x x i) (onWay (s .entries) is i) (way-self is i q)
-  ]
-
--- ---- the kept ones by place
-module _ (s : Search) where
-  kept-on : (k : ℕ) → isOn s (suc k) ≡ true → kept s (suc k) ≡ kept s k ++ (suc k ∷ [])
-  unfolding kept
-  kept-on k e = ap (λ t. kept s k ++ cond t (suc k ∷ []) []) e
-
-  kept-off : (k : ℕ) → isOn s (suc k) ≡ false → kept s (suc k) ≡ kept s k
-  unfolding kept
-  kept-off k e = ap (λ t. kept s k ++ cond t (suc k ∷ []) []) e ∙ append-nil (kept s k)
-
-  kept-le : (k : ℕ) → length (kept s k) ≤ k
-  unfolding kept
-  kept-le zero = omega arith
-  kept-le (suc k) = elim (either (isOn s (suc k))) [
-    | inl e ↦ omega (arith, ap length (kept-on k e), length-append (kept s k) (suc k ∷ []), kept-le k)
-    | inr e ↦ omega (arith, ap length (kept-off k e), kept-le k)
-  ]
-
-  -- what is kept of fewer stays at its places
-  kept-more : (k i : ℕ) → i < length (kept s k) → (i < length (kept s (suc k))) × (getD (kept s (suc k)) i 0 ≡ getD (kept s k) i 0)
-  kept-more k i h = elim (either (isOn s (suc k))) [
-    | inl e ↦ (omega (arith, ap length (kept-on k e), length-append (kept s k) (suc k ∷ [])), ap (λ (l : List ℕ). getD l i 0) (kept-on k e) ∙ List·getD-append (kept s k) (suc k ∷ []) 0 i h)
-    | inr e ↦ (omega (arith, ap length (kept-off k e)), ap (λ (l : List ℕ). getD l i 0) (kept-off k e))
-  ]
-
-  -- the new one is the last
-  kept-last : (k : ℕ) → isOn s (suc k) ≡ true → (length (kept s (suc k)) ≡ suc (length (kept s k))) × (getD (kept s (suc k)) (length (kept s k)) 0 ≡ suc k)
-  kept-last k e = (omega (arith, ap length (kept-on k e), length-append (kept s k) (suc k ∷ [])), ap (λ (l : List ℕ). getD l (length (kept s k)) 0) (kept-on k e) ∙ getD-append-seam (kept s k) (suc k) [] 0)
-
-  -- the place of an entry on a way is how many are kept before it
-  kept-at : (k j : ℕ) → j < k → isOn s (suc j) ≡ true → (length (kept s j) < length (kept s k)) × (getD (kept s k) (length (kept s j)) 0 ≡ suc j)
-  kept-at zero j h e = absurd (omega arith)
-  kept-at (suc k) j h e = go (ℕ-discrete j k) (λ b. kept-at k j b e)
-    where
-      go : Dec (j ≡ k) → (j < k → (length (kept s j) < length (kept s k)) × (getD (kept s k) (length (kept s j)) 0 ≡ suc j)) → (length (kept s j) < length (kept s (suc k))) × (getD (kept s (suc k)) (length (kept s j)) 0 ≡ suc j)
-      go (yes z) ih =
-          let r = kept-last k (ap (λ (x : ℕ). isOn s (suc x)) (sym z) ∙ e) in
-          let same : length (kept s j) ≡ length (kept s k) = ap (λ (x : ℕ). length (kept s x)) z in
-          (omega (arith, r .0), ap (λ (x : ℕ). getD (kept s (suc k)) x 0) same ∙ r .1 ∙ ap suc (sym z))
-      go (no z) ih = let r = ih (omega (arith, z)) in let q = kept-more k (length (kept s j)) (r .0) in (q .0, q .1 ∙ r .1)
-
-  -- each place is that of an entry on a way
-  kept-place : (k i : ℕ) → i < length (kept s k) → (j : ℕ) × (j < k) × (isOn s (suc j) ≡ true) × (getD (kept s k) i 0 ≡ suc j) × (length (kept s j) ≡ i)
-  kept-place zero i h = absurd (omega (arith, kept-le zero))
-  kept-place (suc k) i h = go (split-at i (length (kept s k))) (either (isOn s (suc k))) (kept-place k i)
-    where
-      go : (i < length (kept s k)) ⊎ (length (kept s k) ≤ i) → (isOn s (suc k) ≡ true) ⊎ (isOn s (suc k) ≡ false)
-          → (i < length (kept s k) → (j : ℕ) × (j < k) × (isOn s (suc j) ≡ true) × (getD (kept s k) i 0 ≡ suc j) × (length (kept s j) ≡ i))
-          → (j : ℕ) × (j < suc k) × (isOn s (suc j) ≡ true) × (getD (kept s (suc k)) i 0 ≡ suc j) × (length (kept s j) ≡ i)
-      go (inl b) t ih = let r = ih b in (r .0, omega (arith, r .1), r .2, kept-more k i b .1 ∙ r .3, r .4)
-      go (inr b) (inl e) ih =
-          let r = kept-last k e in
-          let at : i ≡ length (kept s k) = omega (arith, r .0) in
-          (k, omega arith, e, ap (λ (x : ℕ). getD (kept s (suc k)) x 0) at ∙ r .1, sym at)
-      go (inr b) (inr e) ih = absurd (omega (arith, ap length (kept-off k e)))
-
-  -- ---- their states
-  state-pos : (j : ℕ) → 0 < stateOf s j
-  unfolding stateOf
-  state-pos zero = omega arith
-  state-pos (suc j) = omega arith
-
-  state-le : (j : ℕ) → stateOf s j ≤ suc j
-  unfolding stateOf
-  state-le zero = omega arith
-  state-le (suc j) = omega (arith, kept-le j)
-
-  -- states rise with the entries on a way
-  state-lt : (i j : ℕ) → i < j → (0 < i → isOn s i ≡ true) → stateOf s i < stateOf s j
-  unfolding stateOf
-  state-lt i zero h e = absurd (omega arith)
-  state-lt zero (suc j) h e = omega arith
-  state-lt (suc i) (suc j) h e = omega (arith, kept-at j i (omega arith) (e (omega arith)) .0)
-
-  state-in : (j : ℕ) → j < length (s .entries) → isOn s j ≡ true → stateOf s j < 2 + length (later s)
-  unfolding stateOf
-  state-in zero h e = omega arith
-  state-in (suc j) h e = omega (arith, kept-at (length (s .entries) - 1) j (omega arith) e .0)
-
-  state-at : (i : ℕ) → i < length (later s) → stateOf s (getD (later s) i 0) ≡ 2 + i
-  unfolding stateOf
-  state-at i h = let r = kept-place (length (s .entries) - 1) i h in ap (stateOf s) (r .3) ∙ ap (λ (n : ℕ). 2 + n) (r .4)
+  pub inputs : (i l : ℕ) → i < length (s .entries) → inputOf s i ≡ some l → l < noStart
 
 -- ---- the list machine by its numbers
 module _ (m : Machine) (s : Search) where
@@ -187,21 +52,11 @@ module _ (m : Machine) (s : Search) where
       ap (λ (n : ℕ). getD (listMachine m s .links) n d) (let z : l ≡ length (map (startLink s) (s .listed)) + i = omega (arith, length-map (s .listed) (startLink s)) in z)
       ∙ getD-append-add (map (startLink s) (s .listed)) (map (entryLink m s) (later s)) i d ∙ getD-map (entryLink m s) (later s) i 0 d h
 
-  by-source-is : (o : Option ℕ) (e : Entry) (a b : ℕ) → linkBy m o e a b .source ≡ a
-  by-source-is (some l) e a b = refl
-  by-source-is none (half v c) a b = refl
-  by-source-is none (finished c) a b = refl
-
-  by-next-is : (o : Option ℕ) (e : Entry) (a b : ℕ) → linkBy m o e a b .next ≡ b
-  by-next-is (some l) e a b = refl
-  by-next-is none (half v c) a b = refl
-  by-next-is none (finished c) a b = refl
-
   entry-source : (j : ℕ) → entryLink m s j .source ≡ stateOf s j
-  entry-source j = let e = getD (s .entries) j first in by-source-is (e .input) (e .entry) (stateOf s j) (stateOf s (e .from))
+  entry-source j = let e = getD (s .entries) j first in linkBy-ends m (e .input) (e .entry) (stateOf s j) (stateOf s (e .from)) .0
 
   entry-next : (j : ℕ) → entryLink m s j .next ≡ stateOf s (cameFrom s j)
-  entry-next j = let e = getD (s .entries) j first in by-next-is (e .input) (e .entry) (stateOf s j) (stateOf s (e .from))
+  entry-next j = let e = getD (s .entries) j first in linkBy-ends m (e .input) (e .entry) (stateOf s j) (stateOf s (e .from)) .1
 
   -- a number among the links of the start, or among those of the entries
   data Which (l : ℕ) : Type 0 where
@@ -229,17 +84,17 @@ module _ (m : Machine) (s : Search) where
   -- the input links that its links repeat
   repeat-start : (l : ℕ) → l < length (s .listed) → getD (listResult m s .repeats) l none ≡ none
   repeat-start l h =
-      List·getD-append (replicate (length (s .listed)) none) (map (λ j. getD (s .entries) j first .input) (later s)) none l (omega (arith, length-replicate {A = Option ℕ} (length (s .listed)) none))
+      List·getD-append (replicate (length (s .listed)) none) (map (inputOf s) (later s)) none l (omega (arith, length-replicate {A = Option ℕ} (length (s .listed)) none))
       ∙ getD-replicate (length (s .listed)) l none none h
 
-  repeat-entry : (l i : ℕ) → i < length (later s) → l ≡ length (s .listed) + i → getD (listResult m s .repeats) l none ≡ getD (s .entries) (getD (later s) i 0) first .input
+  repeat-entry : (l i : ℕ) → i < length (later s) → l ≡ length (s .listed) + i → getD (listResult m s .repeats) l none ≡ inputOf s (getD (later s) i 0)
   repeat-entry l i h e =
       ap (λ (n : ℕ). getD (listResult m s .repeats) n none) (let z : l ≡ length (replicate {A = Option ℕ} (length (s .listed)) none) + i = omega (arith, length-replicate {A = Option ℕ} (length (s .listed)) none) in z)
-      ∙ getD-append-add (replicate (length (s .listed)) none) (map (λ j. getD (s .entries) j first .input) (later s)) i none ∙ getD-map (λ j. getD (s .entries) j first .input) (later s) i 0 none h
+      ∙ getD-append-add (replicate (length (s .listed)) none) (map (inputOf s) (later s)) i none ∙ getD-map (inputOf s) (later s) i 0 none h
 
   repeats-long : length (listResult m s .repeats) ≡ length (listMachine m s .links)
-  repeats-long = length-append (replicate (length (s .listed)) none) (map (λ j. getD (s .entries) j first .input) (later s))
-      ∙ (λ i. length-replicate {A = Option ℕ} (length (s .listed)) none i + length-map (later s) (λ j. getD (s .entries) j first .input) i) ∙ sym links-long
+  repeats-long = length-append (replicate (length (s .listed)) none) (map (inputOf s) (later s))
+      ∙ (λ i. length-replicate {A = Option ℕ} (length (s .listed)) none i + length-map (later s) (inputOf s) i) ∙ sym links-long
 
 -- ---- a result that its bytes give back
 by-labels : (m : Machine) → Labels m → (o : Option ℕ) (e : Entry) (a b : ℕ) → (linkBy m o e a b .ilabel < 2 ^ 32) × (linkBy m o e a b .olabel < 2 ^ 32)
@@ -276,7 +131,7 @@ module _ (m : Machine) (s : Search) (w : Numbered s) (x : Fits m s) where
         source-in = omega (arith, ap (λ (k : Link). k .source) e, entry-source m s j, state-at s i h, nodes-long m s);
         ilabel-fits = omega (arith, ap (λ (k : Link). k .ilabel) e, b .0);
         olabel-fits = omega (arith, ap (λ (k : Link). k .olabel) e, b .1);
-        next-fits = omega (arith, ap (λ (k : Link). k .next) e, entry-next m s j, state-small (cameFrom s j) (omega (arith, from-le s w j j (omega arith), later-in i h)));
+        next-fits = omega (arith, ap (λ (k : Link). k .next) e, entry-next m s j, state-small (cameFrom s j) (omega (arith, w .earlier j, later-in i h)));
       }
 
   input-fits : (l : ℕ) → Which m s l → (a : ℕ) → getD (listResult m s .repeats) l none ≡ some a → a < noStart
@@ -344,29 +199,23 @@ module _ (m : Machine) (s : Search) (w : Numbered s) (x : Fits m s) where
   word-at : (l : ℕ) → l < length (listMachine m s .links) → getD (wordsOf m s) l 0 ≡ wordFor (getD (listResult m s .repeats) l none)
   word-at l h = getD-map wordFor (listResult m s .repeats) l none 0 (omega (arith, repeats-long m s))
 
-  -- the first comes from itself by no link
-  run-first : (g : ℕ) → runOf (s .entries) g 0 ≡ []
-  unfolding runOf
-  run-first zero = refl
-  run-first (suc g) = ap (λ (e : Put). withInput (e .input) (runOf (s .entries) g (e .from))) (w .zeroth) ∙ run-first g
-
-  way-is : (f g j : ℕ) → j < length (s .entries) → (0 < j → isOn s j ≡ true) → stateOf s j ≤ f → j ≤ g → wayFrom (fields m s) (wordsOf m s) f (stateOf s j) ≡ runOf (s .entries) g j
+  way-is : (f g j : ℕ) → j < length (s .entries) → OnWay s j → stateOf s j ≤ f → j ≤ g → wayFrom (fields m s) (wordsOf m s) f (stateOf s j) ≡ runOf (s .entries) g j
   unfolding wayFrom runOf stateOf
   way-is zero g j h o b c = absurd (omega (arith, state-pos s j))
   way-is (suc f) g zero h o b c =
       ap (λ (t : Bool). cond t [] (along (fields m s) (wordsOf m s) (wayFrom (fields m s) (wordsOf m s) f) (linksFrom (fields m s) (wordsOf m s) 1))) (eq-eqb (mark (fields m s) 1) 1 mark-first)
-      ∙ sym (run-first g)
+      ∙ sym (run-first (s .entries) (w .zeroth) g)
   way-is (suc f) zero (suc j) h o b c = absurd (omega arith)
   way-is (suc f) (suc g) (suc j) h o b c =
-      let r = kept-at s (length (s .entries) - 1) j (omega arith) (o (omega arith)) in
+      let r = kept-at s (length (s .entries) - 1) j (omega arith) o in
       let i = length (kept s j) in
       let l = length (s .listed) + i in
       let e = getD (s .entries) (suc j) first in
       let u = cameFrom s (suc j) in
-      let below : u < suc j = from-lt s w (suc j) (omega arith) in
-      let on : 0 < u → isOn s u ≡ true = λ z. way-from s w (s .listed) (suc j) (omega arith) (o (omega arith)) in
+      let below : u < suc j = omega (arith, w .earlier (suc j)) in
+      let on : OnWay s u = way-from s w (suc j) o in
       let in-links : l < length (listMachine m s .links) = omega (arith, links-long m s, r .0) in
-      let input : getD (listResult m s .repeats) l none ≡ e .input = repeat-entry m s l i (r .0) refl ∙ ap (λ (k : ℕ). getD (s .entries) k first .input) (r .1) in
+      let input : getD (listResult m s .repeats) l none ≡ e .input = repeat-entry m s l i (r .0) refl ∙ ap (inputOf s) (r .1) in
       let to : next (fields m s) l ≡ stateOf s u = next-is (listMachine m s) l noLink in-links ∙ ap (λ (k : Link). k .next) (link-entry m s l i noLink (r .0) refl ∙ ap (entryLink m s) (r .1)) ∙ entry-next m s (suc j) in
       ap₂ (λ (t : Bool) (ls : List ℕ). cond t [] (along (fields m s) (wordsOf m s) (wayFrom (fields m s) (wordsOf m s) f) ls)) (ne-eqb (mark (fields m s) (2 + i)) 1 (λ z. omega (arith, z, mark-later i (r .0)))) (link-out i (r .0))
       ∙ repeated-is (fields m s) (wordsOf m s) (e .input) l (wayFrom (fields m s) (wordsOf m s) f (next (fields m s) l)) (λ a q. x .inputs (suc j) a h q) (word-at l in-links ∙ ap wordFor input)
@@ -385,11 +234,11 @@ module _ (m : Machine) (s : Search) (w : Numbered s) (x : Fits m s) where
       same l h =
           let i = getD (s .listed) l 0 in
           let listed : i ∈ s .listed = getD-mem (s .listed) l 0 h in
-          let on : isOn s i ≡ true = way-self s w (s .listed) i listed in
+          let on : OnWay s i = way-listed s i listed in
           let in-links : l < length (listMachine m s .links) = omega (arith, links-long m s) in
           repeated-is (fields m s) (wordsOf m s) none l (wayFrom (fields m s) (wordsOf m s) (nodeCount (fields m s)) (next (fields m s) l)) (λ a q. let z : _≡_ {A = ℕ} 0 1 = cc in absurd (omega arith)) (word-at l in-links ∙ ap wordFor (repeat-start m s l h))
           ∙ ap (wayFrom (fields m s) (wordsOf m s) (nodeCount (fields m s))) (next-is (listMachine m s) l noLink in-links ∙ ap (λ (k : Link). k .next) (link-start m s l noLink h))
-          ∙ way-is (nodeCount (fields m s)) (length (s .entries)) i (w .inside i listed) (λ z. on) (omega (arith, nodes-are (listMachine m s), nodes-long m s, state-in s i (w .inside i listed) on)) (omega (arith, w .inside i listed))
+          ∙ way-is (nodeCount (fields m s)) (length (s .entries)) i (w .inside i listed) on (omega (arith, nodes-are (listMachine m s), nodes-long m s, state-in s i (w .inside i listed) on)) (omega (arith, w .inside i listed))
 
   -- the list read back is the list
   pub list-back : (n : ℕ) → (n ≡ 1 → ⊥) → (rest : List ℕ) → listOf n (length (listMachine m s .finals)) (length (listMachine m s .links)) (resultBytes (listResult m s) ++ rest) ≡ runs s

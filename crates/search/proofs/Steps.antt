@@ -4,13 +4,13 @@ use mathlib.Core.Logic.{_⊎_, inl, inr}
 use mathlib.Core.Bool.{Bool, true, false, cond}
 use mathlib.Core.Option.{Option, none, some}
 use mathlib.Core.List.{List, [], _∷_, _++_, map, append-nil, append-assoc, List·Memᴰ·head, List·Memᴰ·tail, List·Memᴰ·not-nil, List·Memᴰ·append-cases, List·Memᴰ·eq-of-singleton}
-use Prim.Native.Nat.{ℕ, zero, suc, _+_, _-_, _≤_, _<_, min}
+use Prim.Native.Nat.{ℕ, zero, suc, _+_, _≤_, _<_, min}
 use native.Mathlib.Decide.{ℕ-discrete}
 use native.Mathlib.Omega.{arith}
-use lib.Dec.{eqb, leb}
-use lib.ListN.{getD, set, length, replicate, getD-replicate, length-replicate, length-append, length-map, length-set, List·getD-eq-default}
+use lib.Dec.{leb}
+use lib.ListN.{getD, set, length, replicate, getD-replicate, length-replicate, length-append, length-map, length-set, List·getD-append, List·getD-eq-default}
 use lib.Seq.{getD-set-same, getD-set-other}
-use borrow.Author.Tests.{leb-true, leb-false, eqb-true, eqb-false}
+use borrow.Author.Tests.{leb-true, leb-false}
 use Rattle.tropical_weight.specs.Tropical.{Tropical, _≼_}
 use Rattle.tropical_weight.proofs.Semiring.{≼-eq, ≼-trans}
 use Rattle.sheet.proofs.Below.{split-at}
@@ -22,13 +22,13 @@ use Rattle.search.specs.Reversed.{Back, Reversed}
 use Rattle.search.specs.Heap.{popped}
 use Rattle.search.specs.Search.{Entry, half, finished, first, Search, rank, before, putAll, expansion, takenBy, step, begun}
 use Rattle.search.proofs.Contents.{popped-keeps}
-use Rattle.search.proofs.Counts.{occurs, occurs-append, occurs-here, occurs-other}
+use Rattle.search.proofs.Counts.{occurs, occurs-append, occurs-here, occurs-other, occurs-one}
 use Rattle.search.proofs.HeapOrder.{Ordered, popped-ordered, head-first}
 use Rattle.search.proofs.Ranks.{entries-strict, ranks-follow}
 use Rattle.search.proofs.Trails.{back, stop, Trail, site, cost, moves, movesFrom, rankOf, Made, Consistent, back-from}
-use Rattle.search.proofs.Fans.{fanSum, fan-append}
+use Rattle.search.proofs.Fans.{fanSum, fan-append, fanOf}
 use Rattle.search.proofs.BestFirst.{Fate, expanded, dropped, listed, Taken, took, trailsOf, isListed, listedOf, putIn, Sound, made, born, put-taking, sound-first, sound-perm, sound-taking}
-use Rattle.search.proofs.Mirror.{half-site, finished-site, rank-is, at, at-old, Mirrors, Told, Grown, putBy, expansion-moves, puts}
+use Rattle.search.proofs.Mirror.{half-site, finished-site, rank-is, at, Mirrors, Told, putAll-keeps, Grown, putBy, expansion-moves, puts}
 
 -- ---- the nodes that were expanded
 abbrev nodeBy : Fate → Option ℕ → List ℕ
@@ -59,11 +59,7 @@ nodes-count v (d ∷ ds) = go (d .fate) (site (d .trail)) (nodes-count v ds)
     go : (f : Fate) (s : Option ℕ) → length (keep (expandedAt v) ds) ≡ occurs v (nodesOf ds)
         → length (cond (elim f [ expanded ↦ isAt s v | dropped ↦ false | listed ↦ false ]) (d ∷ keep (expandedAt v) ds) (keep (expandedAt v) ds)) ≡ occurs v (nodeBy f s ++ nodesOf ds)
     go expanded none e = e
-    go expanded (some u) e = at-node (eqb u v) refl
-      where
-        at-node : (t : Bool) → eqb u v ≡ t → length (cond t (d ∷ keep (expandedAt v) ds) (keep (expandedAt v) ds)) ≡ occurs v (u ∷ nodesOf ds)
-        at-node true q = ap suc e ∙ sym (occurs-here v (nodesOf ds)) ∙ ap (λ y. occurs v (y ∷ nodesOf ds)) (sym (eqb-true u v q))
-        at-node false q = e ∙ sym (occurs-other v u (nodesOf ds) (λ z. eqb-false u v q (sym z)))
+    go expanded (some u) e = occurs-one v u (nodesOf ds) d (keep (expandedAt v) ds) e
     go dropped s e = e
     go listed s e = e
 
@@ -121,7 +117,7 @@ module _ (r : Reversed) (n size : ℕ) where
     -- each waits, or was taken
     pub all : Perm trails (putIn (record { waiting = map (at trails) (s .heap); taken = done }))
     -- and was put in by an expansion, but for the first
-    pub grew : length trails ≡ 1 + fanSum (λ v. length (movesFrom r v)) (nodesOf done)
+    pub grew : length trails ≡ 1 + fanSum (fanOf r) (nodesOf done)
 
   pub each : (s : Search) (i : Holds s) → length (i .trails) ≡ length (s .heap) + s .taken
   each s i =
@@ -210,6 +206,9 @@ module _ (r : Reversed) (n size : ℕ) where
       longer : (f : Fate) → length (i .done ++ (took t f ∷ [])) ≡ suc (s .taken)
       longer f = omega (arith, length-append (i .done) (took t f ∷ []), i .counted)
 
+      nodes-same : (f : Fate) → nodeBy f (site t) ≡ [] → nodesOf (i .done ++ (took t f ∷ [])) ≡ nodesOf (i .done)
+      nodes-same f e = nodes-snoc (i .done) t f ∙ ap (λ l. nodesOf (i .done) ++ l) e ∙ append-nil (nodesOf (i .done))
+
       lists-same : (f : Fate) → isListed (took t f) ≡ false → listedOf (i .done ++ (took t f ∷ [])) ≡ listedOf (i .done)
       unfolding keep
       lists-same f e =
@@ -227,14 +226,11 @@ module _ (r : Reversed) (n size : ℕ) where
         sound = sound-taking r n c listed t (map (at ts) h) (i .done) ready least (finished-site (site t) (cost t) k (sym e ∙ i .mirrors .told x .entry) .0);
         lists = map-append (at ts) (s .listed) (x ∷ []) ∙ ap (λ l. l ++ (t ∷ [])) (i .lists) ∙ sym lists-more;
         wide = i .wide;
-        visited = λ v. ap (occurs v) same ∙ i .visited v;
+        visited = λ v. ap (occurs v) (nodes-same listed refl) ∙ i .visited v;
         counted = longer listed;
         all = thru all-ready (perm-sym (put-taking r n listed t (map (at ts) h) (i .done)));
-        grew = i .grew ∙ ap (λ l. 1 + fanSum (λ v. length (movesFrom r v)) l) (sym same);
+        grew = i .grew ∙ ap (λ l. 1 + fanSum (fanOf r) l) (sym (nodes-same listed refl));
       }
-        where
-          same : nodesOf (i .done ++ (took t listed ∷ [])) ≡ nodesOf (i .done)
-          same = nodes-snoc (i .done) t listed ∙ append-nil (nodesOf (i .done))
 
       module _ (v : ℕ) (k : Tropical) (e : getD (s .entries) x first .entry ≡ half v k) where
         parts : (site t ≡ some v) × (cost t ≡ k)
@@ -274,17 +270,14 @@ module _ (r : Reversed) (n size : ℕ) where
           );
           lists = i .lists ∙ sym (lists-same dropped refl);
           wide = length-set (s .visits) v (suc was) ∙ i .wide;
-          visited = λ w. ap (occurs w) same ∙ elim (ℕ-discrete w v) as (λ q. occurs w (nodesOf (i .done)) ≡ min n (getD visits w 0)) [
+          visited = λ w. ap (occurs w) (nodes-same dropped refl) ∙ elim (ℕ-discrete w v) as (λ q. occurs w (nodesOf (i .done)) ≡ min n (getD visits w 0)) [
             | yes z ↦ omega (arith, i .visited w, ap (λ y. getD (s .visits) y 0) z, ap (λ y. getD visits y 0) z, visit-here)
             | no z ↦ omega (arith, i .visited w, visit-other w z)
           ];
           counted = longer dropped;
           all = thru all-ready (perm-sym (put-taking r n dropped t (map (at ts) h) (i .done)));
-          grew = i .grew ∙ ap (λ l. 1 + fanSum (λ v. length (movesFrom r v)) l) (sym same);
+          grew = i .grew ∙ ap (λ l. 1 + fanSum (fanOf r) l) (sym (nodes-same dropped refl));
         }
-          where
-            same : nodesOf (i .done ++ (took t dropped ∷ [])) ≡ nodesOf (i .done)
-            same = nodes-snoc (i .done) t dropped ∙ append-nil (nodesOf (i .done))
 
         take-expanded : suc was ≤ n → Holds (putAll r (expansion r x v k) visiting)
         unfolding fanSum occurs
@@ -293,16 +286,16 @@ module _ (r : Reversed) (n size : ℕ) where
           done = i .done ++ (took t expanded ∷ []);
           mirrors = g .mirrors;
           sound = sound-perm r n (perm-sym (g .heap)) (sound-taking r n c expanded t (map (at ts) h) (i .done) ready least (v, parts .0));
-          lists = ap (map (at (ts ++ born r n expanded t))) (g .listed) ∙ map-same (at (ts ++ born r n expanded t)) (at ts) (s .listed) (λ j q. at-old ts (born r n expanded t) j (i .mirrors .in-list j q)) ∙ i .lists ∙ sym (lists-same expanded refl);
-          wide = ap length (g .visits) ∙ length-set (s .visits) v (suc was) ∙ i .wide;
+          lists = ap (map (at (ts ++ born r n expanded t))) (old .1) ∙ map-same (at (ts ++ born r n expanded t)) (at ts) (s .listed) (λ j q. List·getD-append ts (born r n expanded t) [] j (i .mirrors .in-list j q)) ∙ i .lists ∙ sym (lists-same expanded refl);
+          wide = ap length (old .0) ∙ length-set (s .visits) v (suc was) ∙ i .wide;
           visited = λ w. elim (ℕ-discrete w v) as (λ q. occurs w (nodesOf (i .done ++ (took t expanded ∷ []))) ≡ min n (getD (z .visits) w 0)) [
-            | yes y ↦ omega (arith, ap (occurs w) nodes, occurs-append w (nodesOf (i .done)) (v ∷ []), ap (λ o. occurs o (v ∷ [])) y, occurs-here v [], i .visited w, ap (λ o. getD (s .visits) o 0) y, ap (λ o. getD (z .visits) o 0) y, ap (λ l. getD l v 0) (g .visits), visit-here)
-            | no y ↦ omega (arith, ap (occurs w) nodes, occurs-append w (nodesOf (i .done)) (v ∷ []), occurs-other w v [] y, i .visited w, ap (λ l. getD l w 0) (g .visits), visit-other w y)
+            | yes y ↦ omega (arith, ap (occurs w) nodes, occurs-append w (nodesOf (i .done)) (v ∷ []), ap (λ o. occurs o (v ∷ [])) y, occurs-here v [], i .visited w, ap (λ o. getD (s .visits) o 0) y, ap (λ o. getD (z .visits) o 0) y, ap (λ l. getD l v 0) (old .0), visit-here)
+            | no y ↦ omega (arith, ap (occurs w) nodes, occurs-append w (nodesOf (i .done)) (v ∷ []), occurs-other w v [] y, i .visited w, ap (λ l. getD l w 0) (old .0), visit-other w y)
           ];
-          counted = longer expanded ∙ sym (g .taken);
+          counted = longer expanded ∙ sym (old .2);
           all = thru (perm-swap ts (born r n expanded t)) (thru (perm-left (born r n expanded t) all-ready)
               (thru (perm-sym (put-taking r n expanded t (map (at ts) h) (i .done))) (perm-right (trailsOf (i .done ++ (took t expanded ∷ []))) (perm-sym (g .heap)))));
-          grew = omega (arith, wider, sizes, i .grew, ap (fanSum (λ v. length (movesFrom r v))) nodes, fan-append (λ v. length (movesFrom r v)) (nodesOf (i .done)) (v ∷ []));
+          grew = omega (arith, wider, sizes, i .grew, ap (fanSum (fanOf r)) nodes, fan-append (fanOf r) (nodesOf (i .done)) (v ∷ []));
         }
           where
             z : Search
@@ -313,6 +306,9 @@ module _ (r : Reversed) (n size : ℕ) where
                 subst (λ l. Grown r visiting (putAll r l visiting) ts (born r n expanded t))
                 (ap₂ (λ y s. map (putBy r x y) (moves r s)) (parts .1) (parts .0) ∙ sym (expansion-moves r x v k))
                 (puts r (moves r (site t)) x t visiting ts (mirrors-h visits (s .listed) (suc (s .taken)) (i .mirrors .in-list)) x-in refl)
+
+            old : (z .visits ≡ visits) × (z .listed ≡ s .listed) × (z .taken ≡ suc (s .taken))
+            old = putAll-keeps r (expansion r x v k) visiting
 
             nodes : nodesOf (i .done ++ (took t expanded ∷ [])) ≡ nodesOf (i .done) ++ (v ∷ [])
             nodes = nodes-snoc (i .done) t expanded ∙ ap (λ s. nodesOf (i .done) ++ nodeBy expanded s) (parts .0)

@@ -56,7 +56,7 @@ module _ (m : Machine) where
     marked : final m (endFrom m u (inputs t)) ≡ some weight
 
   -- nothing has come back to node 0
-  unmoved : (t : Trail) → Made (reversed m) t → site t ≡ some 0 → t ≡ []
+  pub unmoved : (t : Trail) → Made (reversed m) t → site t ≡ some 0 → t ≡ []
   unmoved [] q e = refl
   unmoved (stop ∷ t) q e = let z : _≡_ {A = ℕ} 0 1 = cc in absurd (omega arith)
   unmoved (back b ∷ t) q e =
