@@ -1,0 +1,76 @@
+-- Entries put in, word by word: what an entry's slot leaves of the rest of the part. Assumes nothing.
+use mathlib.Core.Path.{_≡_, refl, _∙_}
+use mathlib.Core.List.{List}
+use Prim.Native.Nat.{ℕ, _+_, _*_, _≤_, _<_}
+use native.Mathlib.Omega.{arith}
+use lib.Ieee.{binary32, toBits}
+use lib.ListN.{length, getD, set, length-set}
+use lib.Seq.{getD-set-other}
+use Rattle.shortest_path.specs.declared.n_best.Places.{Places}
+use Rattle.shortest_path.specs.declared.n_best.Entry.{Entry}
+use Rattle.shortest_path.specs.Slots.{heapWord}
+use Rattle.shortest_path.specs.HeapWords.{HeapFits}
+use Rattle.shortest_path.proofs.HeapPlaces.{push-length, push-beyond, push-each}
+use Rattle.shortest_path.specs.SearchWords.{nodeOf, costOf, rankW, stored, Words, putW, Sized}
+
+module _ (part : List ℕ) (nodes i : ℕ) (e : Entry) (from input : ℕ) where
+  pub length-stored : length (stored part nodes i e from input) ≡ length part
+  length-stored = simp length-set
+
+  -- only the words 0 to 4 of the slot change
+  pub stored-other : (j : ℕ) → (j ≡ 8 * i → ⊥) → (j ≡ 8 * i + 1 → ⊥) → (j ≡ 8 * i + 2 → ⊥) → (j ≡ 8 * i + 3 → ⊥) → (j ≡ 8 * i + 4 → ⊥) → getD (stored part nodes i e from input) j 0 ≡ getD part j 0
+  stored-other j a b c d f =
+      getD-set-other (set (set (set (set part (8 * i) (nodeOf e)) (8 * i + 1) (toBits binary32 (costOf e))) (8 * i + 2) from) (8 * i + 3) input) (8 * i + 4) j (toBits binary32 (rankW part nodes e)) 0 f
+      ∙ getD-set-other (set (set (set part (8 * i) (nodeOf e)) (8 * i + 1) (toBits binary32 (costOf e))) (8 * i + 2) from) (8 * i + 3) j input 0 d
+      ∙ getD-set-other (set (set part (8 * i) (nodeOf e)) (8 * i + 1) (toBits binary32 (costOf e))) (8 * i + 2) j from 0 c
+      ∙ getD-set-other (set part (8 * i) (nodeOf e)) (8 * i + 1) j (toBits binary32 (costOf e)) 0 b
+      ∙ getD-set-other part (8 * i) j (nodeOf e) 0 a
+
+  pub stored-heap : (j : ℕ) → heapWord (stored part nodes i e from input) j ≡ heapWord part j
+  stored-heap j = stored-other (8 * j + 5) (λ z. omega (arith, z)) (λ z. omega (arith, z)) (λ z. omega (arith, z)) (λ z. omega (arith, z)) (λ z. omega (arith, z))
+
+-- the heap fits, before an entry is stored and after
+pub sized-fits : (p : Places) (s : Words) → Sized p s → HeapFits (s .part) (s .counts .heap)
+sized-fits p s z = record {
+  room = omega (arith, z .heap-few, z .room, z .after, z .inside);
+  each = λ i h. omega (arith, z .each i h, z .room, z .after, z .inside);
+}
+
+pub stored-fits : (p : Places) (s : Words) (e : Entry) (from input : ℕ) → Sized p s → HeapFits (stored (s .part) (p .nodes) (s .counts .entries) e from input) (s .counts .heap)
+stored-fits p s e from input z = record {
+  room = omega (arith, z .heap-few, z .room, z .after, z .inside, length-stored (s .part) (p .nodes) (s .counts .entries) e from input);
+  each = λ i h. omega (arith, z .each i h, z .room, z .after, z .inside, stored-heap (s .part) (p .nodes) (s .counts .entries) e from input i, length-stored (s .part) (p .nodes) (s .counts .entries) e from input);
+}
+
+-- ---- an entry put in
+pub put-entries : (nodes : ℕ) (e : Entry) (from input : ℕ) (s : Words) → putW nodes e from input s .counts .entries ≡ s .counts .entries + 1
+unfolding putW
+put-entries nodes e from input s = refl
+
+module _ (p : Places) (s : Words) (e : Entry) (from input : ℕ) (z : Sized p s) (free : 8 * (s .counts .entries + 1) ≤ p .nodes) where
+  abbrev new : Words
+  new = putW (p .nodes) e from input s
+
+  pub length-put : length (new .part) ≡ length (s .part)
+  unfolding putW
+  length-put = push-length (stored (s .part) (p .nodes) (s .counts .entries) e from input) (s .counts .heap) (s .counts .entries) ∙ length-stored (s .part) (p .nodes) (s .counts .entries) e from input
+
+  -- from the nodes' slots on nothing changes
+  pub put-beyond : (j : ℕ) → p .nodes ≤ j → getD (new .part) j 0 ≡ getD (s .part) j 0
+  unfolding putW
+  put-beyond j b =
+      push-beyond (stored (s .part) (p .nodes) (s .counts .entries) e from input) (s .counts .heap) (s .counts .entries) j 0 (omega (arith, z .heap-few, z .room, free))
+      ∙ stored-other (s .part) (p .nodes) (s .counts .entries) e from input j (λ y. omega (arith, y, free)) (λ y. omega (arith, y, free)) (λ y. omega (arith, y, free)) (λ y. omega (arith, y, free)) (λ y. omega (arith, y, free))
+
+  pub sized-put : Sized p new
+  unfolding putW
+  sized-put = record {
+    heap-few = omega (arith, z .heap-few);
+    room = omega (arith, free);
+    after = z .after;
+    inside = omega (arith, z .inside, length-put);
+    small = z .small;
+    each = λ i h. push-each (λ y. y < s .counts .entries + 1) (stored (s .part) (p .nodes) (s .counts .entries) e from input) (s .counts .heap) (s .counts .entries)
+        (omega (arith, z .heap-few, free, z .after, z .inside, length-stored (s .part) (p .nodes) (s .counts .entries) e from input))
+        (λ j l. omega (arith, z .each j l, stored-heap (s .part) (p .nodes) (s .counts .entries) e from input j)) (omega arith) i (omega arith);
+  }
