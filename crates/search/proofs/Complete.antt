@@ -2,7 +2,7 @@
 use mathlib.Core.Path.{_≡_, refl, sym, ap, _∙_, subst}
 use mathlib.Core.Logic.{_⊎_, inl, inr}
 use mathlib.Core.Bool.{true}
-use mathlib.Core.Option.{none}
+use mathlib.Core.Option.{none, some}
 use mathlib.Core.List.{List, [], _∷_, map, map-map, List·Memᴰ·head, Memᴰ·append-right}
 use Prim.Native.Nat.{ℕ, suc, _≤_, _<_, min}
 use native.Mathlib.Omega.{arith}
@@ -19,30 +19,74 @@ use Rattle.machine.proofs.Sort.{Ordered, ordered-keep, ordered-rises}
 use Rattle.machine.proofs.Readings.{readings-are, readings-once}
 use Rattle.machine.proofs.Demand.{sorted, demand-costs}
 use Rattle.search.specs.Reversed.{Reversed, reversed}
-use Rattle.search.specs.Search.{first, costOf, Search, stopped, begun, mostTaken, search, costs, runs, runOf}
-use Rattle.search.proofs.Trails.{Trail, site, cost, inputs, rankOf, Made, finished-rank}
+use Rattle.search.specs.Search.{first, costOf, Search, stopped, after, begun, mostTaken, search, costs, runs, runOf}
+use Rattle.search.proofs.Trails.{Trail, site, inputs, rankOf, Made, finished-rank}
 use Rattle.search.proofs.Backwards.{consistent, leads-in}
 use Rattle.search.proofs.Unreversed.{unmoved, trail-reads, reading-made, inputs-once}
 use Rattle.search.proofs.Fans.{put-bound}
 use Rattle.search.proofs.BestFirst.{Fate, expanded, listed, Taken, took, trailsOf, isListed, listedOf, State, putIn, took-listed, made, all-settled}
-use Rattle.search.proofs.Mirror.{at, entryAt, entryOf, run-is}
+use Rattle.search.proofs.Mirror.{at, entry-cost, run-is}
 use Rattle.search.proofs.Steps.{Holds, each, holds-begun, site-in, nodesOf, node-mem, trailsAt, trails-at, trails-once, trails-count}
 use Rattle.search.proofs.Ran.{stopped-is, stopped-empty, Ran, ran}
 use Rattle.search.proofs.Counts.{occurs}
 
 module _ (m : Machine) (c : Climbs m) (n : ℕ) where
-  abbrev s : Search
-  s = search m n
-
   abbrev r : Reversed
   r = reversed m
 
   abbrev size : ℕ
   size = suc (length (m .finals))
 
+  -- no trail leaves the nodes
+  pub node-in : (t : Trail) → Made r t → (v : ℕ) → site t ≡ some v → v < size
+  node-in t h v e = site-in r n size (consistent m c) (omega arith) (leads-in m c) t h v e
+
+  -- after any number of removals
+  pub ran-begun : (k : ℕ) → Ran r n size (consistent m c) (omega arith) (leads-in m c) k (begun size) (after r k n (begun size))
+  ran-begun k = ran r n size (consistent m c) (omega arith) (leads-in m c) k (begun size) (holds-begun r n size) (omega arith)
+
+  -- ---- at any time
+  module _ (z : Search) (i : Holds r n size z) where
+    abbrev pub stateOf : State
+    stateOf = record { waiting = map (at (i .trails)) (z .heap); taken = i .done }
+
+    once : NoDup (trailsOf (i .done))
+    once = nodup-end (stateOf .waiting) (trailsOf (i .done)) (i .sound .once)
+
+    -- what was put in was made
+    pub put-made : (t : Trail) → t ∈ putIn stateOf → Made r t
+    put-made t h = made r n (consistent m c) stateOf (i .sound) t h
+
+    taken-made : (t : Trail) (f : Fate) → took t f ∈ i .done → Made r t
+    taken-made t f h = put-made t (Memᴰ·append-right (stateOf .waiting) (map-mem (λ (d : Taken). d .trail) h))
+
+    -- node 0 is expanded at most once, since only the first trail stands there
+    zero-once : occurs 0 (nodesOf (i .done)) ≤ 1
+    zero-once =
+        omega (
+          arith,
+          trails-count 0 (i .done),
+          nodup-length (trailsAt 0 (i .done)) ([] ∷ []) (trails-once 0 (i .done) once)
+              (λ t h. let x = trails-at 0 (i .done) t h in List·Memᴰ·head (unmoved m t (taken-made t expanded (x .0)) (x .1))),
+        )
+
+    pub trails-few : length (i .trails) ≤ mostTaken m n
+    trails-few =
+        omega (
+          arith,
+          i .grew,
+          put-bound m n (nodesOf (i .done))
+              (λ v h. let x = node-mem v (i .done) h in node-in (x .0) (taken-made (x .0) expanded (x .1)) v (x .2))
+              zero-once (λ v. omega (arith, i .visited v)),
+        )
+
+  -- ---- when the search ends
+  abbrev s : Search
+  s = search m n
+
   run : Ran r n size (consistent m c) (omega arith) (leads-in m c) (mostTaken m n) (begun size) (search m n)
   unfolding search
-  run = ran r n size (consistent m c) (omega arith) (leads-in m c) (mostTaken m n) (begun size) (holds-begun r n size) (omega arith)
+  run = ran-begun (mostTaken m n)
 
   pub holds : Holds r n size (search m n)
   holds = run .holds
@@ -53,39 +97,11 @@ module _ (m : Machine) (c : Climbs m) (n : ℕ) where
   abbrev done : List Taken
   done = holds .done
 
-  abbrev pub state : State
-  state = record { waiting = map (at ts) (s .heap); taken = done }
-
-  once : NoDup (trailsOf done)
-  once = nodup-end (state .waiting) (trailsOf done) (holds .sound .once)
-
-  -- what was put in was made
-  pub put-made : (t : Trail) → t ∈ putIn state → Made r t
-  put-made t h = made r n (consistent m c) state (holds .sound) t h
-
-  taken-made : (t : Trail) (f : Fate) → took t f ∈ done → Made r t
-  taken-made t f h = put-made t (Memᴰ·append-right (state .waiting) (map-mem (λ (d : Taken). d .trail) h))
-
-  -- ---- the bound
-  -- node 0 is expanded at most once, since only the first trail stands there
-  zero-once : occurs 0 (nodesOf done) ≤ 1
-  zero-once =
-      omega (
-        arith,
-        trails-count 0 done,
-        nodup-length (trailsAt 0 done) ([] ∷ []) (trails-once 0 done once)
-            (λ t h. let x = trails-at 0 done t h in List·Memᴰ·head (unmoved m t (taken-made t expanded (x .0)) (x .1))),
-      )
+  abbrev state : State
+  state = stateOf s holds
 
   pub put-in : length ts ≤ mostTaken m n
-  put-in =
-      omega (
-        arith,
-        holds .grew,
-        put-bound m n (nodesOf done)
-            (λ v h. let x = node-mem v done h in site-in r n size (consistent m c) (omega arith) (leads-in m c) (x .0) (taken-made (x .0) expanded (x .1)) v (x .2))
-            zero-once (λ v. omega (arith, holds .visited v)),
-      )
+  put-in = trails-few s holds
 
   -- entries taken
   pub taken-bound : s .taken ≤ mostTaken m n
@@ -123,7 +139,7 @@ module _ (m : Machine) (c : Climbs m) (n : ℕ) where
   few = omega (arith, run .few, as-listed)
 
   ended : (t : Trail) → t ∈ ls → Made r t × (site t ≡ none)
-  ended t h = let x = took-listed done h in (taken-made t listed x, holds .sound .fits t listed x)
+  ended t h = let x = took-listed done h in (taken-made s holds t listed x, holds .sound .fits t listed x)
 
   listed-ended : (i : ℕ) → i ∈ s .listed → Made r (at ts i) × (site (at ts i) ≡ none)
   listed-ended i h = ended (at ts i) (subst (λ l. at ts i ∈ l) (holds .lists) (map-mem (at ts) h))
@@ -167,7 +183,7 @@ module _ (m : Machine) (c : Climbs m) (n : ℕ) where
   apart : NoDup (map reads ls)
   apart =
       nodup-map-in reads ls (λ a b p q e. let y = ended a p in let z = ended b q in inputs-once m a b (y .0) (z .0) (y .1) (z .1) (ap (λ (x : Reading). x .run) e))
-      (keep-nodup (λ (d : Taken). d .trail) isListed done once)
+      (keep-nodup (λ (d : Taken). d .trail) isListed done (once s holds))
 
   in-order : Ordered (map (readingCost m) (map reads ls))
   in-order =
@@ -207,10 +223,7 @@ module _ (m : Machine) (c : Climbs m) (n : ℕ) where
       ∙ sym (map-map (λ t. readingCost m (reads t)) (at ts) (s .listed)) ∙ ap (map (λ t. readingCost m (reads t))) (holds .lists)
       ∙ sym (map-map (readingCost m) reads ls) ∙ ap (map (readingCost m)) (sym same-readings) ∙ demand-costs m c n found demand-search
     where
-      end-cost : (t : Trail) → site t ≡ none → costOf (entryOf t) ≡ cost t
-      end-cost t e = ap (λ o. costOf (entryAt o (cost t))) e
-
       one-cost : (i : ℕ) → i ∈ s .listed → costOf (getD (s .entries) i first .entry) ≡ readingCost m (reads (at ts i))
       one-cost i h =
           let y = listed-ended i h in
-          ap costOf (holds .mirrors .told i .entry) ∙ end-cost (at ts i) (y .1) ∙ sym (trail-reads m (at ts i) (y .0) (y .1) .1)
+          ap costOf (holds .mirrors .told i .entry) ∙ entry-cost (at ts i) ∙ sym (trail-reads m (at ts i) (y .0) (y .1) .1)

@@ -14,24 +14,24 @@ use Rattle.search.specs.Search.{first, Search, search}
 use Rattle.search.proofs.Trails.{back, stop, Trail, site, Made, back-from}
 use Rattle.search.proofs.Backwards.{out-final, out-link}
 use Rattle.search.proofs.Mirror.{at, Mirrors, lastInput, first-is}
+use Rattle.search.proofs.Steps.{Holds}
 use Rattle.search.proofs.Numbered.{Numbered}
 use Rattle.search.proofs.Complete.{holds, put-made}
 
 module _ (m : Machine) (c : Climbs m) (n : ℕ) where
+  -- at any time each stands for a trail that was made
+  pub entry-made : (z : Search) (h : Holds (reversed m) n (suc (length (m .finals))) z) (i : ℕ) → i < length (z .entries) → Made (reversed m) (at (h .trails) i)
+  entry-made z h i b = put-made m c n z h (at (h .trails) i) (perm-mem (h .all) (getD-mem (h .trails) i [] (omega (arith, h .mirrors .size))))
+
+  -- ---- when the search ends
   abbrev s : Search
   s = search m n
-
-  abbrev trail : ℕ → Trail
-  trail i = at (holds m c n .trails) i
 
   mirrors : Mirrors (reversed m) (search m n) (holds m c n .trails)
   mirrors = holds m c n .mirrors
 
-  entry-made : (i : ℕ) → i < length (s .entries) → Made (reversed m) (trail i)
-  entry-made i b = put-made m c n (trail i) (perm-mem (holds m c n .all) (getD-mem (holds m c n .trails) i [] (omega (arith, mirrors .size))))
-
   pub inputs-in : (i : ℕ) → i < length (s .entries) → (l : ℕ) → getD (s .entries) i first .input ≡ some l → l < length (m .links)
-  inputs-in i b l e = go (trail i) (entry-made i b) (sym (mirrors .told i .input) ∙ e)
+  inputs-in i b l e = go (at (holds m c n .trails) i) (entry-made s (holds m c n) i b) (sym (mirrors .told i .input) ∙ e)
     where
       node : (v : ℕ) (b : Back) → b ∈ reversed m .out v → b .input ≡ some l → l < length (m .links)
       node zero b h q = let x = out-final m b h in let y = x .3 in let z : _≡_ {A = ℕ} 0 1 = cc in absurd (omega arith)

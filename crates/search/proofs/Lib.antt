@@ -20,3 +20,4 @@ pub mod Results
 pub mod Readback
 pub mod BackOne
 pub mod Lists
+pub mod Within

@@ -16,7 +16,7 @@ use Rattle.machine.specs.Demand.{_∈_}
 use Rattle.machine.proofs.Lists.{Perm, thru, perm-eq, perm-mem, perm-map, perm-left, perm-middle, map-append, map-same, getD-mem}
 use Rattle.search.specs.Reversed.{Reversed}
 use Rattle.search.specs.Heap.{pushed}
-use Rattle.search.specs.Search.{Entry, half, finished, Put, first, Search, rank, before, precedes, put, putAll, expansion, withInput, runOf}
+use Rattle.search.specs.Search.{Entry, half, finished, costOf, Put, first, Search, rank, before, precedes, put, putAll, expansion, withInput, runOf}
 use Rattle.search.proofs.Contents.{pushed-keeps}
 use Rattle.search.proofs.HeapOrder.{Ordered, pushed-ordered}
 use Rattle.search.proofs.Ranks.{entries-strict}
@@ -47,6 +47,13 @@ rank-is r t = go (site t)
   where
     go : (o : Option ℕ) → rank r (entryAt o (cost t)) ≡ ahead r o ⊗ cost t
     go none = sym (one-⊗ (cost t))
+    go (some v) = refl
+
+pub entry-cost : (t : Trail) → costOf (entryOf t) ≡ cost t
+entry-cost t = go (site t)
+  where
+    go : (o : Option ℕ) → costOf (entryAt o (cost t)) ≡ cost t
+    go none = refl
     go (some v) = refl
 
 -- ---- trails by the numbers of entries

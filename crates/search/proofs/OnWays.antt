@@ -89,6 +89,19 @@ module _ (s : Search) where
     pub way-from : (j : ℕ) → OnWay s j → OnWay s (cameFrom s j)
     way-from j e = let r = way-of (s .entries) (s .listed) j e in of-way (s .entries) (s .listed) (r .0) (from j) (r .1) (behind-from (r .0) (r .0) j (omega arith) (r .2))
 
+    -- those on a way are entries: none is behind a later one
+    behind-le : (k i j : ℕ) → isBehind (s .entries) k i j ≡ true → j ≤ i
+    unfolding isBehind
+    behind-le zero i j e = omega (arith, eqb-true i j e)
+    behind-le (suc k) i j e = go (or-either (eqb i j) (behind k (from i) j) e) (behind-le k (from i) j)
+      where
+        go : (eqb i j ≡ true) ⊎ (behind k (from i) j ≡ true) → (behind k (from i) j ≡ true → j ≤ from i) → j ≤ i
+        go (inl q) ih = omega (arith, eqb-true i j q)
+        go (inr q) ih = omega (arith, ih q, n .earlier i)
+
+    pub way-inside : (j : ℕ) → OnWay s j → j < length (s .entries)
+    way-inside j e = let r = way-of (s .entries) (s .listed) j e in omega (arith, behind-le (r .0) (r .0) j (r .2), n .inside (r .0) (r .1))
+
   -- ---- those that are kept
   -- the next is, or is off every way
   pub kept-by : (P : List ℕ → Type 0) (k : ℕ) → (OnWay s (suc k) → P (kept s k ++ (suc k ∷ []))) → (isOn s (suc k) ≡ false → P (kept s k)) → P (kept s (suc k))

@@ -49,11 +49,11 @@ module _ (m : Machine) where
       ((subst (λ s. back (against l (link m l)) ∈ moves (reversed m) s) (sym (x .1)) (out-moves (reversed m) (suc (link m l .next)) (link-out m l (h .0))), x .0), ap (λ k. some (suc k)) (h .1))
 
   -- ---- and no other is made
-  record Half (u : ℕ) (t : Trail) : Type 0 where
-    weight : Tropical
-    is : t ≡ halfOf u (inputs t)
-    runs : IsRun m u (inputs t) (endFrom m u (inputs t))
-    marked : final m (endFrom m u (inputs t)) ≡ some weight
+  pub record Half (u : ℕ) (t : Trail) : Type 0 where
+    pub weight : Tropical
+    pub is : t ≡ halfOf u (inputs t)
+    pub runs : IsRun m u (inputs t) (endFrom m u (inputs t))
+    pub marked : final m (endFrom m u (inputs t)) ≡ some weight
 
   -- nothing has come back to node 0
   pub unmoved : (t : Trail) → Made (reversed m) t → site t ≡ some 0 → t ≡ []
@@ -79,10 +79,10 @@ module _ (m : Machine) where
       let z : Half (link m l .next) t = subst (λ k. Half k t) (sym (x .2)) y in
       subst (λ k. Half u (back k ∷ t)) (sym (x .3)) (record { weight = z .weight; is = ap (λ s. back (against l (link m l)) ∷ s) (z .is); runs = (x .1, f, z .runs); marked = z .marked })
 
-  half : (t : Trail) → Made (reversed m) t → (u : ℕ) → site t ≡ some (suc u) → Half u t
-  half [] q u e = let z : _≡_ {A = ℕ} 0 1 = cc in absurd (omega arith)
-  half (stop ∷ t) q u e = let z : _≡_ {A = ℕ} 0 1 = cc in absurd (omega arith)
-  half (back b ∷ t) q u e = let x = back-from (reversed m) (site t) b (q .0) in go (x .0) (x .1) (x .2) (half t (q .1))
+  pub half-is : (t : Trail) → Made (reversed m) t → (u : ℕ) → site t ≡ some (suc u) → Half u t
+  half-is [] q u e = let z : _≡_ {A = ℕ} 0 1 = cc in absurd (omega arith)
+  half-is (stop ∷ t) q u e = let z : _≡_ {A = ℕ} 0 1 = cc in absurd (omega arith)
+  half-is (back b ∷ t) q u e = let x = back-from (reversed m) (site t) b (q .0) in go (x .0) (x .1) (x .2) (half-is t (q .1))
     where
       to : b .next ≡ suc u
       to = Option·some-injective (b .next) (suc u) e
@@ -90,6 +90,10 @@ module _ (m : Machine) where
       go : (v : ℕ) → site t ≡ some v → b ∈ outOf m v → ((k : ℕ) → site t ≡ some (suc k) → Half k t) → Half u (back b ∷ t)
       go zero s h ih = subst (λ y. Half u (back b ∷ y)) (sym (unmoved t (q .1) s)) (from-zero u b h to)
       go (suc v) s h ih = from-link u v b t h to (ih v s)
+
+  -- and it costs the run and the final weight
+  pub half-sum : (u : ℕ) (t : Trail) → Half u t → cost t ≡ runCost m (inputs t) ⊗ finalWeight (final m (endFrom m u (inputs t)))
+  half-sum u t y = ap cost (y .is) ∙ half-cost u (inputs t)
 
   whole : (t : Trail) → Made (reversed m) t → site t ≡ none → (t ≡ wholeOf (inputs t)) × IsReading m (readingOf m (inputs t))
   whole [] q o = let z : _≡_ {A = ℕ} 0 1 = cc in absurd (omega arith)
@@ -101,7 +105,7 @@ module _ (m : Machine) where
       go (suc v) s e =
           let f : m .start ≡ some v = at-some (m .start) v e in
           let g : nodeOr (m .start) ≡ v = ap nodeOr f in
-          let y : Half (nodeOr (m .start)) t = subst (λ k. Half k t) (sym g) (half t (q .1) v s) in
+          let y : Half (nodeOr (m .start)) t = subst (λ k. Half k t) (sym g) (half-is t (q .1) v s) in
           (ap (λ k. stop ∷ k) (y .is), record { from = nodeOr (m .start); weight = y .weight; starts = f ∙ ap some (sym g); runs = y .runs; marked = y .marked })
 
   -- ---- finished trails are readings, each once

@@ -127,3 +127,8 @@ sumBelow-only (suc n) f x h b = go (eq-or-lt-of-le (let k : x ≤ n = omega arit
 
 pub sumBelow-most : (n : ℕ) (f : ℕ → ℕ) (x : ℕ) → ((i : ℕ) → (i ≡ x → ⊥) → f i ≡ 0) → sumBelow n f ≤ f x
 sumBelow-most n f x h = elim (split-at x n) [ inl b ↦ le-of-eq (sumBelow-only n f x h b) | inr b ↦ omega (arith, sumBelow-none n f (λ i k. h i (λ q. omega arith))) ]
+
+pub listBelow-same : {A : Type 0} (n : ℕ) (f g : ℕ → A) → ((i : ℕ) → i < n → f i ≡ g i) → listBelow n f ≡ listBelow n g
+unfolding listBelow
+listBelow-same zero f g h = refl
+listBelow-same (suc n) f g h = λ i. listBelow-same n f g (λ j b. h j (omega arith)) i ++ (h n (omega arith) i ∷ [])

@@ -21,7 +21,7 @@ use Rattle.shortest_path.proofs.Linking.{chain-same}
 abbrev pub visited : Places → ℕ → Words → Words
 visited p v s = record { part = set (s .part) (p .nodes + 8 * v + 3) (visitsWord (s .part) (p .nodes) v + 1); counts = s .counts }
 
-module _ (p : Places) (s : Words) (v : ℕ) (z : Sized p s) (e : Expands p s v) where
+module _ (p : Places) (s : Words) (v : ℕ) (z : Sized p s) where
   at-other : (j : ℕ) → (j ≡ p .nodes + 8 * v + 3 → ⊥) → getD (visited p v s .part) j 0 ≡ getD (s .part) j 0
   at-other j n = getD-set-other (s .part) (p .nodes + 8 * v + 3) j (visitsWord (s .part) (p .nodes) v + 1) 0 n
 
@@ -38,8 +38,8 @@ module _ (p : Places) (s : Words) (v : ℕ) (z : Sized p s) (e : Expands p s v) 
     each = λ i h. omega (arith, z .each i h, at-other (8 * i + 5) (λ y. omega (arith, y, z .heap-few, z .room)));
   }
 
-  pub expands-visited : Expands p (visited p v s) v
-  expands-visited = record {
+  pub expands-visited : Expands p s v → Expands p (visited p v s) v
+  expands-visited e = record {
     fan = e .fan;
     slot = e .slot;
     chain = subst (Chain p (visited p v s .part) (e .fan)) (sym (at-other (p .nodes + 8 * v + 2) (λ y. omega (arith, y))))
@@ -84,18 +84,18 @@ module _ (p : Places) (s : Words) (z : Sized p s) (some-in : 0 < s .counts .heap
     each = λ i h. pop-each (λ y. y < s .counts .entries) (s .part) (s .counts .heap) heap-room some-in (z .each) i h;
   }
 
-  pub takes-without : (e : Entry) → Takes p s e → Takes p (without s) e
-  takes-without (Finished c) t = t
-  takes-without (Half v c) t = (
-    record {
-      fan = t .0 .fan;
-      slot = t .0 .slot;
-      chain = subst (Chain p (without s .part) (t .0 .fan)) (sym (beyond (p .nodes + 8 * v + 2) (omega arith)))
-          (chain-same p (s .part) (without s .part) (sym (pop-length (s .part) (s .counts .heap) some-in)) (λ j b. sym (beyond j (omega (arith, z .after)))) (t .0 .fan) (headWord (s .part) (p .nodes) v) (t .0 .chain));
-      free = t .0 .free;
-    },
-    omega (arith, t .1, beyond (p .nodes + 8 * v + 3) (omega arith)),
-  )
+  expands-without : (v : ℕ) → Expands p s v → Expands p (without s) v
+  expands-without v e = record {
+    fan = e .fan;
+    slot = e .slot;
+    chain = subst (Chain p (without s .part) (e .fan)) (sym (beyond (p .nodes + 8 * v + 2) (omega arith)))
+        (chain-same p (s .part) (without s .part) (sym (pop-length (s .part) (s .counts .heap) some-in)) (λ j b. sym (beyond j (omega (arith, z .after)))) (e .fan) (headWord (s .part) (p .nodes) v) (e .chain));
+    free = e .free;
+  }
+
+  pub takes-without : (n : ℕ) (e : Entry) → Takes p n s e → Takes p n (without s) e
+  takes-without n (Finished c) t = t
+  takes-without n (Half v c) t = let q = beyond (p .nodes + 8 * v + 3) (omega arith) in (t .0, omega (arith, t .1, q), λ b. expands-without v (t .2 (omega (arith, q))))
 
 pub step-is : (p : Places) (n most : ℕ) (s : Words) → takenW p n most (heapWord (s .part) 0) (entryW (s .part) (heapWord (s .part) 0)) (without s) ≡ stepW p n most s
 unfolding stepW

@@ -153,18 +153,20 @@ pub record Expands (p : Places) (s : Words) (v : ℕ) : Type 0 where
   pub fan : ℕ
   pub slot : p .nodes + 8 * v + 3 < p .links
   pub chain : Chain p (s .part) fan (headWord (s .part) (p .nodes) v)
-  pub free : 8 * (s .counts .entries + fan + 1) ≤ p .nodes
+  pub free : 8 * (s .counts .entries + fan + cond (eqb v (p .end)) 1 0) ≤ p .nodes
 
--- what taking an entry asks: a slot for the list, or an expansion
-abbrev pub Takes : Places → Words → Entry → Type 0
-Takes p s (Finished c) = (8 * s .counts .listed + 6 < p .nodes) × (s .counts .listed + 1 < 4294967296)
-Takes p s (Half v c) = Expands p s v × (visitsWord (s .part) (p .nodes) v + 1 < 4294967296)
+-- what taking an entry asks: a slot for the list; or one of its node, and an expansion unless that has been taken n times
+abbrev pub Takes : Places → ℕ → Words → Entry → Type 0
+Takes p n s (Finished c) = (8 * s .counts .listed + 6 < p .nodes) × (s .counts .listed + 1 < 4294967296)
+Takes p n s (Half v c) =
+    let visits = visitsWord (s .part) (p .nodes) v + 1 in
+    (p .nodes + 8 * v + 3 < p .links) × (visits < 4294967296) × (visits ≤ n → Expands p s v)
 
 -- what a removal asks
-pub record Ready (p : Places) (s : Words) : Type 0 where
+pub record Ready (p : Places) (n : ℕ) (s : Words) : Type 0 where
   pub sized : Sized p s
   pub few-taken : s .counts .taken + 1 < 4294967296
-  pub takes : Takes p s (entryW (s .part) (heapWord (s .part) 0))
+  pub takes : Takes p n s (entryW (s .part) (heapWord (s .part) 0))
 
 -- what the first entry asks: a slot, and one for node 0
 pub record Begins (p : Places) (part : List ℕ) : Type 0 where

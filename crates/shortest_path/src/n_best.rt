@@ -184,7 +184,7 @@ fn expand(part: &mut [u32], p: Places, c: Counts, x: u32, v: u32, cost: f32, mos
 // Takes entry x, which the heap has given up: a finished one is listed next; a half-built one
 // visits its node, and is expanded unless that has now been taken more than n times.
 fn take(part: &mut [u32], p: Places, c: Counts, n: u32, most: u32, x: u32, e: Entry) -> Counts
-    requires { ⌜ Sized p (record { part = now part; counts = c }) × Takes p (record { part = now part; counts = c }) e ⌝ }
+    requires { ⌜ Sized p (record { part = now part; counts = c }) × Takes p n (record { part = now part; counts = c }) e ⌝ }
     ensures { λ r. ⌜ (r ≡ takenW p n most x e (record { part = now (part .entry); counts = c }) .counts) × (now (part .exit) ≡ takenW p n most x e (record { part = now (part .entry); counts = c }) .part) ⌝ }
 {
     match e {
@@ -213,7 +213,7 @@ fn take(part: &mut [u32], p: Places, c: Counts, n: u32, most: u32, x: u32, e: En
 
 // One removal: the heap's head is taken.
 pub fn step(part: &mut [u32], p: Places, c: Counts, n: u32, most: u32) -> Counts
-    requires { ⌜ Ready p (record { part = now part; counts = c }) × (0 < c .heap) ⌝ }
+    requires { ⌜ Ready p n (record { part = now part; counts = c }) × (0 < c .heap) ⌝ }
     ensures { λ r. ⌜ (r ≡ stepW p n most (record { part = now (part .entry); counts = c }) .counts) × (now (part .exit) ≡ stepW p n most (record { part = now (part .entry); counts = c }) .part) ⌝ }
 {
     let x = part[PLACE];
@@ -232,7 +232,7 @@ pub fn step(part: &mut [u32], p: Places, c: Counts, n: u32, most: u32) -> Counts
 // The search, from its first entry on, until n are listed or the heap is empty; it needs no more
 // removals than are allowed.
 pub fn n_shortest_path(part: &mut [u32], p: Places, n: u32, most: u32, allowed: u32) -> Counts
-    requires { ⌜ Begins p (now part) × ((k : ℕ) → stoppedW n (afterW p n most k (begunW p (now part))) ≡ false → Ready p (afterW p n most k (begunW p (now part)))) ⌝ }
+    requires { ⌜ Begins p (now part) × ((k : ℕ) → stoppedW n (afterW p n most k (begunW p (now part))) ≡ false → Ready p n (afterW p n most k (begunW p (now part)))) ⌝ }
     ensures { λ r. ⌜ (r ≡ afterW p n most allowed (begunW p (now (part .entry))) .counts) × (now (part .exit) ≡ afterW p n most allowed (begunW p (now (part .entry))) .part) ⌝ }
 {
     let none = Counts {

@@ -1,5 +1,8 @@
 use mathlib.Core.Path.{_≡_, sym, ap, _∙_, subst}
+use mathlib.Core.Bool.{Bool, cond}
+use Prim.Native.Nat.{ℕ}
 use native.Mathlib.Omega.{arith}
+use borrow.Author.Tests.{eq-eqb}
 use denote.Ref.{now}
 use Rattle.shortest_path.specs.declared.n_best.Entry.the-variants.{Finished}
 use Rattle.shortest_path.specs.Slots.{nothing, headWord}
@@ -43,7 +46,7 @@ put-requires : tie.Need-put-requires
 put-requires c κs =
     let root = c .before .before .before .before .before .before .before .before in
     let l = links-linked (c .before .before .before .before) in
-    (l .sized, omega (arith, l .few, root .pre .1 .free), tt)
+    (l .sized, omega (arith, l .few, root .pre .1 .free, ap {B = ℕ} (λ (b : Bool). cond b 1 0) (eq-eqb _ _ (c .before .if1 .taken))), tt)
 
 same-length : tie.Need-same-length
 same-length c = search needs

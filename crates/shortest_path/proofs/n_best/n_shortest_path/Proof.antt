@@ -65,7 +65,7 @@ step-requires c κs =
     let s : Words = record { part = turn .part; counts = turn .c } in
     let at = turn .inv .now-at ∙ ap (afterW (args .p) (args .n) (args .most) (turn .turn)) (begun (c .before .before .before .before .before .before .before .before .before)) in
     let on = stopped-not (args .n) s (c .before .before .before .if1 .left) (c .before .if2 .left) in
-    (subst (Ready (args .p)) (sym at) (root .pre .1 (turn .turn) (sym (ap (stoppedW (args .n)) at) ∙ on)), omega (arith, c .before .before .before .if1 .left))
+    (subst (Ready (args .p) (args .n)) (sym at) (root .pre .1 (turn .turn) (sym (ap (stoppedW (args .n)) at) ∙ on)), omega (arith, c .before .before .before .if1 .left))
 
 add-turn : tie.Need-add-turn Inv-loop μ-loop
 add-turn c = search needs

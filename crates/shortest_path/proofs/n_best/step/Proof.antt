@@ -41,9 +41,9 @@ take-requires c κs =
     let root = c .before .before .before .before .before .before .before .before .before .before in
     let s : Words = record { part = now (root .args .part); counts = root .args .c } in
     let z = root .pre .0 .sized in
-    let t = takes-without (root .args .p) s z (root .pre .1) (entryW (s .part) (heapWord (s .part) 0)) (root .pre .0 .takes) in (
+    let t = takes-without (root .args .p) s z (root .pre .1) (root .args .n) (entryW (s .part) (heapWord (s .part) 0)) (root .pre .0 .takes) in (
       subst (Sized (root .args .p)) (sym (popped (c .before .before .before .before))) (sized-without (root .args .p) s z (root .pre .1)),
-      subst (λ w. Takes (root .args .p) w (c .before .before .before .before .before .before .entry-at .result)) (sym (popped (c .before .before .before .before))) (subst (Takes (root .args .p) (without s)) (sym (c .before .before .before .before .before .before .entry-at .ensures)) t),
+      subst (λ w. Takes (root .args .p) (root .args .n) w (c .before .before .before .before .before .before .entry-at .result)) (sym (popped (c .before .before .before .before))) (subst (Takes (root .args .p) (root .args .n) (without s)) (sym (c .before .before .before .before .before .before .entry-at .ensures)) t),
     )
 
 same-length : tie.Need-same-length

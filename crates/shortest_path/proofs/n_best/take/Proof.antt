@@ -1,5 +1,5 @@
 use mathlib.Core.Path.{sym, ap, _∙_, subst}
-use Prim.Native.Nat.{_+_, _*_, _<_}
+use Prim.Native.Nat.{_+_, _*_, _≤_, _<_}
 use native.Mathlib.Omega.{arith}
 use lib.ListN.{getD, length-set}
 use denote.Ref.{now}
@@ -14,12 +14,13 @@ use Rattle.shortest_path.proofs.n_best.take.Tie as tie
 finished : (c : tie.After-enum-told) → (8 * c .before .before .before .args .c .listed + 6 < c .before .before .before .args .p .nodes) × (c .before .before .before .args .c .listed + 1 < 4294967296)
 finished c =
     let root = c .before .before .before in
-    subst (Takes (root .args .p) (record { part = now (root .args .part); counts = root .args .c })) (c .enum-told .given .1) (root .pre .1)
+    subst (Takes (root .args .p) (root .args .n) (record { part = now (root .args .part); counts = root .args .c })) (c .enum-told .given .1) (root .pre .1)
 
-half : (c : tie.After-e) → let root = c .before .before .before in let v = c .e .given .0 .0 in Expands (root .args .p) (record { part = now (root .args .part); counts = root .args .c }) v × (visitsWord (now (root .args .part)) (root .args .p .nodes) v + 1 < 4294967296)
+half : (c : tie.After-e) → let root = c .before .before .before in let v = c .e .given .0 .0 in let visits = visitsWord (now (root .args .part)) (root .args .p .nodes) v + 1 in
+    (root .args .p .nodes + 8 * v + 3 < root .args .p .links) × (visits < 4294967296) × (visits ≤ root .args .n → Expands (root .args .p) (record { part = now (root .args .part); counts = root .args .c }) v)
 half c =
     let root = c .before .before .before in
-    subst (Takes (root .args .p) (record { part = now (root .args .part); counts = root .args .c })) (c .e .given .1) (root .pre .1)
+    subst (Takes (root .args .p) (root .args .n) (record { part = now (root .args .part); counts = root .args .c })) (c .e .given .1) (root .pre .1)
 
 enum-told : tie.Need-enum-told
 enum-told c = search needs
@@ -61,7 +62,7 @@ mul-visits : tie.Need-mul-visits
 mul-visits c = search needs
 
 slice-read-visits : tie.Need-slice-read-visits
-slice-read-visits c = omega (arith, half (c .before .before) .0 .slot, c .before .before .before .before .before .pre .0 .inside)
+slice-read-visits c = omega (arith, half (c .before .before) .0, c .before .before .before .before .before .pre .0 .inside)
 
 add-visits : tie.Need-add-visits
 add-visits c = omega (arith, half (c .before .before) .1)
@@ -70,7 +71,7 @@ mul-part-3 : tie.Need-mul-part-3
 mul-part-3 c = search needs
 
 slice-write-part-2 : tie.Need-slice-write-part-2
-slice-write-part-2 c = omega (arith, half (c .before .before) .0 .slot, c .before .before .before .before .before .pre .0 .inside)
+slice-write-part-2 c = omega (arith, half (c .before .before) .0, c .before .before .before .before .before .pre .0 .inside)
 
 same-length : tie.Need-same-length
 same-length c = search needs
@@ -87,8 +88,8 @@ expand-requires c κs =
     let root = c .before .before .before .before .before .before .before in
     let s : Words = record { part = now (root .args .part); counts = root .args .c } in
     let v = c .before .before .before .before .e .given .0 .0 in
-    let e = half (c .before .before .before .before) .0 in
-    (sized-visited (root .args .p) s v (root .pre .0) e, expands-visited (root .args .p) s v (root .pre .0) e)
+    let e = half (c .before .before .before .before) .2 (c .before .if1 .left) in
+    (sized-visited (root .args .p) s v (root .pre .0), expands-visited (root .args .p) s v (root .pre .0) e)
 
 same-length-2 : tie.Need-same-length-2
 same-length-2 c = search needs
