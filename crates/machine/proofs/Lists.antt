@@ -230,6 +230,15 @@ mem-keep p (x ∷ l) {a} h e = go (p x) refl (List·Memᴰ·cases-cons h) (λ q.
     go false f (inl z) ih = absurd (not-both (ap p (sym z) ∙ e) f)
     go false f (inr q) ih = ih q
 
+pub keep-length : {A : Type 0} (p : A → Bool) (l : List A) → length (keep p l) ≤ length l
+unfolding keep
+keep-length p [] = omega arith
+keep-length p (x ∷ l) = go (p x) (keep-length p l)
+  where
+    go : (t : Bool) → length (keep p l) ≤ length l → length (cond t (x ∷ keep p l) (keep p l)) ≤ suc (length l)
+    go true h = omega arith
+    go false h = omega arith
+
 pub keep-nodup : {A B : Type 0} (f : A → B) (p : A → Bool) (l : List A) → NoDup (map f l) → NoDup (map f (keep p l))
 unfolding keep
 keep-nodup f p [] n = tt

@@ -21,3 +21,4 @@ pub mod Readback
 pub mod BackOne
 pub mod Lists
 pub mod Within
+pub mod Tallies

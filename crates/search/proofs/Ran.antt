@@ -20,7 +20,7 @@ use Rattle.search.proofs.Steps.{Holds, holds-step}
 module _ (r : Reversed) (n : ℕ) where
   -- ---- what one removal adds to the list and to the count
   -- one more taken, and at most one more listed
-  abbrev OneMore : Search → Search → Type 0
+  abbrev pub OneMore : Search → Search → Type 0
   OneMore s z = (length (z .listed) ≤ suc (length (s .listed))) × (z .taken ≡ suc (s .taken))
 
   taken-one : (x : ℕ) (h : List ℕ) (e : Entry) (s : Search) → OneMore s (takenBy r n x h e s)
@@ -34,7 +34,7 @@ module _ (r : Reversed) (n : ℕ) where
       go true = let k = putAll-keeps r (expansion r x v c) z in (omega (arith, ap length (k .1)), k .2)
       go false = (omega arith, refl)
 
-  step-one : (s : Search) → OneMore s (step r n s)
+  pub step-one : (s : Search) → OneMore s (step r n s)
   unfolding step
   step-one s = taken-one (getD (s .heap) 0 0) (popped (before r (s .entries)) (s .heap)) (getD (s .entries) (getD (s .heap) 0 0) first .entry) s
 
@@ -47,7 +47,7 @@ module _ (r : Reversed) (n : ℕ) where
       go false true p q e = inr (leb-true n (length (s .listed)) q)
       go false false p q e = absurd (not-both e refl)
 
-  stopped-not : (s : Search) → stopped r n s ≡ false → (0 < length (s .heap)) × (length (s .listed) < n)
+  pub stopped-not : (s : Search) → stopped r n s ≡ false → (0 < length (s .heap)) × (length (s .listed) < n)
   stopped-not s e = go (eqb (length (s .heap)) 0) (leb n (length (s .listed))) refl refl e
     where
       go : (a b : Bool) → eqb (length (s .heap)) 0 ≡ a → leb n (length (s .listed)) ≡ b → a || b ≡ false → (0 < length (s .heap)) × (length (s .listed) < n)

@@ -8,12 +8,11 @@ use Prim.Native.Nat.{ℕ, zero, suc, _+_, _≤_, _<_, min}
 use native.Mathlib.Decide.{ℕ-discrete}
 use native.Mathlib.Omega.{arith}
 use lib.Dec.{leb}
-use lib.ListN.{getD, set, length, replicate, getD-replicate, length-replicate, length-append, length-map, length-set, List·getD-append, List·getD-eq-default}
+use lib.ListN.{getD, set, length, length-replicate, length-append, length-map, length-set, List·getD-append}
 use lib.Seq.{getD-set-same, getD-set-other}
 use borrow.Author.Tests.{leb-true, leb-false}
 use Rattle.tropical_weight.specs.Tropical.{Tropical, _≼_}
 use Rattle.tropical_weight.proofs.Semiring.{≼-eq, ≼-trans}
-use Rattle.sheet.proofs.Below.{split-at}
 use Rattle.machine.specs.Readings.{isAt}
 use Rattle.machine.specs.Demand.{_∈_, NoDup}
 use Rattle.machine.proofs.Lists.{Perm, thru, perm-refl, perm-mem, perm-sym, perm-map, perm-length, perm-left, perm-right, perm-swap, here, mem-eq, map-mem, mem-map, map-append, map-same, keep, keep-append, keep-mem, keep-nodup, nodup-end}
@@ -102,6 +101,12 @@ trails-once v ds h = keep-nodup (λ (d : Taken). d .trail) (expandedAt v) ds h
 pub trails-count : (v : ℕ) (ds : List Taken) → length (trailsAt v ds) ≡ occurs v (nodesOf ds)
 trails-count v ds = length-map (keep (expandedAt v) ds) (λ (d : Taken). d .trail) ∙ nodes-count v ds
 
+-- no node has been taken at first
+pub no-visits : (size v : ℕ) → getD (begun size .visits) v 0 ≡ 0
+no-visits zero v = refl
+no-visits (suc size) zero = refl
+no-visits (suc size) (suc v) = no-visits size v
+
 module _ (r : Reversed) (n size : ℕ) where
   -- what holds of the search whenever an entry has been dealt with: its trails, and what became of those taken
   pub record Holds (s : Search) : Type 0 where
@@ -141,7 +146,7 @@ module _ (r : Reversed) (n size : ℕ) where
     sound = sound-first r n;
     lists = refl;
     wide = length-replicate size 0;
-    visited = λ v. omega (arith, no-visits v (split-at v size));
+    visited = λ v. omega (arith, no-visits size v);
     counted = refl;
     all = perm-refl ([] ∷ []);
     grew = refl;
@@ -150,10 +155,6 @@ module _ (r : Reversed) (n size : ℕ) where
       told : (i : ℕ) → Told (first ∷ []) ([] ∷ []) i
       told zero = record { entry = refl; input = refl; from = refl; earlier = omega arith }
       told (suc i) = record { entry = refl; input = refl; from = refl; earlier = omega arith }
-
-      no-visits : (v : ℕ) → (v < size) ⊎ (size ≤ v) → _≡_ {A = ℕ} (getD (replicate size 0) v 0) 0
-      no-visits v (inl b) = getD-replicate {A = ℕ} size v 0 0 b
-      no-visits v (inr b) = List·getD-eq-default (replicate size 0) 0 (omega (arith, length-replicate {A = ℕ} size 0))
 
   module _ (c : Consistent r) (room : 0 < size) (within : (v : ℕ) (b : Back) → b ∈ r .out v → b .next < size) where
     pub site-in : (t : Trail) → Made r t → (v : ℕ) → site t ≡ some v → v < size

@@ -1,0 +1,7 @@
+pub mod Marks
+pub mod Placing
+pub mod Filing
+pub mod Trimming
+pub mod SheetWords
+pub mod Writings
+pub mod Sources

@@ -1,0 +1,2 @@
+// The list machine, trimmed and written to the result area.
+pub mod listing;

@@ -1,0 +1,34 @@
+-- Entries in their slots, by cases. Assumes nothing.
+use mathlib.Core.Path.{_≡_, sym, ap, _∙_, subst}
+use mathlib.Core.Bool.{Bool, cond}
+use mathlib.Core.List.{List}
+use Prim.Native.Nat.{ℕ, _+_, _*_, _<_}
+use lib.Ieee.{Float, binary32, add, ofBits}
+use lib.ListN.{length}
+use borrow.Author.Tests.{eq-eqb, ne-eqb}
+use Rattle.n_shortest.specs.declared.n_best.Entry.{Entry}
+use Rattle.n_shortest.specs.declared.n_best.Entry.the-variants.{Half, Finished}
+use Rattle.slots.specs.Slots.{nothing, nodeWord, costWord, distanceWord}
+use Rattle.n_shortest.specs.SearchWords.{rankW, Inside, entryW}
+
+module _ (part : List ℕ) (nodes : ℕ) where
+  pub inside-half : {e : Entry} {v : ℕ} {c : Float} → e ≡ Half v c → Inside part nodes e → nodes + 8 * v < length part
+  inside-half q i = subst (Inside part nodes) q i
+
+  pub rank-half : {e : Entry} {v : ℕ} {c d r : Float} → e ≡ Half v c → d ≡ ofBits binary32 (distanceWord part nodes v) → r ≡ add binary32 d c → r ≡ rankW part nodes e
+  rank-half {e} {v} {c} q k z = z ∙ ap (λ x. add binary32 x c) k ∙ ap (rankW part nodes) (sym q)
+
+  pub rank-finished : {e : Entry} {c : Float} → e ≡ Finished c → c ≡ rankW part nodes e
+  rank-finished q = ap (rankW part nodes) (sym q)
+
+module _ (part : List ℕ) (x : ℕ) where
+  abbrev cost : Float
+  cost = ofBits binary32 (costWord part x)
+
+  pub entry-finished : nodeWord part x ≡ nothing → entryW part x ≡ Finished cost
+  unfolding entryW
+  entry-finished e = ap (λ (b : Bool). cond b (Finished cost) (Half (nodeWord part x) cost)) (eq-eqb (nodeWord part x) nothing e)
+
+  pub entry-half : (nodeWord part x ≡ nothing → ⊥) → entryW part x ≡ Half (nodeWord part x) cost
+  unfolding entryW
+  entry-half e = ap (λ (b : Bool). cond b (Finished cost) (Half (nodeWord part x) cost)) (ne-eqb (nodeWord part x) nothing e)

@@ -1,0 +1,9 @@
+pub mod HeapSteps
+pub mod HeapPlaces
+pub mod EntryWords
+pub mod Putting
+pub mod Linking
+pub mod Taking
+pub mod Storing
+pub mod Stepping
+pub mod Running

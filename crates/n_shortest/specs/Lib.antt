@@ -1,0 +1,2 @@
+pub mod HeapWords
+pub mod SearchWords

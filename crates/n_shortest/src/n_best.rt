@@ -1,0 +1,257 @@
+// The search for the n cheapest readings (n_shortest_path of shortest_path.rs), on its part of the
+// work area.
+ghost use mathlib.Core.Path.{_≡_};
+ghost use mathlib.Core.Bool.{false};
+ghost use Prim.Native.Nat.{ℕ, _+_, _-_, _*_, _≤_, _<_};
+ghost use lib.ListN.{length};
+ghost use Rattle.n_shortest.specs.HeapWords.{HeapFits};
+ghost use Rattle.n_shortest.specs.SearchWords.{nodeOf, costOf, rankW, Inside, entryW, stored, putW, repeated, linksW, expandW, takenW, stepW, stoppedW, afterW, begunW, Sized, Chain, Expands, Takes, Ready, Begins};
+use crate::heap;
+use slots::CHAIN;
+use slots::COST;
+use slots::FROM;
+use slots::HEAD;
+use slots::INPUT;
+use slots::LISTED;
+use slots::NOTHING;
+use slots::PLACE;
+use slots::RANK;
+use slots::SLOT;
+use slots::VISITS;
+use slots::WEIGHT;
+
+// An entry is half-built, with a node and a cost, or finished, with a cost.
+pub enum Entry {
+    Half(u32, f32),
+    Finished(f32),
+}
+
+// How many entries there are, how many of them the heap holds, and how many are listed and taken.
+pub struct Counts {
+    pub entries: u32,
+    pub heap: u32,
+    pub listed: u32,
+    pub taken: u32,
+}
+
+// The words at which the slots of nodes and of reversed links begin, how many of the links repeat
+// an input link, and the node that the old start became.
+pub struct Places {
+    pub nodes: usize,
+    pub links: usize,
+    pub inputs: u32,
+    pub end: u32,
+}
+
+fn node_of(e: Entry) -> u32
+    ensures { λ r. ⌜ r ≡ nodeOf e ⌝ }
+{
+    match e {
+        Entry::Half(v, _) => v,
+        Entry::Finished(_) => NOTHING,
+    }
+}
+
+fn cost_of(e: Entry) -> f32
+    ensures { λ r. ⌜ r ≡ costOf e ⌝ }
+{
+    match e {
+        Entry::Half(_, c) => c,
+        Entry::Finished(c) => c,
+    }
+}
+
+// Distance plus cost.
+fn rank(part: &[u32], nodes: usize, e: Entry) -> f32
+    requires { ⌜ Inside (now part) nodes e ⌝ }
+    ensures { λ r. ⌜ r ≡ rankW (now (part .entry)) nodes e ⌝ }
+{
+    match e {
+        Entry::Half(v, c) => {
+            let distance = tropical_weight::from_bits(part[nodes + SLOT * (v as usize)]);
+            tropical_weight::times(distance, c)
+        }
+        Entry::Finished(c) => c,
+    }
+}
+
+// The entry in slot x.
+fn entry_at(part: &[u32], x: u32) -> Entry
+    requires { ⌜ 8 * x + 1 < length (now part) ⌝ }
+    ensures { λ r. ⌜ r ≡ entryW (now (part .entry)) x ⌝ }
+{
+    let at = SLOT * (x as usize);
+    let node = part[at];
+    let cost = tropical_weight::from_bits(part[at + COST]);
+    if node == NOTHING {
+        return Entry::Finished(cost);
+    }
+    Entry::Half(node, cost)
+}
+
+// Stores an entry in slot i, with the entry it came from and the input link by which it is put in.
+fn store(part: &mut [u32], nodes: usize, i: u32, e: Entry, from: u32, input: u32)
+    requires { ⌜ (8 * i + 4 < length (now part)) × Inside (now part) nodes e ⌝ }
+    ensures { λ _. ⌜ now (part .exit) ≡ stored (now (part .entry)) nodes i e from input ⌝ }
+{
+    let at = SLOT * (i as usize);
+    let rank = tropical_weight::to_bits(rank(part, nodes, e));
+    part[at] = node_of(e);
+    part[at + COST] = tropical_weight::to_bits(cost_of(e));
+    part[at + FROM] = from;
+    part[at + INPUT] = input;
+    part[at + RANK] = rank;
+}
+
+// Puts an entry in: into the next slot, and into the heap.
+fn put(part: &mut [u32], p: Places, c: Counts, e: Entry, from: u32, input: u32) -> Counts
+    requires { ⌜ Sized p (record { part = now part; counts = c }) × (8 * (c .entries + 1) ≤ p .nodes) × Inside (now part) (p .nodes) e ⌝ }
+    ensures { λ r. ⌜ (r ≡ putW (p .nodes) e from input (record { part = now (part .entry); counts = c }) .counts) × (now (part .exit) ≡ putW (p .nodes) e from input (record { part = now (part .entry); counts = c }) .part) ⌝ }
+{
+    let entries = c.entries;
+    let heap = c.heap;
+    store(part, p.nodes, entries, e, from, input);
+    heap::push(part, heap as usize, entries);
+    Counts {
+        entries: entries + 1,
+        heap: heap + 1,
+        listed: c.listed,
+        taken: c.taken,
+    }
+}
+
+// The input link that reversed link k repeats.
+fn input_of(inputs: u32, k: u32) -> u32
+    ensures { λ r. ⌜ r ≡ repeated inputs k ⌝ }
+{
+    if k < inputs {
+        return k;
+    }
+    NOTHING
+}
+
+// Puts in an entry for each reversed link from k on, along their chain. There are no more links
+// than `most`, so that the loop ends whatever the words are.
+fn put_links(
+    part: &mut [u32],
+    p: Places,
+    c: Counts,
+    x: u32,
+    cost: f32,
+    most: u32,
+    head: u32,
+) -> Counts
+    requires { ⌜ Sized p (record { part = now part; counts = c }) × ((n : ℕ) × Chain p (now part) n head × (8 * (c .entries + n) ≤ p .nodes)) ⌝ }
+    ensures { λ r. ⌜ (r ≡ linksW p x cost most head (record { part = now (part .entry); counts = c }) .counts) × (now (part .exit) ≡ linksW p x cost most head (record { part = now (part .entry); counts = c }) .part) ⌝ }
+{
+    let links = p.links;
+    let inputs = p.inputs;
+    let mut counts = c;
+    let mut k = head;
+    let mut turn = 0u32;
+    while turn < most {
+        if k == NOTHING {
+            return counts;
+        }
+        let at = links + SLOT * (k as usize);
+        let next = part[at];
+        let weight = tropical_weight::from_bits(part[at + WEIGHT]);
+        let on = part[at + CHAIN];
+        let e = Entry::Half(next, tropical_weight::times(cost, weight));
+        counts = put(part, p, counts, e, x, input_of(inputs, k));
+        k = on;
+        turn += 1;
+    }
+    counts
+}
+
+// Expands entry x, which stands at node v: an entry for each link out of it, then a finished one
+// where it is the old start.
+fn expand(part: &mut [u32], p: Places, c: Counts, x: u32, v: u32, cost: f32, most: u32) -> Counts
+    requires { ⌜ Sized p (record { part = now part; counts = c }) × Expands p (record { part = now part; counts = c }) v ⌝ }
+    ensures { λ r. ⌜ (r ≡ expandW p most x v cost (record { part = now (part .entry); counts = c }) .counts) × (now (part .exit) ≡ expandW p most x v cost (record { part = now (part .entry); counts = c }) .part) ⌝ }
+{
+    let nodes = p.nodes;
+    let end = p.end;
+    let head = part[nodes + SLOT * (v as usize) + HEAD];
+    let counts = put_links(part, p, c, x, cost, most, head);
+    if v == end {
+        return put(part, p, counts, Entry::Finished(cost), x, NOTHING);
+    }
+    counts
+}
+
+// Takes entry x, which the heap has given up: a finished one is listed next; a half-built one
+// visits its node, and is expanded unless that has now been taken more than n times.
+fn take(part: &mut [u32], p: Places, c: Counts, n: u32, most: u32, x: u32, e: Entry) -> Counts
+    requires { ⌜ Sized p (record { part = now part; counts = c }) × Takes p n (record { part = now part; counts = c }) e ⌝ }
+    ensures { λ r. ⌜ (r ≡ takenW p n most x e (record { part = now (part .entry); counts = c }) .counts) × (now (part .exit) ≡ takenW p n most x e (record { part = now (part .entry); counts = c }) .part) ⌝ }
+{
+    match e {
+        Entry::Finished(_) => {
+            let listed = c.listed;
+            part[SLOT * (listed as usize) + LISTED] = x;
+            Counts {
+                entries: c.entries,
+                heap: c.heap,
+                listed: listed + 1,
+                taken: c.taken,
+            }
+        }
+        Entry::Half(v, cost) => {
+            let nodes = p.nodes;
+            let at = nodes + SLOT * (v as usize) + VISITS;
+            let visits = part[at] + 1;
+            part[at] = visits;
+            if n < visits {
+                return c;
+            }
+            expand(part, p, c, x, v, cost, most)
+        }
+    }
+}
+
+// One removal: the heap's head is taken.
+pub fn step(part: &mut [u32], p: Places, c: Counts, n: u32, most: u32) -> Counts
+    requires { ⌜ Ready p n (record { part = now part; counts = c }) × (0 < c .heap) ⌝ }
+    ensures { λ r. ⌜ (r ≡ stepW p n most (record { part = now (part .entry); counts = c }) .counts) × (now (part .exit) ≡ stepW p n most (record { part = now (part .entry); counts = c }) .part) ⌝ }
+{
+    let x = part[PLACE];
+    let e = entry_at(part, x);
+    let heap = c.heap;
+    heap::pop(part, heap as usize);
+    let without = Counts {
+        entries: c.entries,
+        heap: heap - 1,
+        listed: c.listed,
+        taken: c.taken + 1,
+    };
+    take(part, p, without, n, most, x, e)
+}
+
+// The search, from its first entry on, until n are listed or the heap is empty; it needs no more
+// removals than are allowed.
+pub fn n_shortest_path(part: &mut [u32], p: Places, n: u32, most: u32, allowed: u32) -> Counts
+    requires { ⌜ Begins p (now part) × ((k : ℕ) → stoppedW n (afterW p n most k (begunW p (now part))) ≡ false → Ready p n (afterW p n most k (begunW p (now part)))) ⌝ }
+    ensures { λ r. ⌜ (r ≡ afterW p n most allowed (begunW p (now (part .entry))) .counts) × (now (part .exit) ≡ afterW p n most allowed (begunW p (now (part .entry))) .part) ⌝ }
+{
+    let none = Counts {
+        entries: 0,
+        heap: 0,
+        listed: 0,
+        taken: 0,
+    };
+    let mut c = put(part, p, none, Entry::Half(0, 0.0), 0, NOTHING);
+    let mut turn = 0u32;
+    while turn < allowed {
+        if c.heap == 0 {
+            return c;
+        }
+        if n <= c.listed {
+            return c;
+        }
+        c = step(part, p, c, n, most);
+        turn += 1;
+    }
+    c
+}

@@ -1,0 +1,145 @@
+-- The passes of the reversal, a turn at a time, and the number of final nodes. Assumes nothing.
+use mathlib.Core.Path.{_≡_, refl, sym, ap, _∙_}
+use mathlib.Core.Logic.{_⊎_, inl, inr}
+use mathlib.Core.Bool.{Bool, true, false, cond}
+use mathlib.Core.Option.{Option, none, some}
+use mathlib.Core.List.{List, [], _∷_, _++_}
+use Prim.Native.Nat.{ℕ, zero, suc, _+_, _-_, _*_, _≤_, _<_}
+use native.Mathlib.Nat.{le-of-eq, eq-or-lt-of-le}
+use native.Mathlib.Numerals.{add-one}
+use native.Mathlib.Omega.{arith}
+use lib.Dec.{eqb}
+use lib.ListN.{set}
+use lib.Ieee.{Float, binary32, add, ofBits, toBits}
+use borrow.Author.Tests.{eq-eqb, ne-eqb}
+use Rattle.tropical_weight.specs.Tropical.{Tropical}
+use Rattle.tropical_weight.specs.Single.{lesser}
+use Rattle.sheet.specs.Below.{sumBelow, listBelow}
+use Rattle.sheet.specs.Words.{word}
+use Rattle.sheet.specs.Machine.{weightOf, finalOf}
+use Rattle.sheet.specs.Records.{countAt, firstLink}
+use Rattle.search.specs.Search.{marked}
+use Rattle.slots.specs.Slots.{nothing, distanceWord}
+use Rattle.reversed_machine.specs.ReverseWords.{markAt, finalAt, finalsAt, finalCount, headsCleared, chained, linksPut, linksReversed, finalsReversed, leastTotal, chainsPut, reversedWords}
+
+-- ---- heads
+pub cleared-next : (nodes q : ℕ) (part : List ℕ) → headsCleared nodes (q + 1) part ≡ set (set (headsCleared nodes q part) (nodes + 8 * q + 2) nothing) (nodes + 8 * q + 3) 0
+unfolding headsCleared
+cleared-next nodes q part = ap (λ (k : ℕ). headsCleared nodes k part) (add-one q)
+
+-- ---- the number of final nodes
+marked-append : (fs gs : List (Option Tropical)) → marked (fs ++ gs) ≡ marked fs + marked gs
+unfolding marked
+marked-append [] gs = omega arith
+marked-append (none ∷ fs) gs = marked-append fs gs
+marked-append (some w ∷ fs) gs = omega (arith, marked-append fs gs)
+
+module _ (bytes : List ℕ) (T : ℕ) where
+  pub count-none : finalCount bytes T 0 ≡ 0
+  unfolding finalsAt listBelow marked
+  count-none = refl
+
+  -- node v, by its mark
+  count-next : (v : ℕ) (b : Bool) → eqb (markAt bytes T v) 0 ≡ b → finalCount bytes T (suc v) ≡ finalCount bytes T v + cond b 0 1
+  unfolding finalsAt listBelow marked
+  count-next v b e =
+      marked-append (finalsAt bytes T v) (finalOf (markAt bytes T v) (finalAt bytes T v) ∷ [])
+      ∙ ap (λ (t : Bool). finalCount bytes T v + marked (cond t none (some (weightOf (finalAt bytes T v))) ∷ [])) e
+      ∙ ap (λ (n : ℕ). finalCount bytes T v + n) (one b)
+    where
+      one : (b : Bool) → marked (cond b none (some (weightOf (finalAt bytes T v))) ∷ []) ≡ cond b 0 1
+      one true = refl
+      one false = refl
+
+  -- where u is the node after v
+  module _ (v u : ℕ) (after : u ≡ suc v) where
+    pub count-plain : markAt bytes T v ≡ 0 → finalCount bytes T u ≡ finalCount bytes T v
+    count-plain e = ap (finalCount bytes T) after ∙ omega (arith, count-next v true (eq-eqb (markAt bytes T v) 0 e))
+
+    pub count-final : (markAt bytes T v ≡ 0 → ⊥) → finalCount bytes T u ≡ finalCount bytes T v + 1
+    count-final n = ap (finalCount bytes T) after ∙ omega (arith, count-next v false (ne-eqb (markAt bytes T v) 0 n))
+
+  pub count-most : (n : ℕ) → finalCount bytes T n ≤ n
+  count-most zero = omega (arith, count-none)
+  count-most (suc n) = go (eqb (markAt bytes T n) 0) refl (count-most n)
+    where
+      go : (b : Bool) → eqb (markAt bytes T n) 0 ≡ b → finalCount bytes T n ≤ n → finalCount bytes T (suc n) ≤ suc n
+      go true e h = omega (arith, count-next n true e)
+      go false e h = omega (arith, count-next n false e)
+
+  -- no more among the first nodes than among all
+  pub count-mono : (v n : ℕ) → v ≤ n → finalCount bytes T v ≤ finalCount bytes T n
+  count-mono v zero h = omega (arith, ap (finalCount bytes T) (let z : v ≡ 0 = omega arith in z))
+  count-mono v (suc n) h = go (eq-or-lt-of-le h) (count-mono v n)
+    where
+      go : (v ≡ suc n) ⊎ (v < suc n) → (v ≤ n → finalCount bytes T v ≤ finalCount bytes T n) → finalCount bytes T v ≤ finalCount bytes T (suc n)
+      go (inl e) r = le-of-eq (ap (finalCount bytes T) e)
+      go (inr l) r = let k : finalCount bytes T v ≤ finalCount bytes T n = r (omega arith) in omega (arith, count-next n (eqb (markAt bytes T n) 0) refl)
+
+-- ---- links and finals, from the last down
+pub first-below : (bytes : List ℕ) (T v : ℕ) → 0 < v → firstLink bytes T v ≡ firstLink bytes T (v - 1) + countAt bytes T (v - 1)
+unfolding sumBelow
+first-below bytes T v h = ap (firstLink bytes T) (let z : v ≡ suc (v - 1) = omega arith in z)
+
+module _ (bytes : List ℕ) (nodes links : ℕ) (part new whole : List ℕ) where
+  -- a link of node v, by what the calls answer
+  pub links-again : (v first i next bits : ℕ) → 0 < i → next ≡ word bytes (16 * (first + (i - 1)) + 12) → bits ≡ word bytes (16 * (first + (i - 1)) + 8)
+      → new ≡ chained (nodes + 8 * (next + 1) + 2) (links + 8 * (first + (i - 1))) (first + (i - 1)) (v + 1) bits part
+      → linksPut bytes nodes links v first i part ≡ whole → linksPut bytes nodes links v first (i - 1) new ≡ whole
+  unfolding linksPut
+  links-again v first i next bits h n b e w =
+      let l = first + (i - 1) in
+      let top : suc (i - 1) ≡ i = omega arith in
+      ap (linksPut bytes nodes links v first (i - 1)) (e ∙ λ j. chained (nodes + 8 * (n j + 1) + 2) (links + 8 * l) l (v + 1) (b j) part)
+      ∙ ap (λ (k : ℕ). linksPut bytes nodes links v first k part) top ∙ w
+
+  -- a node of a sheet with T links
+  pub nodes-again : (T v count : ℕ) → 0 < v → count ≡ countAt bytes T (v - 1) → new ≡ linksPut bytes nodes links (v - 1) (firstLink bytes T v - count) count part
+      → linksReversed bytes nodes links T v part ≡ whole → linksReversed bytes nodes links T (v - 1) new ≡ whole
+  unfolding linksReversed
+  nodes-again T v count h n e w =
+      let top : suc (v - 1) ≡ v = omega arith in
+      let first : firstLink bytes T v - count ≡ firstLink bytes T (v - 1) = omega (arith, first-below bytes T v h) in
+      ap (linksReversed bytes nodes links T (v - 1)) (e ∙ λ j. linksPut bytes nodes links (v - 1) (first j) (n j) part)
+      ∙ ap (λ (k : ℕ). linksReversed bytes nodes links T k part) top ∙ w
+
+  module _ (T v : ℕ) (h : 0 < v) (w : finalsReversed bytes nodes links T v part ≡ whole) where
+    -- the pass over the node before, with its mark tested
+    finals-down : (b : Bool) → eqb (markAt bytes T (v - 1)) 0 ≡ b
+        → let k = T + finalCount bytes T (v - 1) in finalsReversed bytes nodes links T (v - 1) (cond b part (chained (nodes + 2) (links + 8 * k) k (v - 1 + 1) (finalAt bytes T (v - 1)) part)) ≡ whole
+    unfolding finalsReversed
+    finals-down b e =
+        let k = T + finalCount bytes T (v - 1) in
+        ap (λ (t : Bool). finalsReversed bytes nodes links T (v - 1) (cond t part (chained (nodes + 2) (links + 8 * k) k (v - 1 + 1) (finalAt bytes T (v - 1)) part))) (sym e)
+        ∙ ap (λ (n : ℕ). finalsReversed bytes nodes links T n part) (let z : suc (v - 1) ≡ v = omega arith in z) ∙ w
+
+    pub finals-plain : markAt bytes T (v - 1) ≡ 0 → finalsReversed bytes nodes links T (v - 1) part ≡ whole
+    finals-plain e = finals-down true (eq-eqb (markAt bytes T (v - 1)) 0 e)
+
+    pub finals-again : (k bits : ℕ) → (markAt bytes T (v - 1) ≡ 0 → ⊥) → k ≡ T + finalCount bytes T (v - 1) → bits ≡ finalAt bytes T (v - 1)
+        → new ≡ chained (nodes + 2) (links + 8 * k) k (v - 1 + 1) bits part → finalsReversed bytes nodes links T (v - 1) new ≡ whole
+    finals-again k bits n a b e = ap (finalsReversed bytes nodes links T (v - 1)) (e ∙ λ j. chained (nodes + 2) (links + 8 * a j) (a j) (v - 1 + 1) (b j) part) ∙ finals-down false (ne-eqb (markAt bytes T (v - 1)) 0 n)
+
+-- ---- the least total, one node more
+module _ (bytes : List ℕ) (nodes T v : ℕ) (part : List ℕ) where
+  total-next : (b : Bool) → eqb (markAt bytes T v) 0 ≡ b
+      → leastTotal bytes nodes T (v + 1) part ≡ cond b (leastTotal bytes nodes T v part) (lesser (leastTotal bytes nodes T v part) (add binary32 (ofBits binary32 (distanceWord part nodes (v + 1))) (ofBits binary32 (finalAt bytes T v))))
+  unfolding leastTotal
+  total-next b e =
+      ap (λ (k : ℕ). leastTotal bytes nodes T k part) (add-one v)
+      ∙ ap (λ (t : Bool). cond t (leastTotal bytes nodes T v part) (lesser (leastTotal bytes nodes T v part) (add binary32 (ofBits binary32 (distanceWord part nodes (v + 1))) (ofBits binary32 (finalAt bytes T v))))) e
+
+  pub total-plain : (least : Float) → least ≡ leastTotal bytes nodes T v part → markAt bytes T v ≡ 0 → least ≡ leastTotal bytes nodes T (v + 1) part
+  total-plain least h e = h ∙ sym (total-next true (eq-eqb (markAt bytes T v) 0 e))
+
+  pub total-final : (least d w s r : Float) → least ≡ leastTotal bytes nodes T v part → (markAt bytes T v ≡ 0 → ⊥) → d ≡ ofBits binary32 (distanceWord part nodes (v + 1)) → w ≡ ofBits binary32 (finalAt bytes T v)
+      → s ≡ add binary32 d w → r ≡ lesser least s → r ≡ leastTotal bytes nodes T (v + 1) part
+  total-final least d w s r h n a b e f = f ∙ (λ i. lesser (h i) ((e ∙ λ j. add binary32 (a j) (b j)) i)) ∙ sym (total-next false (ne-eqb (markAt bytes T v) 0 n))
+
+-- ---- one pass after the other
+pub passes-made : (bytes : List ℕ) (nodes links N T : ℕ) (part a b d : List ℕ) (least : Float) (bits : ℕ) → a ≡ headsCleared nodes (N + 1) part → b ≡ linksReversed bytes nodes links T N a → d ≡ finalsReversed bytes nodes links T N b
+    → least ≡ leastTotal bytes nodes T N d → bits ≡ toBits binary32 least → set d nodes bits ≡ reversedWords bytes nodes links N T part
+unfolding reversedWords chainsPut
+passes-made bytes nodes links N T part a b d least bits ea eb ed el ew =
+    let put : d ≡ chainsPut bytes nodes links N T part = ed ∙ ap (finalsReversed bytes nodes links T N) (eb ∙ ap (linksReversed bytes nodes links T N) ea) in
+    (λ i. set (put i) nodes ((ew ∙ ap (toBits binary32) (el ∙ ap (leastTotal bytes nodes T N) put)) i))

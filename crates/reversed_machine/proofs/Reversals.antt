@@ -1,0 +1,221 @@
+-- The part after the reversal of an accepted sheet: the reversed machine lies in the slots, and what lies beside them is as it was. Assumes nothing.
+use mathlib.Core.Path.{_≡_, sym, ap, _∙_, subst}
+use mathlib.Core.Logic.{_⊎_, inl, inr}
+use mathlib.Core.List.{List, map}
+use Prim.Native.Nat.{ℕ, zero, suc, _+_, _-_, _*_, _≤_, _<_, min}
+use native.Mathlib.Nat.{le-refl}
+use native.Mathlib.Omega.{arith}
+use lib.ListN.{length, getD, take, drop, set, length-set, length-take, length-drop}
+use lib.Seq.{getD-set-same, getD-set-other, getD-take, getD-drop, ext-getD}
+use lib.Ieee.{binary32, toBits}
+use Rattle.sheet.specs.Sheet.{partsOf}
+use Rattle.sheet.specs.declared.tr.Trailer.{Trailer}
+use Rattle.sheet.specs.Records.{trailerAt}
+use Rattle.sheet.specs.Machine.{Machine, machineOf, bitsOf}
+use Rattle.sheet.proofs.Below.{split-at}
+use Rattle.machine.specs.Distance.{dist}
+use Rattle.machine.specs.Input.{inputNumber}
+use Rattle.search.specs.Reversed.{outOf, distanceTo}
+use Rattle.search.specs.Search.{marked}
+use Rattle.shortest_distance.proofs.Accepted.{reads, nodes-are, links-are}
+use Rattle.slots.specs.Slots.{nothing, distanceWord, headWord, visitsWord, chainWord}
+use Rattle.reversed_machine.specs.ReverseWords.{finalCount, headsCleared, linksReversed, finalsReversed, leastTotal, chainsPut, reversedWords, chainOf, backOf}
+use Rattle.reversed_machine.specs.Laid.{backCount, Measured, Laid, Reversal}
+use Rattle.reversed_machine.proofs.Passing.{count-none, count-most}
+use Rattle.reversed_machine.proofs.Granted.{stated, Tells, tells}
+use Rattle.reversed_machine.proofs.Fronts.{Lists, Same, lists-lower, lists-kept, lists-length, lists-read, lists-first, Filled, filled-kept}
+use Rattle.reversed_machine.proofs.Chains.{Passed, Ended, links-reversed, finals-reversed}
+use Rattle.reversed_machine.proofs.Spared.{cleared-size, cleared-spared, cleared-words, Free, reversed-size, finals-size, reversed-free, finals-free}
+use Rattle.reversed_machine.proofs.Totals.{least-exact}
+
+-- ---- after the passes, by the machine's own numbers
+module _ (bytes : List ℕ) (e : inputNumber bytes ≡ 0) (nodes links : ℕ) (part : List ℕ) where
+  abbrev m : Machine
+  m = machineOf (partsOf bytes)
+
+  abbrev T : ℕ
+  T = length (machineOf (partsOf bytes) .links)
+
+  abbrev N : ℕ
+  N = length (machineOf (partsOf bytes) .finals)
+
+  abbrev s : Tells bytes (length (machineOf (partsOf bytes) .links)) (length (machineOf (partsOf bytes) .finals)) (machineOf (partsOf bytes))
+  s = tells bytes e
+
+  whole : T + finalCount bytes T N ≡ backCount (machineOf (partsOf bytes))
+  whole = ap (λ fs. T + marked fs) (s .finals-are)
+
+  few-links : backCount (machineOf (partsOf bytes)) < nothing
+  few-links =
+      let g = stated bytes e in
+      omega (arith, sym whole, count-most bytes T N, g .nodes-few, g .links-few, nodes-are bytes e, links-are bytes e)
+
+  module _ (apart : nodes + 8 * (N + 1) ≤ links) (room : links + 8 * backCount (machineOf (partsOf bytes)) ≤ length part) (measured : Measured (machineOf (partsOf bytes)) nodes part) where
+    abbrev heads : List ℕ
+    heads = headsCleared nodes (N + 1) part
+
+    abbrev half : List ℕ
+    half = linksReversed bytes nodes links T N heads
+
+    abbrev put : List ℕ
+    put = finalsReversed bytes nodes links T N half
+
+    abbrev bits : ℕ
+    bits = toBits binary32 (leastTotal bytes nodes T N put)
+
+    abbrev new : List ℕ
+    new = set put nodes bits
+
+    put-size : length put ≡ length part
+    put-size = finals-size bytes nodes links T N half ∙ reversed-size bytes nodes links T N heads ∙ cleared-size nodes part (N + 1)
+
+    passed : Passed bytes T N m s nodes links apart 0 half
+    passed =
+        links-reversed bytes T N m s nodes links apart heads (omega (arith, cleared-size nodes part (N + 1)))
+        (λ q h. cleared-words nodes part (N + 1) q (omega arith) (omega arith) .0)
+
+    ended : Ended bytes T N m s nodes links apart 0 put
+    ended = finals-reversed bytes T N m s nodes links apart half (omega (arith, whole, reversed-size bytes nodes links T N heads, cleared-size nodes part (N + 1))) passed
+
+    -- ---- words that are no head and no link's
+    put-free : (i : ℕ) → Free nodes links N (backCount m) i → getD put i 0 ≡ getD heads i 0
+    put-free i f = finals-free bytes nodes links T N m s (backCount m) whole N (le-refl N) half i f ∙ reversed-free bytes nodes links T N m s (backCount m) whole N (le-refl N) heads i f
+
+    -- any word but word 0 of node 0's slot, and those two words of the nodes
+    kept : (i : ℕ) → Free nodes links N (backCount m) i → ((q : ℕ) → q ≤ N → i ≡ nodes + 8 * q + 3 → ⊥) → (i ≡ nodes → ⊥) → getD new i 0 ≡ getD part i 0
+    kept i f v n =
+        getD-set-other put nodes i bits 0 n
+        ∙ put-free i f
+        ∙ cleared-spared nodes part (N + 1) i (λ q h. f .0 q (omega arith)) (λ q h. v q (omega arith))
+
+    distance-free : (v : ℕ) → v < N → Free nodes links N (backCount m) (nodes + 8 * (v + 1))
+    distance-free v h = (λ q b z. omega arith, inl (omega arith))
+
+    put-measured : (v : ℕ) → v < N → distanceWord put nodes (v + 1) ≡ bitsOf (dist m v)
+    put-measured v h =
+        put-free (nodes + 8 * (v + 1)) (distance-free v h)
+        ∙ cleared-spared nodes part (N + 1) (nodes + 8 * (v + 1)) (λ q b z. omega arith) (λ q b z. omega arith)
+        ∙ measured v h
+
+    least-is : bits ≡ bitsOf (distanceTo m 0)
+    least-is =
+        let r = reads bytes e in
+        ap (toBits binary32) (least-exact m (r .climbs) (r .small) (r .few) bytes T N s nodes put put-measured)
+
+    distances : (q : ℕ) → q ≤ N → distanceWord new nodes q ≡ bitsOf (distanceTo m q)
+    distances zero h = ap (λ (i : ℕ). getD new i 0) (let z : nodes + 8 * 0 ≡ nodes = omega arith in z) ∙ getD-set-same put nodes bits 0 (omega (arith, put-size)) ∙ least-is
+    distances (suc v) h =
+        getD-set-other put nodes (nodes + 8 * suc v) bits 0 (λ z. omega arith)
+        ∙ ap (distanceWord put nodes) (let z : suc v ≡ v + 1 = omega arith in z) ∙ put-measured v h
+
+    -- ---- the last store leaves links and heads
+    stored : (top : ℕ) → Same links T top 0 put new
+    stored top = record {
+      next = λ k a b. getD-set-other put nodes (links + 8 * k) bits 0 (λ z. omega arith);
+      weight = λ k a b. getD-set-other put nodes (links + 8 * k + 1) bits 0 (λ z. omega arith);
+      chain = λ k a b. getD-set-other put nodes (links + 8 * k + 2) bits 0 (λ z. omega arith);
+    }
+
+    head-same : (q : ℕ) → headWord new nodes q ≡ headWord put nodes q
+    head-same q = getD-set-other put nodes (nodes + 8 * q + 2) bits 0 (λ z. omega arith)
+
+    front-lists : Lists links T (T + finalCount bytes T N) new 0 (headWord new nodes 0) (outOf m 0)
+    front-lists =
+        subst (λ (k : ℕ). Lists links T (T + finalCount bytes T N) new 0 k (outOf m 0)) (sym (head-same 0))
+        (lists-kept links T (T + finalCount bytes T N) put new 0 (headWord put nodes 0) (outOf m 0) (stored (T + finalCount bytes T N))
+        (lists-lower links T (T + finalCount bytes T N) put (T + finalCount bytes T 0) 0 (headWord put nodes 0) (outOf m 0) (omega arith) (ended .front)))
+
+    chain-lists : (v : ℕ) → v < N → Lists links T T new 0 (headWord new nodes (suc v)) (outOf m (suc v))
+    chain-lists v h =
+        subst (λ (k : ℕ). Lists links T T new 0 k (outOf m (suc v))) (sym (head-same (suc v)))
+        (lists-kept links T T put new 0 (headWord put nodes (suc v)) (outOf m (suc v)) (stored T) (ended .chains v h))
+
+    out : (q : ℕ) → q ≤ N → (n : ℕ) → backCount m ≤ n → map (backOf new links T) (chainOf new links (headWord new nodes q) n) ≡ outOf m q
+    out zero h n b =
+        lists-read links T (T + finalCount bytes T N) (omega (arith, whole, few-links)) new 0 (headWord new nodes 0) (outOf m 0) n
+        (omega (arith, whole, lists-length links T (T + finalCount bytes T N) new 0 (headWord new nodes 0) (outOf m 0) front-lists)) front-lists
+    out (suc v) h n b =
+        lists-read links T T (omega (arith, whole, few-links)) new 0 (headWord new nodes (suc v)) (outOf m (suc v)) n
+        (omega (arith, lists-length links T T new 0 (headWord new nodes (suc v)) (outOf m (suc v)) (chain-lists v h))) (chain-lists v h)
+
+    begins : (q : ℕ) → q ≤ N → (headWord new nodes q ≡ nothing) ⊎ (headWord new nodes q < backCount m)
+    begins zero h = go (lists-first links T (T + finalCount bytes T N) new 0 (headWord new nodes 0) (outOf m 0) front-lists)
+      where
+        go : (headWord new nodes 0 ≡ nothing) ⊎ ((0 ≤ headWord new nodes 0) × (headWord new nodes 0 < T + finalCount bytes T N)) → (headWord new nodes 0 ≡ nothing) ⊎ (headWord new nodes 0 < backCount m)
+        go (inl z) = inl z
+        go (inr z) = inr (omega (arith, whole, z .1))
+    begins (suc v) h = go (lists-first links T T new 0 (headWord new nodes (suc v)) (outOf m (suc v)) (chain-lists v h))
+      where
+        go : (headWord new nodes (suc v) ≡ nothing) ⊎ ((0 ≤ headWord new nodes (suc v)) × (headWord new nodes (suc v) < T)) → (headWord new nodes (suc v) ≡ nothing) ⊎ (headWord new nodes (suc v) < backCount m)
+        go (inl z) = inl z
+        go (inr z) = inr (omega (arith, z .1))
+
+    filled : (k : ℕ) → k < backCount m → Filled links T (backCount m) N new k
+    filled k h = go (split-at k T)
+      where
+        wider : Filled links T T N put k → Filled links T (backCount m) N put k
+        wider f = record { rises = up (f .rises); inside = f .inside; valued = f .valued }
+          where
+            up : (chainWord put links k ≡ nothing) ⊎ ((k < chainWord put links k) × (chainWord put links k < T)) → (chainWord put links k ≡ nothing) ⊎ ((k < chainWord put links k) × (chainWord put links k < backCount m))
+            up (inl z) = inl z
+            up (inr z) = inr (z .0, omega (arith, z .1))
+
+        go : (k < T) ⊎ (T ≤ k) → Filled links T (backCount m) N new k
+        go (inl b) = filled-kept links T (backCount m) N 0 put new (stored (backCount m)) k (omega arith) h (wider (ended .slots k b))
+        go (inr b) =
+            filled-kept links T (backCount m) N 0 put new (stored (backCount m)) k (omega arith) h
+            (subst (λ (top : ℕ). Filled links T top N put k) whole (ended .lasts k (omega (arith, count-none bytes T)) (omega (arith, whole))))
+
+    laid : Laid m nodes links new
+    laid = record {
+      apart = apart;
+      room = simp length-set (omega (arith, put-size));
+      few = few-links;
+      heads = begins;
+      rises = λ k h. filled k h .rises;
+      inside = λ k h. filled k h .inside;
+      valued = λ k h. filled k h .valued;
+      out = out;
+      distances = distances;
+    }
+
+    fresh : (q : ℕ) → q ≤ N → visitsWord new nodes q ≡ 0
+    fresh q h =
+        getD-set-other put nodes (nodes + 8 * q + 3) bits 0 (λ z. omega arith)
+        ∙ put-free (nodes + 8 * q + 3) (λ j b z. omega arith, inl (omega arith))
+        ∙ cleared-words nodes part (N + 1) q (omega arith) (omega arith) .1
+
+    new-size : length new ≡ length part
+    new-size = length-set put nodes bits ∙ put-size
+
+    reversal-made : Reversal m nodes links part new
+    reversal-made = record {
+      laid = laid;
+      fresh = fresh;
+      size = new-size;
+      before = ext-getD 0 (take nodes new) (take nodes part) (length-take nodes new ∙ ap (min nodes) new-size ∙ sym (length-take nodes part)) (λ i h. early i (omega (arith, length-take nodes new)));
+      beyond = ext-getD 0 (drop end new) (drop end part) (length-drop end new ∙ ap (λ (n : ℕ). n - end) new-size ∙ sym (length-drop end part)) (λ i h. late i);
+    }
+      where
+        end : ℕ
+        end = links + 8 * backCount m
+
+        early : (i : ℕ) → i < nodes → getD (take nodes new) i 0 ≡ getD (take nodes part) i 0
+        early i h = getD-take nodes new i 0 h ∙ kept i (λ q b z. omega arith, inl (omega arith)) (λ q b z. omega arith) (λ z. omega arith) ∙ sym (getD-take nodes part i 0 h)
+
+        late : (i : ℕ) → getD (drop end new) i 0 ≡ getD (drop end part) i 0
+        late i = getD-drop end new i 0 ∙ kept (end + i) (λ q b z. omega arith, inr (omega arith)) (λ q b z. omega arith) (λ z. omega arith) ∙ sym (getD-drop end part i 0)
+
+-- ---- as the code is asked, by the trailer that reading found
+pub reversal : (bytes : List ℕ) → inputNumber bytes ≡ 0 → (t : Trailer) → t ≡ trailerAt bytes → (finals nodes links : ℕ) (part : List ℕ) → finals ≡ finalCount bytes (t .links) (t .nodes)
+    → nodes + 8 * (t .nodes + 1) ≤ links → links + 8 * (t .links + finals) ≤ length part → Measured (machineOf (partsOf bytes)) nodes part
+    → Reversal (machineOf (partsOf bytes)) nodes links part (reversedWords bytes nodes links (t .nodes) (t .links) part)
+unfolding reversedWords chainsPut
+reversal bytes e t same finals nodes links part f apart room measured =
+    let m = machineOf (partsOf bytes) in
+    let N : t .nodes ≡ length (m .finals) = ap (λ (t : Trailer). t .nodes) same ∙ sym (nodes-are bytes e) in
+    let T : t .links ≡ length (m .links) = ap (λ (t : Trailer). t .links) same ∙ sym (links-are bytes e) in
+    let all : t .links + finals ≡ backCount m = (λ i. T i + (f ∙ λ j. finalCount bytes (T j) (N j)) i) ∙ whole bytes e nodes links part in
+    subst (λ (n : ℕ). Reversal m nodes links part (reversedWords bytes nodes links n (t .links) part)) (sym N)
+    (subst (λ (n : ℕ). Reversal m nodes links part (reversedWords bytes nodes links (length (m .finals)) n part)) (sym T)
+    (reversal-made bytes e nodes links part (subst (λ (n : ℕ). nodes + 8 * (n + 1) ≤ links) N apart) (subst (λ (n : ℕ). links + 8 * n ≤ length part) all room) measured))

@@ -1,0 +1,89 @@
+-- The least total over the slots' distances is that of the machine. Assumes nothing.
+use mathlib.Core.Path.{_≡_, refl, sym, ap, _∙_, subst}
+use mathlib.Core.Bool.{Bool, true, false, cond}
+use mathlib.Core.Option.{Option, none, some}
+use mathlib.Core.List.{List, [], _∷_}
+use Prim.Native.Nat.{ℕ, zero, suc, _+_, _*_, _≤_, _<_}
+use native.Mathlib.Omega.{arith}
+use native.Mathlib.Nat.{le-refl}
+use lib.Dec.{eqb, lit≤}
+use lib.ListN.{length}
+use lib.Ieee.{binary32, add, ofBits}
+use borrow.Author.Tests.{eqb-false}
+use Rattle.tropical_weight.specs.Limits.{unit, finest, weightLimit, nodeLimit, sumLimit}
+use Rattle.tropical_weight.specs.Tropical.{Tropical, inf, _⊕_, _⊗_, Within}
+use Rattle.tropical_weight.specs.Grid.{ofT}
+use Rattle.tropical_weight.specs.Single.{lesser}
+use Rattle.tropical_weight.proofs.Semiring.{⊕-comm, zero-⊕, ⊗-zero}
+use Rattle.tropical_weight.proofs.Exact.{times-ofT, lesser-ofT, bits-back}
+use Rattle.tropical_weight.proofs.Sums.{within-mono, terms-⊗, terms-within, limits}
+use Rattle.sheet.specs.Below.{listBelow}
+use Rattle.sheet.specs.Machine.{Machine, weightOf, bitsOf}
+use Rattle.machine.specs.Readings.{final, finalWeight}
+use Rattle.machine.specs.Climbs.{Climbs, Small}
+use Rattle.machine.specs.Distance.{plusAll, dist, totalAt, total}
+use Rattle.machine.proofs.Lists.{mem-below}
+use Rattle.machine.proofs.Sums.{plusAll-append, plusAll-within}
+use Rattle.machine.proofs.Bounds.{dist-within, dist-limit}
+use Rattle.slots.specs.Slots.{distanceWord}
+use Rattle.reversed_machine.specs.ReverseWords.{markAt, finalAt, totalWith, leastTotal}
+use Rattle.reversed_machine.proofs.Granted.{Tells}
+
+covered : unit ≤ finest
+covered = lit≤ tt
+
+module _ (m : Machine) (climbs : Climbs m) (small : Small weightLimit m) (few : length (m .finals) ≤ nodeLimit) where
+  -- ---- bounds
+  total-limit : (v : ℕ) → v < length (m .finals) → Within sumLimit (totalAt m v)
+  total-limit v h = go (final m v) refl
+    where
+      go : (o : Option Tropical) → final m v ≡ o → Within sumLimit (dist m v ⊗ finalWeight o)
+      go none e = subst (Within sumLimit) (sym (⊗-zero (dist m v))) tt
+      go (some w) e =
+          terms-within nodeLimit weightLimit limits (v + 1) (omega arith) (dist m v ⊗ w)
+          (terms-⊗ weightLimit v 1 (dist m v) w (dist-within m climbs weightLimit small v) (within-mono weightLimit (1 * weightLimit) w (omega arith) (small .onFinal v w e)))
+
+  least-limit : (n : ℕ) → n ≤ length (m .finals) → Within sumLimit (plusAll (listBelow n (totalAt m)))
+  least-limit n h = plusAll-within sumLimit (listBelow n (totalAt m)) (λ a b. let x = mem-below (totalAt m) n b in subst (Within sumLimit) (sym (x .2)) (total-limit (x .0) (omega (arith, x .1))))
+
+  -- ---- one node more
+  least-next : (v : ℕ) → plusAll (listBelow (suc v) (totalAt m)) ≡ plusAll (listBelow v (totalAt m)) ⊕ totalAt m v
+  unfolding listBelow plusAll
+  least-next v = plusAll-append (listBelow v (totalAt m)) (totalAt m v ∷ []) ∙ ap (λ x. plusAll (listBelow v (totalAt m)) ⊕ x) (⊕-comm (totalAt m v) inf ∙ zero-⊕ (totalAt m v))
+
+  module _ (bytes : List ℕ) (T N : ℕ) (s : Tells bytes T N m) (nodes : ℕ) (part : List ℕ) (measured : (v : ℕ) → v < N → distanceWord part nodes (v + 1) ≡ bitsOf (dist m v)) where
+    least-at : (n : ℕ) → n ≤ N → leastTotal bytes nodes T n part ≡ ofT unit (plusAll (listBelow n (totalAt m)))
+    unfolding leastTotal listBelow plusAll
+    least-at zero h = refl
+    least-at (suc v) h =
+        let x = plusAll (listBelow v (totalAt m)) in
+        ap (totalWith bytes nodes T v part) (least-at v (omega arith))
+        ∙ by-mark (eqb (markAt bytes T v) 0) refl
+        ∙ ap (ofT unit) (sym (least-next v))
+      where
+        inside : v < length (m .finals)
+        inside = subst (λ (n : ℕ). v < n) (sym (s .nodes-are)) h
+
+        by-mark : (b : Bool) → eqb (markAt bytes T v) 0 ≡ b → totalWith bytes nodes T v part (ofT unit (plusAll (listBelow v (totalAt m)))) ≡ ofT unit (plusAll (listBelow v (totalAt m)) ⊕ totalAt m v)
+        by-mark true e =
+            let x = plusAll (listBelow v (totalAt m)) in
+            let o : final m v ≡ none = s .final-at v h ∙ ap (λ (t : Bool). cond t none (some (weightOf (finalAt bytes T v)))) e in
+            let nought : totalAt m v ≡ inf = ap (λ o. dist m v ⊗ finalWeight o) o ∙ ⊗-zero (dist m v) in
+            ap (λ (t : Bool). cond t (ofT unit x) (lesser (ofT unit x) (add binary32 (ofBits binary32 (distanceWord part nodes (v + 1))) (ofBits binary32 (finalAt bytes T v))))) e
+            ∙ ap (ofT unit) (sym (ap (λ y. x ⊕ y) nought ∙ ⊕-comm x inf ∙ zero-⊕ x))
+        by-mark false e =
+            let x = plusAll (listBelow v (totalAt m)) in
+            let w = weightOf (finalAt bytes T v) in
+            let o : final m v ≡ some w = s .final-at v h ∙ ap (λ (t : Bool). cond t none (some w)) e in
+            let whole : totalAt m v ≡ dist m v ⊗ w = ap (λ o. dist m v ⊗ finalWeight o) o in
+            let d-limit = dist-limit m climbs weightLimit small nodeLimit limits few v inside in
+            let w-limit = within-mono weightLimit sumLimit w (let z : weightLimit ≤ sumLimit = omega arith in z) (small .onFinal v w o) in
+            ap (λ (t : Bool). cond t (ofT unit x) (lesser (ofT unit x) (add binary32 (ofBits binary32 (distanceWord part nodes (v + 1))) (ofBits binary32 (finalAt bytes T v))))) e
+            ∙ (λ i. lesser (ofT unit x) (add binary32 ((ap (ofBits binary32) (measured v h) ∙ bits-back unit covered (dist m v)) i) (s .final-value v h (eqb-false (markAt bytes T v) 0 e) i)))
+            ∙ ap (lesser (ofT unit x)) (times-ofT unit covered (dist m v) w d-limit w-limit)
+            ∙ lesser-ofT unit covered x (dist m v ⊗ w) (least-limit v (omega (arith, inside))) (subst (Within sumLimit) whole (total-limit v inside))
+            ∙ ap (λ y. ofT unit (x ⊕ y)) (sym whole)
+
+    pub least-exact : leastTotal bytes nodes T N part ≡ ofT unit (total m)
+    unfolding total
+    least-exact = least-at N (le-refl N) ∙ ap (λ (n : ℕ). ofT unit (plusAll (listBelow n (totalAt m)))) (sym (s .nodes-are))

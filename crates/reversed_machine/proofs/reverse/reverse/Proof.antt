@@ -1,0 +1,73 @@
+use mathlib.Core.Path.{_∙_}
+use Prim.Native.Nat.{_≤_}
+use native.Mathlib.Omega.{arith}
+use lib.ListN.{length-set}
+use denote.Ref.{now}
+use borrow.Author.Needs.{needs}
+use Rattle.reversed_machine.proofs.Passing.{count-most, passes-made}
+use Rattle.reversed_machine.proofs.Granted.{Grants, granted}
+use Rattle.reversed_machine.proofs.reverse.reverse.Statement.{statement}
+use Rattle.reversed_machine.proofs.reverse.reverse.Tie as tie
+
+-- what the sheet grants, and how many final nodes there are
+grant : (c : tie.Start) → Grants (now (c .args .sheet)) (c .args .t .links) (c .args .t .nodes) × (c .args .finals ≤ c .args .t .nodes)
+grant c =
+    let args = c .args in
+    (granted (now (args .sheet)) (c .pre .0 .0) (args .t) (c .pre .0 .1), omega (arith, c .pre .0 .2, count-most (now (args .sheet)) (args .t .links) (args .t .nodes)))
+
+add-clear-heads : tie.Need-add-clear-heads
+add-clear-heads c = omega (arith, grant (c .before .before .before) .0 .nodes-few)
+
+clear-heads-requires : tie.Need-clear-heads-requires
+clear-heads-requires c κs = search needs
+
+reverse-links-requires : tie.Need-reverse-links-requires
+reverse-links-requires c κs =
+    let g = grant (c .before .before .before .before .before .before .before) .0 in
+    let kept = c .before .before .before .clear-heads .kept .0 in
+    ((g .laid-out, g .counted, g .inside), (omega (arith, kept), omega (arith, kept)))
+
+reverse-finals-requires : tie.Need-reverse-finals-requires
+reverse-finals-requires c κs =
+    let g = grant (c .before .before .before .before .before .before .before .before .before .before .before) in
+    let start = c .before .before .before .before .before .before .before .before .before .before .before in
+    let kept = c .before .before .before .reverse-links .kept .1 .1 .1 .0 ∙ c .before .before .before .before .before .before .before .clear-heads .kept .0 in
+    (g .0 .laid-out, start .pre .0 .2, omega (arith, g .0 .links-few, g .0 .nodes-few, g .1), omega (arith, kept, start .pre .1), omega (arith, kept, start .pre .1))
+
+least-total-requires : tie.Need-least-total-requires
+least-total-requires c κs =
+    let g = grant (c .before .before .before .before .before .before .before .before .before .before .before .before .before .before .before) in
+    let kept = c .before .before .before .reverse-finals .kept .1 .1 .1 .1 .0 ∙ c .before .before .before .before .before .before .before .reverse-links .kept .1 .1 .1 .0 ∙ c .before .before .before .before .before .before .before .before .before .before .before .clear-heads .kept .0 in
+    (g .0 .laid-out, omega (arith, kept, c .before .before .before .before .before .before .before .before .before .before .before .before .before .before .before .pre .1))
+
+to-bits-requires : tie.Need-to-bits-requires
+to-bits-requires c κs = search needs
+
+mul-part : tie.Need-mul-part
+mul-part c = search needs
+
+slice-write-part : tie.Need-slice-write-part
+slice-write-part c = search needs
+
+same-length : tie.Need-same-length
+same-length c = simp length-set (c .before .before .before .before .before .reverse-finals .kept .1 .1 .1 .1 .0 ∙ c .before .before .before .before .before .before .before .before .before .reverse-links .kept .1 .1 .1 .0 ∙ c .before .before .before .before .before .before .before .before .before .before .before .before .before .clear-heads .kept .0)
+
+returns : tie.Need-returns
+returns c =
+    let args = c .before .before .before .before .before .before .before .before .before .before .before .before .before .before .before .before .before .args in
+    passes-made (now (args .sheet)) (args .heads) (args .chains) (args .t .nodes) (args .t .links) (now (args .part)) _ _ _ _ _ (c .before .before .before .before .before .before .before .before .before .before .before .before .before .clear-heads .ensures) (c .before .before .before .before .before .before .before .before .before .reverse-links .ensures) (c .before .before .before .before .before .reverse-finals .ensures) (c .before .least-total .ensures) (c .to-bits .ensures)
+
+pub reverse-spec : {M : Type 1} → statement M
+reverse-spec =
+    tie.close
+    (tie.spec
+    add-clear-heads
+    clear-heads-requires
+    reverse-links-requires
+    reverse-finals-requires
+    least-total-requires
+    to-bits-requires
+    mul-part
+    slice-write-part
+    same-length
+    returns)

@@ -1,0 +1,2 @@
+pub mod ReverseWords
+pub mod Laid

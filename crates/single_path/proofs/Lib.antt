@@ -1,0 +1,9 @@
+pub mod ParentTurns
+pub mod WayTurns
+pub mod ParentLaws
+pub mod SheetFields
+pub mod EndLaws
+pub mod WayLaws
+pub mod WriteTurns
+pub mod WayBytes
+pub mod SingleLaws

@@ -1,0 +1,106 @@
+-- Parents stored, turn by turn of the loops. Assumes nothing.
+use mathlib.Core.Path.{_≡_, refl, sym, ap, _∙_}
+use mathlib.Core.Bool.{Bool, true, false, cond}
+use mathlib.Core.List.{List}
+use Prim.Native.Nat.{ℕ, zero, suc, _+_, _-_, _*_, _<_}
+use native.Mathlib.Numerals.{add-one}
+use native.Mathlib.Omega.{arith}
+use lib.Dec.{eqb}
+use lib.ListN.{length, set, length-set}
+use lib.Ieee.{Float, binary32, ofBits}
+use Rattle.sheet.specs.Below.{sumBelow}
+use Rattle.sheet.specs.declared.tr.Link.{Link}
+use Rattle.sheet.specs.Records.{linkAt, countAt, firstLink}
+use Rattle.shortest_distance.specs.Slots.{infinite, distanceWord}
+use Rattle.slots.specs.Slots.{nothing}
+use Rattle.single_path.specs.SingleWords.{orphaned, attainsBits, parentLink, parentLinks, parentNode, parentNodes}
+
+pub length-orphaned : (n : ℕ) (work : List ℕ) → length (orphaned n work) ≡ length work
+unfolding orphaned
+length-orphaned zero work = refl
+length-orphaned (suc v) work = simp length-set (length-orphaned v work)
+
+-- one slot more
+pub orphaned-next : (v : ℕ) (work : List ℕ) → orphaned (v + 1) work ≡ set (orphaned v work) (8 * v + 2) nothing
+unfolding orphaned
+orphaned-next v work = ap (λ (k : ℕ). orphaned k work) (add-one v)
+
+-- ---- a link, by its test
+module _ (k : Link) (l v : ℕ) (distance : Float) (work : List ℕ) where
+  abbrev test : Bool
+  test = attainsBits (distanceWord work (k .nextstate)) distance (k .weight)
+
+  pub link-left : test ≡ false → work ≡ parentLink k l v distance work
+  link-left e = sym (ap (λ (b : Bool). cond b (set (set work (8 * k .nextstate + 2) l) (8 * k .nextstate + 3) v) work) e)
+
+  pub link-taken : test ≡ true → set (set work (8 * k .nextstate + 2) l) (8 * k .nextstate + 3) v ≡ parentLink k l v distance work
+  link-taken e = sym (ap (λ (b : Bool). cond b (set (set work (8 * k .nextstate + 2) l) (8 * k .nextstate + 3) v) work) e)
+
+  pub length-parentLink : length (parentLink k l v distance work) ≡ length work
+  length-parentLink = go test
+    where
+      go : (b : Bool) → length (cond b (set (set work (8 * k .nextstate + 2) l) (8 * k .nextstate + 3) v) work) ≡ length work
+      go true = simp length-set
+      go false = refl
+
+-- ---- the links of a node
+module _ (bytes : List ℕ) (first v : ℕ) (distance : Float) where
+  links-turn : (i : ℕ) (work : List ℕ) → 0 < i → parentLinks bytes first v distance i work ≡ parentLinks bytes first v distance (i - 1) (parentLink (linkAt bytes (first + (i - 1))) (first + (i - 1)) v distance work)
+  unfolding parentLinks
+  links-turn i work h = ap (λ (k : ℕ). parentLinks bytes first v distance k work) (let e : i ≡ suc (i - 1) = omega arith in e)
+
+  -- the loop's turn, by what the calls answer
+  pub links-again : (i : ℕ) (work whole : List ℕ) (k : Link) (new : List ℕ) → 0 < i → k ≡ linkAt bytes (first + (i - 1)) → new ≡ parentLink k (first + (i - 1)) v distance work
+      → parentLinks bytes first v distance i work ≡ whole → parentLinks bytes first v distance (i - 1) new ≡ whole
+  links-again i work whole k new h e n w =
+      ap (parentLinks bytes first v distance (i - 1)) (n ∙ ap (λ (x : Link). parentLink x (first + (i - 1)) v distance work) e) ∙ sym (links-turn i work h) ∙ w
+
+  pub links-end : (i : ℕ) (work : List ℕ) → i ≡ 0 → parentLinks bytes first v distance i work ≡ work
+  unfolding parentLinks
+  links-end i work e = ap (λ (k : ℕ). parentLinks bytes first v distance k work) e
+
+  pub length-parentLinks : (i : ℕ) (work : List ℕ) → length (parentLinks bytes first v distance i work) ≡ length work
+  unfolding parentLinks
+  length-parentLinks zero work = refl
+  length-parentLinks (suc i) work = length-parentLinks i (parentLink (linkAt bytes (first + i)) (first + i) v distance work) ∙ length-parentLink (linkAt bytes (first + i)) (first + i) v distance work
+
+-- a node, by whether it is reached
+module _ (bytes : List ℕ) (first count v : ℕ) (work : List ℕ) where
+  pub node-left : eqb (distanceWord work v) infinite ≡ true → work ≡ parentNode bytes first count v work
+  node-left e = sym (ap (λ (b : Bool). cond b work (parentLinks bytes first v (ofBits binary32 (distanceWord work v)) count work)) e)
+
+  pub node-taken : eqb (distanceWord work v) infinite ≡ false → parentLinks bytes first v (ofBits binary32 (distanceWord work v)) count work ≡ parentNode bytes first count v work
+  node-taken e = sym (ap (λ (b : Bool). cond b work (parentLinks bytes first v (ofBits binary32 (distanceWord work v)) count work)) e)
+
+  pub length-parentNode : length (parentNode bytes first count v work) ≡ length work
+  length-parentNode = go (eqb (distanceWord work v) infinite)
+    where
+      go : (b : Bool) → length (cond b work (parentLinks bytes first v (ofBits binary32 (distanceWord work v)) count work)) ≡ length work
+      go true = refl
+      go false = length-parentLinks bytes first v (ofBits binary32 (distanceWord work v)) count work
+
+-- ---- the nodes
+module _ (bytes : List ℕ) (links : ℕ) where
+  nodes-turn : (v : ℕ) (work : List ℕ) → 0 < v → parentNodes bytes links v work ≡ parentNodes bytes links (v - 1) (parentNode bytes (firstLink bytes links (v - 1)) (countAt bytes links (v - 1)) (v - 1) work)
+  unfolding parentNodes
+  nodes-turn v work h = ap (λ (k : ℕ). parentNodes bytes links k work) (let e : v ≡ suc (v - 1) = omega arith in e)
+
+  -- the loop's turn, by what the calls answer
+  pub nodes-again : (v : ℕ) (work whole : List ℕ) (first count : ℕ) (new : List ℕ) → 0 < v → first ≡ firstLink bytes links (v - 1) → count ≡ countAt bytes links (v - 1) → new ≡ parentNode bytes first count (v - 1) work
+      → parentNodes bytes links v work ≡ whole → parentNodes bytes links (v - 1) new ≡ whole
+  nodes-again v work whole first count new h f c n w = ap (parentNodes bytes links (v - 1)) (n ∙ λ i. parentNode bytes (f i) (c i) (v - 1) work) ∙ sym (nodes-turn v work h) ∙ w
+
+  pub nodes-end : (v : ℕ) (work : List ℕ) → v ≡ 0 → parentNodes bytes links v work ≡ work
+  unfolding parentNodes
+  nodes-end v work e = ap (λ (k : ℕ). parentNodes bytes links k work) e
+
+  pub length-parentNodes : (n : ℕ) (work : List ℕ) → length (parentNodes bytes links n work) ≡ length work
+  unfolding parentNodes
+  length-parentNodes zero work = refl
+  length-parentNodes (suc v) work =
+      length-parentNodes v (parentNode bytes (firstLink bytes links v) (countAt bytes links v) v work) ∙ length-parentNode bytes (firstLink bytes links v) (countAt bytes links v) v work
+
+  -- the links of the nodes below one are those before its own
+  pub sum-turn : (v : ℕ) → 0 < v → sumBelow v (countAt bytes links) ≡ sumBelow (v - 1) (countAt bytes links) + countAt bytes links (v - 1)
+  unfolding sumBelow
+  sum-turn v h = ap (λ (k : ℕ). sumBelow k (countAt bytes links)) (let e : v ≡ suc (v - 1) = omega arith in e)

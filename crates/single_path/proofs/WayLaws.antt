@@ -1,0 +1,83 @@
+-- The way back in the slots is the parents' way of the machine, and its nodes fall. Assumes nothing.
+use mathlib.Core.Path.{_≡_, refl, sym, ap, _∙_}
+use mathlib.Core.Bool.{Bool, true, false, cond}
+use mathlib.Core.Option.{Option, none, some}
+use mathlib.Core.List.{List, [], _∷_, reverse, reverse-append}
+use Prim.Native.Nat.{ℕ, zero, suc, _+_, _*_, _≤_, _<_}
+use native.Mathlib.Omega.{arith}
+use lib.Dec.{eqb}
+use lib.IntN.{ℤ}
+use lib.ListN.{length}
+use borrow.Author.Tests.{eq-eqb, ne-eqb, eqb-true}
+use Rattle.tropical_weight.specs.Tropical.{Tropical, fin, inf, ltT, eqT}
+use Rattle.sheet.specs.Machine.{Machine}
+use Rattle.sheet.proofs.Apart.{both, not-both}
+use Rattle.machine.specs.Readings.{link, isAt}
+use Rattle.machine.specs.Climbs.{Climbs}
+use Rattle.machine.specs.Distance.{dist, via}
+use Rattle.machine.specs.Parents.{attains, parent, stepBack, follow}
+use Rattle.machine.proofs.Parents.{attains-eq, term}
+use Rattle.machine.proofs.Reached.{finite-reached, reached-above}
+use Rattle.machine.proofs.Runs.{at-some}
+use Rattle.slots.specs.Slots.{nothing}
+use Rattle.single_path.specs.SingleWords.{parentWord, sourceWord, Falls, wayBack}
+use Rattle.single_path.proofs.ParentLaws.{Words, parent-in}
+
+module _ (m : Machine) (c : Climbs m) where
+  -- a parent leads up to its node
+  pub parent-up : (v l : ℕ) → parent m v ≡ some l → (l < length (m .links)) × (link m l .source < v)
+  parent-up v l e =
+      let x = parent-in m v l e in
+      let into = eqb-true (link m l .next) v (both (eqb (link m l .next) v) (attains (dist m v) (via m l)) (x .1) .0) in
+      (x .0, omega (arith, into, c .rises l (x .0)))
+
+  -- the start has none: its sources are not reached
+  start-none : (v l : ℕ) → m .start ≡ some v → parent m v ≡ some l → ⊥
+  start-none v l s e =
+      let x = parent-in m v l e in
+      let y = both (eqb (link m l .next) v) (attains (dist m v) (via m l)) (x .1) in
+      let d = some-units (dist m v) (both (ltT (dist m v) inf) (eqT (via m l) (dist m v)) (y .1) .0) in
+      let u = term (dist m (link m l .source)) (link m l .weight) (d .0) (attains-eq (dist m v) (via m l) (y .1) ∙ d .1) in
+      let up = reached-above m c v (link m l .source) s (finite-reached m c (link m l .source) (u .0) (u .1)) in
+      omega (arith, parent-up v l e .1)
+    where
+      some-units : (a : Tropical) → ltT a inf ≡ true → (k : ℤ) × (a ≡ fin k)
+      some-units (fin k) e = (k, refl)
+      some-units inf e = absurd (not-both e refl)
+
+  module _ (work : List ℕ) (words : (v : ℕ) → v < length (m .finals) → Words m (parent m v) (parentWord work v) (sourceWord work v)) (few : length (m .links) ≤ nothing) where
+    -- ---- following the words is following the parents
+    abbrev step : ℕ → ℕ → Bool → List ℕ
+    step f v b = cond b [] (parentWord work v ∷ wayBack work f (sourceWord work v))
+
+    pub way-is : (f v : ℕ) → v < length (m .finals) → wayBack work f v ≡ reverse (follow m f v)
+    unfolding wayBack follow
+    way-is zero v h = refl
+    way-is (suc f) v h = go (parent m v) refl (words v h) (isAt (m .start) v) refl (λ u k. way-is f u k)
+      where
+        go : (o : Option ℕ) → parent m v ≡ o → Words m o (parentWord work v) (sourceWord work v) → (b : Bool) → isAt (m .start) v ≡ b → ((u : ℕ) → u < length (m .finals) → wayBack work f u ≡ reverse (follow m f u))
+            → step f v (eqb (parentWord work v) nothing) ≡ reverse (cond b [] (stepBack m o (follow m f)))
+        go none e w true s ih = ap (step f v) (eq-eqb (parentWord work v) nothing w)
+        go none e w false s ih = ap (step f v) (eq-eqb (parentWord work v) nothing w)
+        go (some l) e w true s ih = absurd (start-none v l (at-some (m .start) v s) e)
+        go (some l) e w false s ih =
+            let p = parent-up v l e in
+            ap (step f v) (ne-eqb (parentWord work v) nothing (λ q. omega (arith, w .0)))
+            ∙ (λ i. w .0 i ∷ wayBack work f (w .1 i))
+            ∙ ap (λ (r : List ℕ). l ∷ r) (ih (link m l .source) (omega arith))
+            ∙ sym (reverse-append (follow m f (link m l .source)) (l ∷ []))
+
+    -- ---- what the code asks of the words
+    pub falls-from : (bytes : List ℕ) (end : ℕ) → end < length (m .finals) → 8 * length (m .finals) ≤ length work → 16 * length (m .links) ≤ length bytes → Falls bytes work end
+    falls-from bytes end h room long = record {
+      slots = omega arith;
+      sources = λ v b n. some-parent v (omega arith) n .0;
+      among = λ v b n. some-parent v (omega arith) n .1;
+    }
+      where
+        some-parent : (v : ℕ) → v < length (m .finals) → (parentWord work v ≡ nothing → ⊥) → (sourceWord work v < v) × (16 * parentWord work v + 16 ≤ length bytes)
+        some-parent v b n = go (parent m v) refl (words v b)
+          where
+            go : (o : Option ℕ) → parent m v ≡ o → Words m o (parentWord work v) (sourceWord work v) → (sourceWord work v < v) × (16 * parentWord work v + 16 ≤ length bytes)
+            go none e w = absurd (n w)
+            go (some l) e w = let p = parent-up v l e in (omega (arith, w .1), omega (arith, w .0))

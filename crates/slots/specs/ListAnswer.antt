@@ -1,0 +1,45 @@
+-- What a call for a list answers, and the result area afterwards. Definitions only.
+use mathlib.Core.Bool.{Bool, true, false, cond}
+use mathlib.Core.List.{List, _++_}
+use Prim.Native.Nat.{ℕ, zero, suc, _+_, _*_}
+use lib.Dec.{eqb, ltb}
+use lib.ListN.{length, drop}
+use Rattle.sheet.specs.Machine.{Machine}
+use Rattle.search.specs.Search.{marked}
+use Rattle.search.specs.ListMachine.{Result, resultBytes}
+use Rattle.slots.specs.Slots.{nothing}
+use Rattle.slots.specs.declared.Listed.{Listed}
+use Rattle.slots.specs.declared.Listed.the-variants as Listed
+
+-- by whether the area is too short for so many nodes and links, and entries taken
+abbrev pub listedBy : Bool → ℕ → ℕ → ℕ → Listed
+listedBy true nodes links taken = Listed.Refused 21
+listedBy false nodes links taken = Listed.Made nodes links taken
+
+-- a result, to an area of so many bytes
+abbrev pub listedIn : Result → ℕ → Listed
+listedIn r room = listedBy (ltb room (length (resultBytes r))) (length (r .machine .finals)) (length (r .machine .links)) (r .taken)
+
+-- the area afterwards
+abbrev pub listedOver : Result → List ℕ → List ℕ
+listedOver r old = cond (ltb (length old) (length (resultBytes r))) old (resultBytes r ++ drop (length (resultBytes r)) old)
+
+-- ---- for n = 1, by the words
+-- a way back, of 32 bytes a link and 32 more
+abbrev pub wayListed : List ℕ → ℕ → Listed
+wayListed way room = listedBy (ltb room (32 * length way + 32)) (length way + 1) (length way) 0
+
+-- the empty machine, of a trailer
+abbrev pub noneListed : ℕ → Listed
+noneListed room = listedBy (ltb room 20) 0 0 0
+
+-- ---- what a list needs
+-- the node that the old start becomes, or nothing
+abbrev pub endWord : ℕ → ℕ
+endWord start = cond (eqb start nothing) nothing (start + 1)
+
+-- work slots: none for n = 0, N for n = 1, otherwise N + T + 2 × F + 2 + n × (T + 1)
+abbrev pub slotsFor : Machine → ℕ → ℕ
+slotsFor m zero = 0
+slotsFor m (suc zero) = length (m .finals)
+slotsFor m (suc (suc k)) = length (m .finals) + length (m .links) + 2 * marked (m .finals) + 2 + suc (suc k) * (length (m .links) + 1)
