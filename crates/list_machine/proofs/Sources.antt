@@ -1,18 +1,18 @@
 -- The entries of a search were put in by links of the machine, or by links from node 0 to final nodes. Assumes nothing.
 use mathlib.Core.Path.{_≡_, refl, sym, ap, _∙_}
-use mathlib.Core.Option.{Option, none, some}
-use mathlib.Core.List.{List, [], _∷_, map}
+use mathlib.Core.Option.{none, some}
+use mathlib.Core.List.{List, [], _∷_}
 use Prim.Native.Nat.{ℕ, zero, suc, _+_, _^_, _≤_, _<_}
 use native.Mathlib.Omega.{arith}
-use lib.ListN.{length, getD}
+use lib.ListN.{length}
 use Rattle.tropical_weight.specs.Tropical.{Tropical}
 use Rattle.sheet.specs.Machine.{Machine}
 use Rattle.machine.specs.Readings.{final}
 use Rattle.machine.specs.Climbs.{Climbs}
 use Rattle.machine.specs.Demand.{_∈_, NoDup}
-use Rattle.machine.proofs.Lists.{mem-eq, getD-mem, perm-mem, perm-sym, perm-nodup}
+use Rattle.machine.proofs.Lists.{mem-eq, getD-mem, perm-sym, perm-nodup}
 use Rattle.search.specs.Reversed.{Back, Reversed, reversed}
-use Rattle.search.specs.Search.{half, first, Search, search}
+use Rattle.search.specs.Search.{Search, search}
 use Rattle.search.proofs.Trails.{back, stop, Trail, site, cost, Made, back-from}
 use Rattle.search.proofs.Backwards.{out-final, out-link}
 use Rattle.search.proofs.Mirror.{at, lastInput, half-site}

@@ -1,26 +1,24 @@
 -- The words after any number of removals hold the search after as many, and each removal has the room that it asks. Assumes nothing.
-use mathlib.Core.Path.{_≡_, refl, sym, ap, _∙_, subst}
-use mathlib.Core.Logic.{_⊎_, inl, inr}
-use mathlib.Core.Bool.{Bool, true, false, cond, _||_}
-use mathlib.Core.List.{List, [], _∷_, List·Memᴰ·not-nil}
+use mathlib.Core.Path.{_≡_, refl, sym, _∙_, subst}
+use mathlib.Core.Bool.{Bool, true, false, _||_}
+use mathlib.Core.List.{List, []}
 use Prim.Native.Nat.{ℕ, zero, suc, _+_, _*_, _≤_, _<_}
 use native.Mathlib.Omega.{arith}
-use lib.Dec.{eqb, leb, lit≤}
+use lib.Dec.{eqb, leb}
 use lib.Ieee.{binary32, ofBits, round}
-use lib.IntN.{pos}
 use lib.ListN.{length, getD, replicate, getD-replicate}
-use Rattle.tropical_weight.specs.Limits.{unit, sumLimit, weightLimit, nodeLimit}
-use Rattle.tropical_weight.specs.Tropical.{Tropical, one}
+use Rattle.tropical_weight.specs.Limits.{unit, weightLimit, nodeLimit}
+use Rattle.tropical_weight.specs.Tropical.{one}
 use Rattle.tropical_weight.specs.Grid.{ofT, ofK}
 use Rattle.sheet.specs.Below.{listBelow}
 use Rattle.sheet.specs.Machine.{Machine}
 use Rattle.machine.specs.Climbs.{Climbs, Small}
-use Rattle.search.specs.Heap.{pushed, siftUp}
+use Rattle.search.specs.Heap.{pushed}
 use Rattle.search.specs.Reversed.{Reversed, reversed}
-use Rattle.search.specs.Search.{half, Put, first, Search, put, step, stopped, after, begun, mostTaken}
+use Rattle.search.specs.Search.{first, Search, put, step, stopped, after, begun, mostTaken}
 use Rattle.search.proofs.Backwards.{consistent, leads-in}
 use Rattle.search.proofs.Steps.{Holds, each, holds-step}
-use Rattle.search.proofs.Within.{holds-after, put-room, entry-node, entry-within, togo-within}
+use Rattle.search.proofs.Within.{holds-after, put-room, entry-node, entry-within}
 use Rattle.search.proofs.Tallies.{visits-few, listed-few, step-listed, after-step, after-stopped}
 use Rattle.search.proofs.Ran.{stopped-not}
 use Rattle.n_shortest.specs.declared.n_best.Places.{Places}
@@ -28,7 +26,7 @@ use Rattle.n_shortest.specs.declared.n_best.Entry.the-variants.{Half}
 use Rattle.slots.specs.Slots.{nothing, visitsWord}
 use Rattle.n_shortest.specs.SearchWords.{Words, putW, stepW, stoppedW, afterW, noneW, begunW, Sized, Ready}
 use Rattle.n_shortest.proofs.Taking as W
-use Rattle.n_shortest.proofs.Storing.{coded, Laid, Fine, Stores, stores-put}
+use Rattle.n_shortest.proofs.Storing.{Laid, Fine, Stores, stores-put}
 use Rattle.n_shortest.proofs.Stepping.{stores-step, ready}
 
 module _ (m : Machine) (c : Climbs m) (b : Small weightLimit m) (few : length (m .finals) ≤ nodeLimit) (n : ℕ) (p : Places) (most : ℕ)

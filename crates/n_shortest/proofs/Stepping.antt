@@ -1,13 +1,13 @@
 -- The words of a search go on as the search does: expansions, and one removal. Assumes nothing.
-use mathlib.Core.Path.{_≡_, refl, sym, ap, ap₂, _∙_, subst}
+use mathlib.Core.Path.{_≡_, refl, sym, ap, _∙_, subst}
 use mathlib.Core.Bool.{Bool, true, false, cond}
 use mathlib.Core.Option.{none}
 use mathlib.Core.List.{List, [], _∷_, _++_, map, append-nil, List·Memᴰ·tail, Memᴰ·append-left, Memᴰ·append-right}
-use Prim.Native.Nat.{ℕ, zero, suc, _+_, _-_, _*_, _%_, _≤_, _<_}
+use Prim.Native.Nat.{ℕ, zero, suc, _+_, _-_, _*_, _≤_, _<_}
 use native.Mathlib.Decide.{ℕ-discrete}
 use native.Mathlib.Omega.{arith}
-use lib.Dec.{eqb, leb, ltb, lit≤}
-use lib.Ieee.{Float, binary32, add, ofBits, toBits}
+use lib.Dec.{leb}
+use lib.Ieee.{binary32, add, ofBits}
 use lib.ListN.{length, getD, set, length-append, length-map, length-set}
 use lib.Seq.{getD-set-same, getD-set-other, getD-append-add}
 use borrow.Author.Tests.{eqb-true, eqb-false, leb-true, leb-false, le-leb}
@@ -16,19 +16,18 @@ use Rattle.tropical_weight.specs.Tropical.{Tropical, _⊗_, Within}
 use Rattle.tropical_weight.specs.Grid.{ofT}
 use Rattle.tropical_weight.proofs.Exact.{times-ofT, bits-back}
 use Rattle.sheet.specs.Below.{listBelow}
-use Rattle.sheet.proofs.Below.{listBelow-same, getD-listBelow}
+use Rattle.sheet.proofs.Below.{listBelow-same}
 use Rattle.machine.specs.Demand.{_∈_}
 use Rattle.machine.proofs.Lists.{here, map-mem, mem-getD, perm-length}
 use Rattle.search.specs.Reversed.{Back, Reversed}
 use Rattle.search.specs.Heap.{popped}
 use Rattle.search.specs.Search as S
-use Rattle.search.specs.Search.{half, finished, Put, first, Search, rank, before, put, putAll, expansion, takenBy, step}
+use Rattle.search.specs.Search.{half, finished, Put, first, Search, before, put, putAll, expansion, takenBy, step}
 use Rattle.search.proofs.Contents.{popped-keeps}
 use Rattle.n_shortest.specs.declared.n_best.Places.{Places}
 use Rattle.n_shortest.specs.declared.n_best.Entry.{Entry}
 use Rattle.n_shortest.specs.declared.n_best.Entry.the-variants.{Half, Finished}
-use Rattle.slots.specs.Slots.{nothing, nodeWord, costWord, rankWord, heapWord, listedWord, heapOf, listedOf, distanceWord, headWord, visitsWord, nextWord, weightWord, chainWord, nodeField, inputField, Slot}
-use Rattle.n_shortest.specs.HeapWords.{popW}
+use Rattle.slots.specs.Slots.{nodeWord, costWord, heapWord, listedWord, heapOf, listedOf, headWord, visitsWord, nextWord, weightWord, chainWord, nodeField, inputField}
 use Rattle.n_shortest.specs.SearchWords.{Words, entryW, putW, repeated, linkW, linksW, expandW, takenW, without, stepW, Sized, Chain, Expands, Takes, Ready}
 use Rattle.n_shortest.proofs.EntryWords.{entry-finished, entry-half}
 use Rattle.n_shortest.proofs.Linking.{links-end, links-step, expand-end, expand-on}

@@ -1,36 +1,32 @@
 -- The words of a search hold the search as it is defined: an entry put in keeps that. Assumes nothing.
-use mathlib.Core.Path.{_≡_, refl, sym, ap, ap₂, _∙_, subst}
-use mathlib.Core.Logic.{_⊎_, inl, inr}
-use mathlib.Core.Bool.{Bool, true, false, cond}
-use mathlib.Core.Option.{Option, none, some}
-use mathlib.Core.List.{List, [], _∷_, _++_, map}
-use Prim.Native.Nat.{ℕ, zero, suc, _+_, _-_, _*_, _%_, _≤_, _<_}
+use mathlib.Core.Path.{_≡_, refl, sym, ap, _∙_, subst}
+use mathlib.Core.List.{List, [], _∷_, _++_}
+use Prim.Native.Nat.{ℕ, suc, _+_, _-_, _*_, _%_, _≤_, _<_}
 use native.Mathlib.Decide.{ℕ-discrete}
 use native.Mathlib.Omega.{arith}
-use lib.Dec.{eqb, ltb, lit≤}
-use lib.Ieee.{Float, binary32, add, ofBits, toBits}
-use lib.ListN.{length, getD, set, length-append, length-set, List·getD-append}
-use lib.Seq.{getD-append-seam, getD-set-same, getD-set-other}
+use lib.Dec.{eqb, lit≤}
+use lib.Ieee.{binary32, add, ofBits, toBits}
+use lib.ListN.{length, getD, length-append, List·getD-append}
+use lib.Seq.{getD-append-seam}
 use Rattle.tropical_weight.specs.Limits.{unit, sumLimit}
-use Rattle.tropical_weight.specs.Tropical.{Tropical, _⊗_, Within}
+use Rattle.tropical_weight.specs.Tropical.{Tropical, Within}
 use Rattle.tropical_weight.specs.Grid.{ofT}
 use Rattle.tropical_weight.proofs.Exact.{times-ofT, bits-back}
-use Rattle.sheet.specs.Below.{listBelow}
 use Rattle.sheet.specs.Machine.{bitsOf}
-use Rattle.sheet.proofs.Below.{split-at, listBelow-same}
+use Rattle.sheet.proofs.Below.{listBelow-same}
 use Rattle.search.specs.Reversed.{Back, Reversed}
 use Rattle.search.specs.Heap.{pushed}
 use Rattle.search.specs.Search as S
-use Rattle.search.specs.Search.{half, finished, Put, first, Search, rank, before, precedes, put}
+use Rattle.search.specs.Search.{half, finished, Put, first, Search, rank, before, put}
 use Rattle.machine.proofs.Lists.{perm-length}
 use Rattle.search.proofs.Contents.{pushed-keeps}
 use Rattle.n_shortest.specs.declared.n_best.Places.{Places}
 use Rattle.n_shortest.specs.declared.n_best.Entry.{Entry}
 use Rattle.n_shortest.specs.declared.n_best.Entry.the-variants.{Half, Finished}
-use Rattle.slots.specs.Slots.{nothing, nodeWord, costWord, fromWord, inputWord, rankWord, heapWord, listedWord, heapOf, listedOf, distanceWord, headWord, visitsWord, nextWord, weightWord, chainWord, nodeField, inputField, Slot, Entries}
-use Rattle.n_shortest.specs.HeapWords.{lessW, pushW}
+use Rattle.slots.specs.Slots.{nothing, nodeWord, rankWord, listedWord, heapOf, listedOf, distanceWord, headWord, visitsWord, nextWord, weightWord, chainWord, nodeField, inputField, Slot, Entries}
+use Rattle.n_shortest.specs.HeapWords.{pushW}
 use Rattle.n_shortest.specs.SearchWords.{nodeOf, costOf, rankW, stored, Words, putW, repeated, Sized}
-use Rattle.n_shortest.proofs.HeapPlaces.{Named, Ranked, less-precedes, push-is, push-other, push-beyond, heap-same, heap-at}
+use Rattle.n_shortest.proofs.HeapPlaces.{Named, Ranked, less-precedes, push-is, push-other, heap-same}
 use Rattle.n_shortest.proofs.Putting.{length-stored, stored-other, stored-heap, stored-node, stored-cost, stored-from, stored-input, stored-rank, length-put, put-entries, put-heap, put-listed, put-taken, put-beyond, sized-put}
 
 pub covered : unit ≤ 8
