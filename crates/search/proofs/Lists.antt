@@ -45,7 +45,7 @@ pub record Accepted (m : Machine) : Type 0 where
   pub few-nodes : length (m .finals) ≤ nodeLimit
   pub few-links : length (m .links) ≤ linkLimit
 
-marked-few : (fs : List (Option Tropical)) → marked fs ≤ length fs
+pub marked-few : (fs : List (Option Tropical)) → marked fs ≤ length fs
 unfolding marked
 marked-few [] = omega arith
 marked-few (none ∷ fs) = omega (arith, marked-few fs)
@@ -66,7 +66,7 @@ module _ (m : Machine) (a : Accepted m) where
   }
 
   -- where there is a reading one is listed
-  some-listed : (n : ℕ) → 1 ≤ n → (y : Reading) → IsReading m y → 0 < length (search m n .listed)
+  pub some-listed : (n : ℕ) → 1 ≤ n → (y : Reading) → IsReading m y → 0 < length (search m n .listed)
   unfolding runs
   some-listed n p y i =
       omega (

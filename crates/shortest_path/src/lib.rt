@@ -1,1 +1,2 @@
-// Lists of the cheapest readings (shortest_path.rs of rustfst), in lent slots: the laws that join the parts.
+// Lists of the cheapest readings (shortest_path.rs of rustfst), in lent slots.
+mod lists;

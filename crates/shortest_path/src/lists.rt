@@ -1,5 +1,3 @@
-Lists for n from 2, the function that joins measure, reverse, n_shortest_path and write_list (crate shortest_path, module lists). Missing: four answers of its proof (list_many_proof.txt), then the open call over it.
-
 // Lists for n from 2: the search on its part of the work area, and its list written.
 ghost use mathlib.Core.Path.{_≡_};
 ghost use Prim.Native.Nat.{_*_, _≤_};

@@ -1,9 +1,7 @@
-Laws that join the parts of a list for n from 2 (crate shortest_path, proofs/Joining.antt; the whole file checks), for the proof of list_many. Missing: marked-few and some-listed of search's Lists are to be made public for it.
-
 -- The parts of a list for n from 2 joined: what the slots hold gives each next function what it asks, and the result is the defined one. Assumes nothing.
-use mathlib.Core.Path.{_≡_, refl, sym, ap, ap₂, _∙_, subst}
+use mathlib.Core.Path.{_≡_, refl, sym, ap, _∙_, subst}
 use mathlib.Core.Bool.{Bool, true, false, not, cond}
-use mathlib.Core.Option.{Option, none, some}
+use mathlib.Core.Option.{none, some}
 use mathlib.Core.List.{List}
 use Prim.Native.Nat.{ℕ, zero, suc, _+_, _*_, _≤_, _<_}
 use native.Mathlib.Nat.{mul-le-mul-right}
@@ -12,24 +10,24 @@ use native.Mathlib.Omega.{arith}
 use lib.Dec.{eqb, ltb}
 use lib.ListN.{length, getD}
 use borrow.Author.Tests.{eq-eqb, ne-eqb}
-use Rattle.tropical_weight.specs.Limits.{weightLimit, nodeLimit, linkLimit}
+use Rattle.tropical_weight.specs.Limits.{weightLimit}
 use Rattle.tropical_weight.specs.Tropical.{Tropical, fin, inf}
 use Rattle.sheet.specs.declared.tr.Trailer.{Trailer}
 use Rattle.sheet.specs.Sheet.{partsOf, statedLinks}
-use Rattle.sheet.specs.Machine.{Machine, machineOf, startOf, bitsOf}
+use Rattle.sheet.specs.Machine.{Machine, machineOf, bitsOf}
 use Rattle.sheet.specs.Records.{trailerAt}
 use Rattle.sheet.proofs.Round.{Below}
 use Rattle.sheet.proofs.Apart.{not-both}
 use Rattle.sheet.proofs.Below.{getD-listBelow}
 use Rattle.machine.specs.Input.{inputNumber}
-use Rattle.machine.specs.Climbs.{Climbs, Small}
+use Rattle.machine.specs.Climbs.{Small}
 use Rattle.machine.specs.Distance.{total}
 use Rattle.machine.specs.Parents.{best}
-use Rattle.machine.specs.Readings.{Reading, IsReading}
+use Rattle.machine.specs.Readings.{Reading}
 use Rattle.machine.proofs.Accepted.{passes, small-machine}
 use Rattle.machine.proofs.Parents.{best-infinite, best-finite}
 use Rattle.search.specs.Reversed.{reversed}
-use Rattle.search.specs.Search.{Search, marked, mostTaken, search, after, begun}
+use Rattle.search.specs.Search.{marked, mostTaken, search, after}
 use Rattle.search.specs.ListMachine.{Result, empty, resultBy, resultFor, trimmed}
 use Rattle.search.specs.States.{listResult}
 use Rattle.search.proofs.Lists.{Accepted, accepted, marked-few, some-listed}
@@ -41,16 +39,16 @@ use Rattle.slots.specs.Slots.{nothing, listedWord, distanceWord, visitsWord}
 use Rattle.slots.specs.ListAnswer.{endWord, slotsFor, listedIn, listedOver}
 use Rattle.reversed_machine.specs.ReverseWords.{finalsAt, finalCount}
 use Rattle.reversed_machine.specs.Laid as Laying
-use Rattle.reversed_machine.specs.Laid.{backCount, MeasuredIn, Reversal}
+use Rattle.reversed_machine.specs.Laid.{Reversal}
 use Rattle.shortest_distance.proofs.Accepted.{links-are, nodes-are}
 use Rattle.reversed_machine.proofs.Granted.{tells}
-use Rattle.reversed_machine.proofs.Reversals.{reversal}
 use Rattle.n_shortest.specs.declared.n_best.Places.{Places}
 use Rattle.n_shortest.specs.SearchWords.{Words, afterW, begunW, noneW, stoppedW, Sized, Ready, Begins}
 use Rattle.n_shortest.proofs.Storing as Storing
 use Rattle.n_shortest.proofs.Storing.{Stores}
 use Rattle.n_shortest.proofs.Running.{stores-after, readies}
-use Rattle.list_machine.specs.ListingWords.{answerBy, answerFor, Holding, Sourced}
+use Rattle.list_machine.specs.ListingWords.{keptCount, listAnswer, listAfter, Listable, answerBy, answerFor, Holding, Sourced}
+use Rattle.list_machine.proofs.Writings.{listable, list-answers, list-leaves}
 use Rattle.list_machine.proofs.Sources.{sourced}
 use Rattle.shortest_distance.specs.Slots.{infinite}
 use Rattle.shortest_distance.proofs.Offers.{isFinite, not-finite, bits-finite}
@@ -204,3 +202,21 @@ module _ (bytes : List ℕ) (below : Below 256 bytes) (ok : inputNumber bytes �
         go (fin k) q h =
             let x = best-finite m (a .climbs) k q in
             ap (resultBy m n) (x .1) ∙ many n lo (x .0) ∙ trimmed-is m (search m n) (numbered m (a .climbs) n) (some-listed m a n (omega arith) (x .0) (x .2))
+
+    -- ---- the list written
+    pub listed-done : Listable bytes (t .links) (done .part) (done .counts .entries) (done .counts .listed)
+    listed-done =
+        subst (λ k. Listable bytes k (done .part) (done .counts .entries) (done .counts .listed)) (sym (ap (λ (t : Trailer). t .links) same))
+        (subst (λ k. Listable bytes (statedLinks bytes) (done .part) k (done .counts .listed)) (sym (found .entries-count))
+        (subst (λ k. Listable bytes (statedLinks bytes) (done .part) (length (search m n .entries)) k) (sym (found .listed-count)) (listable bytes below ok (search m n) (numbered m (a .climbs) n) (done .part) holding source)))
+
+    module _ (there : getD part (places .nodes) 0 ≡ infinite → ⊥) where
+      pub answers : (room : ℕ) → listAnswer (done .counts .listed) (keptCount (done .counts .entries) (done .counts .listed) (done .part)) (done .counts .taken) room ≡ listedIn (resultFor m n) room
+      answers room =
+          (λ i. listAnswer (found .listed-count i) (keptCount (found .entries-count i) (found .listed-count i) (done .part)) (found .taken-count i) room)
+          ∙ list-answers bytes below ok (search m n) (numbered m (a .climbs) n) (done .part) holding source room ∙ answer-is (listResult m (search m n)) room ∙ ap (λ r. listedIn r room) (sym (some-there there))
+
+      pub leaves : (old : List ℕ) → listAfter bytes (t .links) (done .part) (done .counts .entries) (done .counts .listed) old ≡ listedOver (resultFor m n) old
+      leaves old =
+          (λ i. listAfter bytes (ap (λ (t : Trailer). t .links) same i) (done .part) (found .entries-count i) (found .listed-count i) old)
+          ∙ list-leaves bytes below ok (search m n) (numbered m (a .climbs) n) (done .part) holding source old ∙ ap (λ r. listedOver r old) (sym (some-there there))
