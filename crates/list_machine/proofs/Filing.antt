@@ -10,7 +10,8 @@ use lib.Seq.{sets, sets-eq}
 use borrow.Author.Tests.{lt-ltb, le-ltb}
 use Rattle.sheet.specs.Words.{bytesOfAll}
 use Rattle.slots.specs.declared.Listed.the-variants.{Made, Refused}
-use Rattle.list_machine.specs.ListingWords.{stated, keptCount, listLength, listWords, listedBy, listAnswer, listAfter, Listable}
+use Rattle.slots.specs.ListAnswer.{listedBy}
+use Rattle.list_machine.specs.ListingWords.{stated, keptCount, listLength, listWords, listAnswer, listAfter, Listable}
 use Rattle.list_machine.proofs.Marks.{new-kept}
 use Rattle.list_machine.proofs.Placing.{length-list}
 
@@ -26,14 +27,14 @@ module _ (bytes : List ℕ) (links : ℕ) (part : List ℕ) (entries listed : �
 
   too-short : length old < listLength listed kept → (Refused 21 ≡ listAnswer listed kept taken (length old)) × (old ≡ listAfter bytes links part entries listed old)
   too-short h = (
-    sym (ap (λ (t : Bool). listedBy t listed kept taken) (lt-ltb (length old) (listLength listed kept) h)),
+    sym (ap (λ (t : Bool). listedBy t (2 + kept) (listed + kept) taken) (lt-ltb (length old) (listLength listed kept) h)),
     sym (ap (λ (t : Bool). cond t old (bytesOfAll all ++ drop (listLength listed kept) old)) (lt-ltb (length old) (listLength listed kept) h)),
   )
 
   fits : listLength listed kept ≤ length old → (Made (2 + kept) (listed + kept) taken ≡ listAnswer listed kept taken (length old)) × (sets old 0 (bytesOfAll all) ≡ listAfter bytes links part entries listed old)
   fits h =
       let long = length-list bytes links new entries listed kept (sym (new-kept bytes links part entries listed x)) in (
-        sym (ap (λ (t : Bool). listedBy t listed kept taken) (le-ltb (length old) (listLength listed kept) h)),
+        sym (ap (λ (t : Bool). listedBy t (2 + kept) (listed + kept) taken) (le-ltb (length old) (listLength listed kept) h)),
         sets-eq (bytesOfAll all) old 0 (omega (arith, long))
             ∙ ap (λ (n : ℕ). bytesOfAll all ++ drop n old) (zero-add (length (bytesOfAll all)) ∙ long)
             ∙ sym (ap (λ (t : Bool). cond t old (bytesOfAll all ++ drop (listLength listed kept) old)) (le-ltb (length old) (listLength listed kept) h)),

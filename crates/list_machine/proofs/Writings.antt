@@ -30,9 +30,9 @@ use Rattle.search.specs.States.{kept, stateOf, later, startLink, entryLink, lis
 use Rattle.search.proofs.Numbered.{Numbered}
 use Rattle.search.proofs.OnWays.{OnWay, cameFrom, way-listed, way-from, way-inside}
 use Rattle.shortest_distance.proofs.Starts.{bits-one}
-use Rattle.slots.specs.declared.Listed.the-variants.{Made}
 use Rattle.slots.specs.Slots.{nothing, nodeWord, fromWord, inputWord, listedWord, stateWord, nodeField, inputField}
-use Rattle.list_machine.specs.ListingWords.{stated, keptCount, startWords, blankBits, entryWords, statedWords, linkWords, headWords, nodeWords, trailerWords, repeatWords, inputWords, linksPart, nodesPart, wordsPart, listWords, listLength, listedBy, listAnswer, listAfter, answerBy, answerFor, resultOver, Readable, Linked, Listable, Holding, Sourced}
+use Rattle.list_machine.specs.ListingWords.{stated, keptCount, startWords, blankBits, entryWords, statedWords, linkWords, headWords, nodeWords, trailerWords, repeatWords, inputWords, linksPart, nodesPart, wordsPart, listWords, listLength, listAnswer, listAfter, Readable, Linked, Listable, Holding, Sourced}
+use Rattle.slots.specs.ListAnswer.{listedBy, listedIn, listedOver}
 use Rattle.list_machine.proofs.Marks.{stated-other, from-other, listed-other, new-kept}
 use Rattle.list_machine.proofs.Placing.{length-list, stated-off, stated-on, repeat-off, repeat-on, entry-blank, entry-copied}
 use Rattle.list_machine.proofs.Trimming.{kept-count, state-on, state-off}
@@ -387,12 +387,10 @@ module _ (bytes : List ℕ) (below : Below 256 bytes) (accepted : inputNumber by
   size-is : listLength (length (s .listed)) (keptCount size (length (s .listed)) part) ≡ length (resultBytes (listResult m s))
   size-is = sym (length-list bytes links new size (length (s .listed)) (keptCount size (length (s .listed)) part) (sym (new-kept bytes links part size (length (s .listed)) listable))) ∙ ap length list-bytes
 
-  pub list-answers : (room : ℕ) → listAnswer (length (s .listed)) (keptCount (length (s .entries)) (length (s .listed)) part) (s .taken) room ≡ answerFor (listResult (machineOf (partsOf bytes)) s) room
-  list-answers room = ap (λ (k : ℕ). listedBy (ltb room k) (length (s .listed)) (keptCount size (length (s .listed)) part) (s .taken)) size-is ∙ go (ltb room (length (resultBytes (listResult m s))))
-    where
-      go : (t : Bool) → listedBy t (length (s .listed)) (keptCount size (length (s .listed)) part) (s .taken) ≡ answerBy t (listResult m s)
-      go true = refl
-      go false = λ j. Made ((ap (λ (k : ℕ). 2 + k) (kept-count s n part x) ∙ sym (nodes-long m s)) j) ((ap (λ (k : ℕ). length (s .listed) + k) (kept-count s n part x) ∙ sym (links-long m s)) j) (s .taken)
+  pub list-answers : (room : ℕ) → listAnswer (length (s .listed)) (keptCount (length (s .entries)) (length (s .listed)) part) (s .taken) room ≡ listedIn (listResult (machineOf (partsOf bytes)) s) room
+  list-answers room =
+      let kept = kept-count s n part x in
+      λ j. listedBy (ltb room (size-is j)) ((ap (λ (k : ℕ). 2 + k) kept ∙ sym (nodes-long m s)) j) ((ap (λ (k : ℕ). length (s .listed) + k) kept ∙ sym (links-long m s)) j) (s .taken)
 
-  pub list-leaves : (old : List ℕ) → listAfter bytes (statedLinks bytes) part (length (s .entries)) (length (s .listed)) old ≡ resultOver (listResult (machineOf (partsOf bytes)) s) old
+  pub list-leaves : (old : List ℕ) → listAfter bytes (statedLinks bytes) part (length (s .entries)) (length (s .listed)) old ≡ listedOver (listResult (machineOf (partsOf bytes)) s) old
   list-leaves old = λ j. cond (ltb (length old) (size-is j)) old (list-bytes j ++ drop (size-is j) old)

@@ -1,6 +1,6 @@
 -- The list machine of a search, trimmed, numbered and written: what the code does, word by word. Definitions only.
 use mathlib.Core.Path.{_≡_}
-use mathlib.Core.Bool.{Bool, true, false, cond}
+use mathlib.Core.Bool.{cond}
 use mathlib.Core.Option.{none, some}
 use mathlib.Core.List.{List, [], _∷_, _++_}
 use Prim.Native.Nat.{ℕ, zero, suc, _+_, _-_, _*_, _^_, _≤_, _<_}
@@ -11,9 +11,8 @@ use Rattle.sheet.specs.Words.{word, bytesOfAll}
 use Rattle.sheet.specs.Machine.{Machine}
 use Rattle.machine.specs.Readings.{final}
 use Rattle.search.specs.Search.{half, first, Search}
-use Rattle.search.specs.ListMachine.{Result, resultBytes}
 use Rattle.slots.specs.declared.Listed.{Listed}
-use Rattle.slots.specs.declared.Listed.the-variants as Listed
+use Rattle.slots.specs.ListAnswer.{listedBy}
 use Rattle.slots.specs.Slots.{nothing, nodeWord, fromWord, inputWord, listedWord, stateWord, Entries}
 
 -- ---- marks, in the words of states: 0, or another word
@@ -134,13 +133,9 @@ abbrev pub listLength : ℕ → ℕ → ℕ
 listLength listed kept = 16 * (listed + kept) + 12 * (2 + kept) + 20 + 4 * (listed + kept)
 
 -- ---- what writing answers and leaves
-abbrev pub listedBy : Bool → ℕ → ℕ → ℕ → Listed
-listedBy true listed kept taken = Listed.Refused 21
-listedBy false listed kept taken = Listed.Made (2 + kept) (listed + kept) taken
-
 -- into an area of so many bytes
 abbrev pub listAnswer : ℕ → ℕ → ℕ → ℕ → Listed
-listAnswer listed kept taken room = listedBy (ltb room (listLength listed kept)) listed kept taken
+listAnswer listed kept taken room = listedBy (ltb room (listLength listed kept)) (2 + kept) (listed + kept) taken
 
 -- the area afterwards: the words and then the bytes that were there, or just those where it is too short
 abbrev pub listOver : ℕ → List ℕ → List ℕ → List ℕ
@@ -150,17 +145,6 @@ abbrev pub listAfter : List ℕ → ℕ → List ℕ → ℕ → ℕ → List �
 listAfter bytes links part entries listed old =
     let kept = keptCount entries listed part in
     listOver (listLength listed kept) (listWords bytes links (stated entries listed part) entries listed kept) old
-
--- ---- the same by the result that the bytes hold
-abbrev pub answerBy : Bool → Result → Listed
-answerBy true r = Listed.Refused 21
-answerBy false r = Listed.Made (length (r .machine .finals)) (length (r .machine .links)) (r .taken)
-
-abbrev pub answerFor : Result → ℕ → Listed
-answerFor r room = answerBy (ltb room (length (resultBytes r))) r
-
-abbrev pub resultOver : Result → List ℕ → List ℕ
-resultOver r old = cond (ltb (length old) (length (resultBytes r))) old (resultBytes r ++ drop (length (resultBytes r)) old)
 
 -- ---- a search in the part
 pub record Holding (part : List ℕ) (s : Search) : Type 0 where

@@ -7,7 +7,7 @@ use Prim.Native.Nat.{ℕ, zero, suc, _+_, _*_, _≤_, _<_}
 use native.Mathlib.Nat.{mul-le-mul-right}
 use native.Mathlib.Numerals.{add-one}
 use native.Mathlib.Omega.{arith}
-use lib.Dec.{eqb, ltb}
+use lib.Dec.{eqb}
 use lib.ListN.{length, getD}
 use borrow.Author.Tests.{eq-eqb, ne-eqb}
 use Rattle.tropical_weight.specs.Limits.{weightLimit}
@@ -28,7 +28,7 @@ use Rattle.machine.proofs.Accepted.{passes, small-machine}
 use Rattle.machine.proofs.Parents.{best-infinite, best-finite}
 use Rattle.search.specs.Reversed.{reversed}
 use Rattle.search.specs.Search.{marked, mostTaken, search, after}
-use Rattle.search.specs.ListMachine.{Result, empty, resultBy, resultFor, trimmed}
+use Rattle.search.specs.ListMachine.{empty, resultBy, resultFor, trimmed}
 use Rattle.search.specs.States.{listResult}
 use Rattle.search.proofs.Lists.{Accepted, accepted, marked-few, some-listed}
 use Rattle.search.proofs.Entries.{numbered}
@@ -47,7 +47,7 @@ use Rattle.n_shortest.specs.SearchWords.{Words, afterW, begunW, noneW, stoppedW
 use Rattle.n_shortest.proofs.Storing as Storing
 use Rattle.n_shortest.proofs.Storing.{Stores}
 use Rattle.n_shortest.proofs.Running.{stores-after, readies}
-use Rattle.list_machine.specs.ListingWords.{keptCount, listAnswer, listAfter, Listable, answerBy, answerFor, Holding, Sourced}
+use Rattle.list_machine.specs.ListingWords.{keptCount, listAnswer, listAfter, Listable, Holding, Sourced}
 use Rattle.list_machine.proofs.Writings.{listable, list-answers, list-leaves}
 use Rattle.list_machine.proofs.Sources.{sourced}
 use Rattle.shortest_distance.specs.Slots.{infinite}
@@ -59,13 +59,6 @@ pub slots-many : (m : Machine) (n : ℕ) → 2 ≤ n → slotsFor m n ≡ length
 slots-many m zero h = absurd (omega arith)
 slots-many m (suc zero) h = absurd (omega arith)
 slots-many m (suc (suc k)) h = refl
-
-answer-is : (r : Result) (room : ℕ) → answerFor r room ≡ listedIn r room
-answer-is r room = go (ltb room (length (Rattle.search.specs.ListMachine.resultBytes r)))
-  where
-    go : (b : Bool) → answerBy b r ≡ Rattle.slots.specs.ListAnswer.listedBy b (length (r .machine .finals)) (length (r .machine .links)) (r .taken)
-    go true = refl
-    go false = refl
 
 module _ (bytes : List ℕ) (below : Below 256 bytes) (ok : inputNumber bytes ≡ 0) (t : Trailer) (same : t ≡ trailerAt bytes) (finals : ℕ) (counted : finals ≡ finalCount bytes (t .links) (t .nodes)) (n : ℕ) (lo : 2 ≤ n) (hi : n ≤ 64) where
   abbrev pub m : Machine
@@ -214,7 +207,7 @@ module _ (bytes : List ℕ) (below : Below 256 bytes) (ok : inputNumber bytes �
       pub answers : (room : ℕ) → listAnswer (done .counts .listed) (keptCount (done .counts .entries) (done .counts .listed) (done .part)) (done .counts .taken) room ≡ listedIn (resultFor m n) room
       answers room =
           (λ i. listAnswer (found .listed-count i) (keptCount (found .entries-count i) (found .listed-count i) (done .part)) (found .taken-count i) room)
-          ∙ list-answers bytes below ok (search m n) (numbered m (a .climbs) n) (done .part) holding source room ∙ answer-is (listResult m (search m n)) room ∙ ap (λ r. listedIn r room) (sym (some-there there))
+          ∙ list-answers bytes below ok (search m n) (numbered m (a .climbs) n) (done .part) holding source room ∙ ap (λ r. listedIn r room) (sym (some-there there))
 
       pub leaves : (old : List ℕ) → listAfter bytes (t .links) (done .part) (done .counts .entries) (done .counts .listed) old ≡ listedOver (resultFor m n) old
       leaves old =
