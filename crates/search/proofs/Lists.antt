@@ -6,7 +6,7 @@ use Prim.Native.Nat.{ℕ, zero, suc, _+_, _*_, _^_, _≤_, _<_}
 use native.Mathlib.Nat.{mul-le-mul-right}
 use native.Mathlib.Omega.{arith}
 use lib.ListN.{length, length-map}
-use Rattle.tropical_weight.specs.Limits.{nodeLimit, linkLimit}
+use Rattle.tropical_weight.specs.Limits.{nodeLimit, linkLimit, listLimit}
 use Rattle.tropical_weight.specs.Tropical.{Tropical}
 use Rattle.sheet.specs.Sheet.{Parts, partsOf, statedLinks}
 use Rattle.sheet.specs.Machine.{Link, Machine, machineOf}
@@ -53,12 +53,12 @@ marked-few (some w ∷ fs) = omega (arith, marked-few fs)
 
 module _ (m : Machine) (a : Accepted m) where
   -- ---- from n = 2
-  few-entries : (n : ℕ) → n ≤ 64 → mostTaken m n ≤ 1 + 4096 + 64 * 16385
+  few-entries : (n : ℕ) → n ≤ listLimit → mostTaken m n ≤ 1 + 4096 + 64 * 16385
   few-entries n b =
       let x : n * (length (m .links) + 1) ≤ 64 * (length (m .links) + 1) = mul-le-mul-right (length (m .links) + 1) b in
       omega (arith, x, marked-few (m .finals), a .few-nodes, a .few-links)
 
-  fits : (n : ℕ) → n ≤ 64 → Fits m (search m n)
+  fits : (n : ℕ) → n ≤ listLimit → Fits m (search m n)
   fits n b = record {
     labels = a .labels;
     few = omega (arith, put-in m (a .climbs) n, holds m (a .climbs) n .mirrors .size, few-listed m (a .climbs) n, few-entries n b);
@@ -77,7 +77,7 @@ module _ (m : Machine) (a : Accepted m) where
         length-map (search m n .listed) (λ i. runOf (search m n .entries) (length (search m n .entries)) i),
       )
 
-  pub list-many : (n : ℕ) → 2 ≤ n → n ≤ 64 → (y : Reading) → IsReading m y → (rest : List ℕ) → listIn n (trimmed m (search m n)) rest ≡ runs (search m n)
+  pub list-many : (n : ℕ) → 2 ≤ n → n ≤ listLimit → (y : Reading) → IsReading m y → (rest : List ℕ) → listIn n (trimmed m (search m n)) rest ≡ runs (search m n)
   list-many n p b y i rest =
       ap (λ r. listIn n r rest) (trimmed-is m (search m n) (numbered m (a .climbs) n) (some-listed n (omega arith) y i))
       ∙ list-back m (search m n) (numbered m (a .climbs) n) (fits n b) n (λ z. omega (arith, z)) rest
@@ -94,14 +94,14 @@ module _ (m : Machine) (a : Accepted m) where
   list-one x i rest = best-back m x (one-fits x i) (i .weight) (i .marked) rest
 
   -- ---- for every n: where there is a reading, the parents' or the search's; else none
-  pub demand-result : (n : ℕ) → 1 ≤ n → n ≤ 64 → (rest : List ℕ) → Demand m n (map (readingOf m) (listIn n (resultFor m n) rest))
+  pub demand-result : (n : ℕ) → 1 ≤ n → n ≤ listLimit → (rest : List ℕ) → Demand m n (map (readingOf m) (listIn n (resultFor m n) rest))
   unfolding resultFor
   demand-result n p b rest = go n p b (best m) refl
     where
       no-reading : best m ≡ none → (y : Reading) → IsReading m y → ⊥
       no-reading e y i = let x = best-some m (a .climbs) (a .finite) y i in let q = x .1 in let z : _≡_ {A = ℕ} 0 1 = cc in omega arith
 
-      go : (n : ℕ) → 1 ≤ n → n ≤ 64 → (o : Option Reading) → best m ≡ o → Demand m n (map (readingOf m) (listIn n (resultBy m n o) rest))
+      go : (n : ℕ) → 1 ≤ n → n ≤ listLimit → (o : Option Reading) → best m ≡ o → Demand m n (map (readingOf m) (listIn n (resultBy m n o) rest))
       go n p b none e = subst (λ l. Demand m n (map (readingOf m) l)) (sym (empty-back n rest)) (demand-none m (a .climbs) n (no-reading e))
       go zero p b (some x) e = absurd (omega arith)
       go (suc zero) p b (some x) e =
@@ -117,7 +117,7 @@ module _ (m : Machine) (a : Accepted m) where
   result-one x e rest = ap (λ o. listIn 1 (resultBy m 1 o) rest) e ∙ list-one x (best-is m (a .climbs) x e .0) rest
 
   -- from n = 2, where there is a reading: the list is the search's, in its order, and taken is the number that it removes
-  pub result-many : (n : ℕ) → 2 ≤ n → n ≤ 64 → (y : Reading) → IsReading m y → (rest : List ℕ) → (listIn n (resultFor m n) rest ≡ runs (search m n)) × (resultFor m n .taken ≡ search m n .taken)
+  pub result-many : (n : ℕ) → 2 ≤ n → n ≤ listLimit → (y : Reading) → IsReading m y → (rest : List ℕ) → (listIn n (resultFor m n) rest ≡ runs (search m n)) × (resultFor m n .taken ≡ search m n .taken)
   unfolding resultFor
   result-many zero p b y i rest = absurd (omega arith)
   result-many (suc zero) p b y i rest = absurd (omega arith)

@@ -52,7 +52,7 @@ module _ (bytes : List ℕ) (words : ℕ) (room : ℕ) where
   number-state e = ap (λ (k : ℕ). cond (not (eqb k 0)) k (cond (ltb (words / 8) (slotsNeeded bytes)) 20 (cond (ltb room (length (answerOf bytes))) 21 0))) e
 
 -- what is told apart by 0 and 21
-neither : (k : ℕ) (x y : List ℕ) → (k ≡ 0 → ⊥) → (k ≡ 21 → ⊥) → cond (eqb k 0 || eqb k 21) x y ≡ y
+pub neither : (k : ℕ) (x y : List ℕ) → (k ≡ 0 → ⊥) → (k ≡ 21 → ⊥) → cond (eqb k 0 || eqb k 21) x y ≡ y
 neither k x y a b = λ i. cond (ne-eqb k 0 a i || ne-eqb k 21 b i) x y
 
 -- what a number that refuses before the search leaves

@@ -13,7 +13,7 @@ use sheet::read::Tested;
 use sheet::tr::Trailer;
 
 mod relax;
-mod slots;
+pub mod slots;
 
 // What the call for distances answers: how many values it wrote, or the number of the refusal.
 pub enum Distances {

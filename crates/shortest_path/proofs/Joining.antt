@@ -1,7 +1,7 @@
 -- The parts of a list for n from 2 joined: what the slots hold gives each next function what it asks, and the result is the defined one. Assumes nothing.
 use mathlib.Core.Path.{_≡_, refl, sym, ap, _∙_, subst}
 use mathlib.Core.Bool.{Bool, true, false, not, cond}
-use mathlib.Core.Option.{none, some}
+use mathlib.Core.Option.{Option, none, some}
 use mathlib.Core.List.{List}
 use Prim.Native.Nat.{ℕ, zero, suc, _+_, _*_, _≤_, _<_}
 use native.Mathlib.Nat.{mul-le-mul-right}
@@ -10,7 +10,7 @@ use native.Mathlib.Omega.{arith}
 use lib.Dec.{eqb}
 use lib.ListN.{length, getD}
 use borrow.Author.Tests.{eq-eqb, ne-eqb}
-use Rattle.tropical_weight.specs.Limits.{weightLimit}
+use Rattle.tropical_weight.specs.Limits.{weightLimit, listLimit}
 use Rattle.tropical_weight.specs.Tropical.{Tropical, fin, inf}
 use Rattle.sheet.specs.declared.tr.Trailer.{Trailer}
 use Rattle.sheet.specs.Sheet.{partsOf, statedLinks}
@@ -36,7 +36,7 @@ use Rattle.search.proofs.Complete.{few-listed}
 use Rattle.search.proofs.Within.{holds-after, put-room, total-within}
 use Rattle.search.proofs.Trims.{trimmed-is}
 use Rattle.slots.specs.Slots.{nothing, listedWord, distanceWord, visitsWord}
-use Rattle.slots.specs.ListAnswer.{endWord, slotsFor, listedIn, listedOver}
+use Rattle.slots.specs.ListAnswer.{endWord, slotsOf, slotsFor, listedIn, listedOver}
 use Rattle.reversed_machine.specs.ReverseWords.{finalsAt, finalCount}
 use Rattle.reversed_machine.specs.Laid as Laying
 use Rattle.reversed_machine.specs.Laid.{Reversal}
@@ -55,12 +55,21 @@ use Rattle.shortest_distance.proofs.Offers.{isFinite, not-finite, bits-finite}
 use Rattle.shortest_path.proofs.Lying.{endField, lies, fan-few}
 
 -- ---- numbers
-pub slots-many : (m : Machine) (n : ℕ) → 2 ≤ n → slotsFor m n ≡ length (m .finals) + length (m .links) + 2 * marked (m .finals) + 2 + n * (length (m .links) + 1)
-slots-many m zero h = absurd (omega arith)
-slots-many m (suc zero) h = absurd (omega arith)
-slots-many m (suc (suc k)) h = refl
+pub slots-many : (nodes links finals n : ℕ) → 2 ≤ n → slotsOf nodes links finals n ≡ nodes + links + 2 * finals + 2 + n * (links + 1)
+slots-many nodes links finals zero h = absurd (omega arith)
+slots-many nodes links finals (suc zero) h = absurd (omega arith)
+slots-many nodes links finals (suc (suc k)) h = refl
 
-module _ (bytes : List ℕ) (below : Below 256 bytes) (ok : inputNumber bytes ≡ 0) (t : Trailer) (same : t ≡ trailerAt bytes) (finals : ℕ) (counted : finals ≡ finalCount bytes (t .links) (t .nodes)) (n : ℕ) (lo : 2 ≤ n) (hi : n ≤ 64) where
+-- n = 0 gives the empty machine
+pub zero-empty : (m : Machine) → resultFor m 0 ≡ empty
+unfolding resultFor
+zero-empty m = go (best m)
+  where
+    go : (o : Option Reading) → resultBy m 0 o ≡ empty
+    go none = refl
+    go (some x) = refl
+
+module _ (bytes : List ℕ) (below : Below 256 bytes) (ok : inputNumber bytes ≡ 0) (t : Trailer) (same : t ≡ trailerAt bytes) (finals : ℕ) (counted : finals ≡ finalCount bytes (t .links) (t .nodes)) where
   abbrev pub m : Machine
   m = machineOf (partsOf bytes)
 
@@ -73,7 +82,7 @@ module _ (bytes : List ℕ) (below : Below 256 bytes) (ok : inputNumber bytes �
   links-is : t .links ≡ length (m .links)
   links-is = ap (λ (t : Trailer). t .links) same ∙ sym (links-are bytes ok)
 
-  nodes-is : t .nodes ≡ length (m .finals)
+  pub nodes-is : t .nodes ≡ length (m .finals)
   nodes-is = ap (λ (t : Trailer). t .nodes) same ∙ sym (nodes-are bytes ok)
 
   pub finals-is : finals ≡ marked (m .finals)
@@ -88,128 +97,132 @@ module _ (bytes : List ℕ) (below : Below 256 bytes) (ok : inputNumber bytes �
   pub few-finals : finals ≤ 4096
   few-finals = omega (arith, finals-is, marked-few (m .finals), a .few-nodes)
 
-  pub product : n * (t .links + 1) ≤ 64 * (t .links + 1)
-  product = mul-le-mul-right (t .links + 1) hi
+  pub slots-same : (n : ℕ) → slotsOf (t .nodes) (t .links) finals n ≡ slotsFor m n
+  slots-same n = λ i. slotsOf (nodes-is i) (links-is i) (finals-is i) n
 
-  -- the entries that are allowed
-  abbrev pub allowed : ℕ
-  allowed = 1 + finals + n * (t .links + 1)
+  module _ (n : ℕ) (lo : 2 ≤ n) (hi : n ≤ listLimit) where
+    pub product : n * (t .links + 1) ≤ listLimit * (t .links + 1)
+    product = mul-le-mul-right (t .links + 1) hi
 
-  allowed-is : 1 + finals + n * (t .links + 1) ≡ mostTaken m n
-  allowed-is = λ i. 1 + finals-is i + n * (links-is i + 1)
+    -- the entries that are allowed
+    abbrev pub allowed : ℕ
+    allowed = 1 + finals + n * (t .links + 1)
 
-  pub slots-are : slotsFor m n ≡ 1 + finals + n * (t .links + 1) + (t .nodes + 1) + (t .links + finals)
-  slots-are = slots-many m n lo ∙ omega (arith, allowed-is, links-is, nodes-is, finals-is)
+    allowed-is : 1 + finals + n * (t .links + 1) ≡ mostTaken m n
+    allowed-is = λ i. 1 + finals-is i + n * (links-is i + 1)
 
-  abbrev pub places : Places
-  places = record { nodes = 8 * (1 + finals + n * (t .links + 1)); links = 8 * (1 + finals + n * (t .links + 1)) + 8 * (t .nodes + 1); inputs = t .links; end = endWord (t .start) }
+    pub slots-are : slotsFor m n ≡ 1 + finals + n * (t .links + 1) + (t .nodes + 1) + (t .links + finals)
+    slots-are = slots-many (length (m .finals)) (length (m .links)) (marked (m .finals)) n lo ∙ omega (arith, allowed-is, links-is, nodes-is, finals-is)
 
-  -- ---- once the machine is reversed
-  module _ (old part : List ℕ) (long : 8 * slotsFor m n ≤ length old) (rev : Reversal m (places .nodes) (places .links) old part) where
-    end-is : endWord (t .start) ≡ endField (m .start)
-    unfolding machineOf partsOf
-    end-is = ap (λ (t : Trailer). endWord (t .start)) same ∙ go (eqb (trailerAt bytes .start) nothing)
-      where
-        go : (c : Bool) → cond c nothing (trailerAt bytes .start + 1) ≡ endField (cond c none (some (trailerAt bytes .start)))
-        go true = refl
-        go false = add-one (trailerAt bytes .start)
+    abbrev pub places : Places
+    places = record { nodes = 8 * (1 + finals + n * (t .links + 1)); links = 8 * (1 + finals + n * (t .links + 1)) + 8 * (t .nodes + 1); inputs = t .links; end = endWord (t .start) }
 
-    laid : Storing.Laid places (suc (length (m .finals))) (reversed m) part
-    laid = lies m (a .climbs) b (a .few-nodes) places part links-is end-is (rev .laid)
+    -- ---- once the machine is reversed
+    module _ (old part : List ℕ) (long : 8 * slotsFor m n ≤ length old) (rev : Reversal m (places .nodes) (places .links) old part) where
+      end-is : endWord (t .start) ≡ endField (m .start)
+      unfolding machineOf partsOf
+      end-is = ap (λ (t : Trailer). endWord (t .start)) same ∙ go (eqb (trailerAt bytes .start) nothing)
+        where
+          go : (c : Bool) → cond c nothing (trailerAt bytes .start + 1) ≡ endField (cond c none (some (trailerAt bytes .start)))
+          go true = refl
+          go false = add-one (trailerAt bytes .start)
 
-    sized : Sized places (noneW part)
-    sized = record {
-      heap-few = omega arith;
-      room = omega arith;
-      after = omega arith;
-      inside = omega (arith, rev .laid .room);
-      small = omega (arith, product, few-links, few-finals);
-      each = λ i h. absurd (omega arith);
-    }
+      laid : Storing.Laid places (suc (length (m .finals))) (reversed m) part
+      laid = lies m (a .climbs) b (a .few-nodes) places part links-is end-is (rev .laid)
 
-    pub begins : Begins places part
-    begins = record { sized = sized; free = omega arith; node = omega (arith, rev .laid .room) }
+      sized : Sized places (noneW part)
+      sized = record {
+        heap-few = omega arith;
+        room = omega arith;
+        after = omega arith;
+        inside = omega (arith, rev .laid .room);
+        small = omega (arith, product, few-links, few-finals);
+        each = λ i h. absurd (omega arith);
+      }
 
-    fresh : (q : ℕ) → q < suc (length (m .finals)) → visitsWord part (places .nodes) q ≡ 0
-    fresh q h = rev .fresh q (omega arith)
+      pub begins : Begins places part
+      begins = record { sized = sized; free = omega arith; node = omega (arith, rev .laid .room) }
 
-    fans : (v : ℕ) → v < suc (length (m .finals)) → length (reversed m .out v) ≤ t .links + finals
-    fans v h = omega (arith, fan-few m (a .climbs) b (a .few-nodes) places part links-is end-is (rev .laid) v h, links-is, finals-is)
+      fresh : (q : ℕ) → q < suc (length (m .finals)) → visitsWord part (places .nodes) q ≡ 0
+      fresh q h = rev .fresh q (omega arith)
 
-    room-is : 8 * mostTaken m n ≤ places .nodes
-    room-is = omega (arith, allowed-is)
+      fans : (v : ℕ) → v < suc (length (m .finals)) → length (reversed m .out v) ≤ t .links + finals
+      fans v h = omega (arith, fan-few m (a .climbs) b (a .few-nodes) places part links-is end-is (rev .laid) v h, links-is, finals-is)
 
-    small-is : mostTaken m n < 4294967295
-    small-is = omega (arith, allowed-is, product, few-links, few-finals)
+      room-is : 8 * mostTaken m n ≤ places .nodes
+      room-is = omega (arith, allowed-is)
 
-    pub going : (k : ℕ) → stoppedW n (afterW places n (t .links + finals) k (begunW places part)) ≡ false → Ready places n (afterW places n (t .links + finals) k (begunW places part))
-    going = readies m (a .climbs) b (a .few-nodes) n places (t .links + finals) fans room-is small-is part laid sized fresh
+      small-is : mostTaken m n < 4294967295
+      small-is = omega (arith, allowed-is, product, few-links, few-finals)
 
-    abbrev pub done : Words
-    done = afterW places n (t .links + finals) (1 + finals + n * (t .links + 1)) (begunW places part)
+      pub going : (k : ℕ) → stoppedW n (afterW places n (t .links + finals) k (begunW places part)) ≡ false → Ready places n (afterW places n (t .links + finals) k (begunW places part))
+      going = readies m (a .climbs) b (a .few-nodes) n places (t .links + finals) fans room-is small-is part laid sized fresh
 
-    pub found : Stores places (suc (length (m .finals))) (reversed m) (search m n) done
-    unfolding search
-    found =
-        subst (λ k. Stores places (suc (length (m .finals))) (reversed m) (search m n) (afterW places n (t .links + finals) k (begunW places part))) (sym allowed-is)
-        (stores-after m (a .climbs) b (a .few-nodes) n places (t .links + finals) fans room-is small-is part laid sized fresh (mostTaken m n))
+      abbrev pub done : Words
+      done = afterW places n (t .links + finals) (1 + finals + n * (t .links + 1)) (begunW places part)
 
-    pub holding : Holding (done .part) (search m n)
-    holding = record {
-      slots = omega (arith, found .entries-count, found .sized .room, found .sized .after, found .sized .inside);
-      listed-slots = omega (arith, found .listed-few, found .entries-count, found .sized .room, found .sized .after, found .sized .inside);
-      held = found .entries;
-      held-listed = λ k h. sym (getD-listBelow (length (search m n .listed)) (listedWord (done .part)) k 0 h) ∙ ap (λ l. getD l k 0) (found .listed);
-    }
+      pub found : Stores places (suc (length (m .finals))) (reversed m) (search m n) done
+      unfolding search
+      found =
+          subst (λ k. Stores places (suc (length (m .finals))) (reversed m) (search m n) (afterW places n (t .links + finals) k (begunW places part))) (sym allowed-is)
+          (stores-after m (a .climbs) b (a .few-nodes) n places (t .links + finals) fans room-is small-is part laid sized fresh (mostTaken m n))
 
-    pub source : Sourced m (search m n)
-    unfolding search
-    source = sourced m (a .climbs) n (omega (arith, few-listed m (a .climbs) n, put-room m (a .climbs) n (search m n) (holds-after m (a .climbs) n (mostTaken m n)), allowed-is, product, few-links, few-finals))
+      pub holding : Holding (done .part) (search m n)
+      holding = record {
+        slots = omega (arith, found .entries-count, found .sized .room, found .sized .after, found .sized .inside);
+        listed-slots = omega (arith, found .listed-few, found .entries-count, found .sized .room, found .sized .after, found .sized .inside);
+        held = found .entries;
+        held-listed = λ k h. sym (getD-listBelow (length (search m n .listed)) (listedWord (done .part)) k 0 h) ∙ ap (λ l. getD l k 0) (found .listed);
+      }
 
-    -- ---- whether there is a reading
-    total-at : distanceWord part (places .nodes) 0 ≡ bitsOf (total m)
-    total-at = rev .laid .distances 0 (omega arith)
+      pub source : Sourced m (search m n)
+      unfolding search
+      source = sourced m (a .climbs) n (omega (arith, few-listed m (a .climbs) n, put-room m (a .climbs) n (search m n) (holds-after m (a .climbs) n (mostTaken m n)), allowed-is, product, few-links, few-finals))
 
-    word-is : eqb (getD part (places .nodes) 0) infinite ≡ not (isFinite (total m))
-    word-is = ap (λ k. eqb k infinite) (ap (λ j. getD part j 0) (let z : places .nodes ≡ places .nodes + 8 * 0 = omega arith in z) ∙ total-at) ∙ bits-finite (total m) (total-within m (a .climbs) b (a .few-nodes))
+      -- ---- whether there is a reading
+      total-at : distanceWord part (places .nodes) 0 ≡ bitsOf (total m)
+      total-at = rev .laid .distances 0 (omega arith)
 
-    pub none-there : getD part (places .nodes) 0 ≡ infinite → resultFor m n ≡ empty
-    unfolding resultFor
-    none-there e = ap (resultBy m n) (best-infinite m (a .climbs) (not-finite (total m) (turned (isFinite (total m)) (sym (eq-eqb (getD part (places .nodes) 0) infinite e) ∙ word-is))))
-      where
-        turned : (c : Bool) → true ≡ not c → c ≡ false
-        turned true q = q
-        turned false q = refl
+      word-is : eqb (getD part (places .nodes) 0) infinite ≡ not (isFinite (total m))
+      word-is = ap (λ k. eqb k infinite) (ap (λ j. getD part j 0) (let z : places .nodes ≡ places .nodes + 8 * 0 = omega arith in z) ∙ total-at) ∙ bits-finite (total m) (total-within m (a .climbs) b (a .few-nodes))
 
-    pub some-there : (getD part (places .nodes) 0 ≡ infinite → ⊥) → resultFor m n ≡ listResult m (search m n)
-    unfolding resultFor
-    some-there e = go (total m) refl (sym (ne-eqb (getD part (places .nodes) 0) infinite e) ∙ word-is)
-      where
-        many : (k : ℕ) → 2 ≤ k → (x : Reading) → resultBy m k (some x) ≡ trimmed m (search m k)
-        many zero h x = absurd (omega arith)
-        many (suc zero) h x = absurd (omega arith)
-        many (suc (suc k)) h x = refl
+      pub none-there : getD part (places .nodes) 0 ≡ infinite → resultFor m n ≡ empty
+      unfolding resultFor
+      none-there e = ap (resultBy m n) (best-infinite m (a .climbs) (not-finite (total m) (turned (isFinite (total m)) (sym (eq-eqb (getD part (places .nodes) 0) infinite e) ∙ word-is))))
+        where
+          turned : (c : Bool) → true ≡ not c → c ≡ false
+          turned true q = q
+          turned false q = refl
 
-        go : (d : Tropical) → total m ≡ d → false ≡ not (isFinite d) → resultBy m n (best m) ≡ listResult m (search m n)
-        go inf q h = absurd (not-both h refl)
-        go (fin k) q h =
-            let x = best-finite m (a .climbs) k q in
-            ap (resultBy m n) (x .1) ∙ many n lo (x .0) ∙ trimmed-is m (search m n) (numbered m (a .climbs) n) (some-listed m a n (omega arith) (x .0) (x .2))
+      pub some-there : (getD part (places .nodes) 0 ≡ infinite → ⊥) → resultFor m n ≡ listResult m (search m n)
+      unfolding resultFor
+      some-there e = go (total m) refl (sym (ne-eqb (getD part (places .nodes) 0) infinite e) ∙ word-is)
+        where
+          many : (k : ℕ) → 2 ≤ k → (x : Reading) → resultBy m k (some x) ≡ trimmed m (search m k)
+          many zero h x = absurd (omega arith)
+          many (suc zero) h x = absurd (omega arith)
+          many (suc (suc k)) h x = refl
 
-    -- ---- the list written
-    pub listed-done : Listable bytes (t .links) (done .part) (done .counts .entries) (done .counts .listed)
-    listed-done =
-        subst (λ k. Listable bytes k (done .part) (done .counts .entries) (done .counts .listed)) (sym (ap (λ (t : Trailer). t .links) same))
-        (subst (λ k. Listable bytes (statedLinks bytes) (done .part) k (done .counts .listed)) (sym (found .entries-count))
-        (subst (λ k. Listable bytes (statedLinks bytes) (done .part) (length (search m n .entries)) k) (sym (found .listed-count)) (listable bytes below ok (search m n) (numbered m (a .climbs) n) (done .part) holding source)))
+          go : (d : Tropical) → total m ≡ d → false ≡ not (isFinite d) → resultBy m n (best m) ≡ listResult m (search m n)
+          go inf q h = absurd (not-both h refl)
+          go (fin k) q h =
+              let x = best-finite m (a .climbs) k q in
+              ap (resultBy m n) (x .1) ∙ many n lo (x .0) ∙ trimmed-is m (search m n) (numbered m (a .climbs) n) (some-listed m a n (omega arith) (x .0) (x .2))
 
-    module _ (there : getD part (places .nodes) 0 ≡ infinite → ⊥) where
-      pub answers : (room : ℕ) → listAnswer (done .counts .listed) (keptCount (done .counts .entries) (done .counts .listed) (done .part)) (done .counts .taken) room ≡ listedIn (resultFor m n) room
-      answers room =
-          (λ i. listAnswer (found .listed-count i) (keptCount (found .entries-count i) (found .listed-count i) (done .part)) (found .taken-count i) room)
-          ∙ list-answers bytes below ok (search m n) (numbered m (a .climbs) n) (done .part) holding source room ∙ ap (λ r. listedIn r room) (sym (some-there there))
+      -- ---- the list written
+      pub listed-done : Listable bytes (t .links) (done .part) (done .counts .entries) (done .counts .listed)
+      listed-done =
+          subst (λ k. Listable bytes k (done .part) (done .counts .entries) (done .counts .listed)) (sym (ap (λ (t : Trailer). t .links) same))
+          (subst (λ k. Listable bytes (statedLinks bytes) (done .part) k (done .counts .listed)) (sym (found .entries-count))
+          (subst (λ k. Listable bytes (statedLinks bytes) (done .part) (length (search m n .entries)) k) (sym (found .listed-count)) (listable bytes below ok (search m n) (numbered m (a .climbs) n) (done .part) holding source)))
 
-      pub leaves : (old : List ℕ) → listAfter bytes (t .links) (done .part) (done .counts .entries) (done .counts .listed) old ≡ listedOver (resultFor m n) old
-      leaves old =
-          (λ i. listAfter bytes (ap (λ (t : Trailer). t .links) same i) (done .part) (found .entries-count i) (found .listed-count i) old)
-          ∙ list-leaves bytes below ok (search m n) (numbered m (a .climbs) n) (done .part) holding source old ∙ ap (λ r. listedOver r old) (sym (some-there there))
+      module _ (there : getD part (places .nodes) 0 ≡ infinite → ⊥) where
+        pub answers : (room : ℕ) → listAnswer (done .counts .listed) (keptCount (done .counts .entries) (done .counts .listed) (done .part)) (done .counts .taken) room ≡ listedIn (resultFor m n) room
+        answers room =
+            (λ i. listAnswer (found .listed-count i) (keptCount (found .entries-count i) (found .listed-count i) (done .part)) (found .taken-count i) room)
+            ∙ list-answers bytes below ok (search m n) (numbered m (a .climbs) n) (done .part) holding source room ∙ ap (λ r. listedIn r room) (sym (some-there there))
+
+        pub leaves : (old : List ℕ) → listAfter bytes (t .links) (done .part) (done .counts .entries) (done .counts .listed) old ≡ listedOver (resultFor m n) old
+        leaves old =
+            (λ i. listAfter bytes (ap (λ (t : Trailer). t .links) same i) (done .part) (found .entries-count i) (found .listed-count i) old)
+            ∙ list-leaves bytes below ok (search m n) (numbered m (a .climbs) n) (done .part) holding source old ∙ ap (λ r. listedOver r old) (sym (some-there there))

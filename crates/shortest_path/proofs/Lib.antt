@@ -1,2 +1,4 @@
 pub mod Lying
 pub mod Joining
+pub mod Outcomes
+pub mod Promises

@@ -1,14 +1,15 @@
-// Lists for n from 2: the search on its part of the work area, and its list written.
+// Lists of an accepted sheet, on a part of the work area with the slots that they need.
 ghost use mathlib.Core.Path.{_≡_};
 ghost use Prim.Native.Nat.{_*_, _≤_};
 ghost use lib.ListN.{length};
+ghost use Rattle.tropical_weight.specs.Limits.{nodeLimit, linkLimit, listLimit};
 ghost use Rattle.sheet.specs.Sheet.{partsOf};
 ghost use Rattle.sheet.specs.Machine.{machineOf};
 ghost use Rattle.sheet.specs.Records.{trailerAt};
 ghost use Rattle.machine.specs.Input.{inputNumber};
 ghost use Rattle.search.specs.ListMachine.{resultFor};
 ghost use Rattle.reversed_machine.specs.ReverseWords.{finalCount};
-ghost use Rattle.slots.specs.ListAnswer.{endWord, slotsFor, listedIn, listedOver};
+ghost use Rattle.slots.specs.ListAnswer.{endWord, slotsOf, slotsFor, listedIn, listedOver};
 use list_machine::listing;
 use n_shortest::n_best;
 use reversed_machine::reverse;
@@ -39,7 +40,7 @@ pub fn list_many(
     result: &mut [u8],
 ) -> Listed
     requires { ⌜ (inputNumber (now sheet) ≡ 0) × (t ≡ trailerAt (now sheet)) × (finals ≡ finalCount (now sheet) (t .links) (t .nodes)) ⌝ }
-    requires { ⌜ (2 ≤ n) × (n ≤ 64) × (8 * slotsFor (machineOf (partsOf (now sheet))) n ≤ length (now part)) ⌝ }
+    requires { ⌜ (2 ≤ n) × (n ≤ listLimit) × (8 * slotsFor (machineOf (partsOf (now sheet))) n ≤ length (now part)) ⌝ }
     ensures { λ r. ⌜ (r ≡ listedIn (resultFor (machineOf (partsOf (now (sheet .entry)))) n) (length (now (result .entry)))) × (now (result .exit) ≡ listedOver (resultFor (machineOf (partsOf (now (sheet .entry)))) n) (now (result .entry))) ⌝ }
 {
     let links = t.links;
@@ -67,4 +68,40 @@ pub fn list_many(
         c.taken,
         result,
     )
+}
+
+// The work slots that a list for n needs.
+pub fn slots_needed(nodes: u32, links: u32, finals: u32, n: u32) -> u32
+    requires { ⌜ (nodes ≤ nodeLimit) × (links ≤ linkLimit) × (finals ≤ nodes) × (n ≤ listLimit) ⌝ }
+    ensures { λ r. ⌜ r ≡ slotsOf nodes links finals n ⌝ }
+{
+    if n == 0 {
+        return 0;
+    }
+    if n == 1 {
+        return nodes;
+    }
+    nodes + links + 2 * finals + 2 + n * (links + 1)
+}
+
+// The n cheapest readings of an accepted sheet with so many final nodes.
+pub fn list_in(
+    sheet: &[u8],
+    t: Trailer,
+    n: u32,
+    finals: u32,
+    part: &mut [u32],
+    result: &mut [u8],
+) -> Listed
+    requires { ⌜ (inputNumber (now sheet) ≡ 0) × (t ≡ trailerAt (now sheet)) × (finals ≡ finalCount (now sheet) (t .links) (t .nodes)) ⌝ }
+    requires { ⌜ (n ≤ listLimit) × (8 * slotsFor (machineOf (partsOf (now sheet))) n ≤ length (now part)) ⌝ }
+    ensures { λ r. ⌜ (r ≡ listedIn (resultFor (machineOf (partsOf (now (sheet .entry)))) n) (length (now (result .entry)))) × (now (result .exit) ≡ listedOver (resultFor (machineOf (partsOf (now (sheet .entry)))) n) (now (result .entry))) ⌝ }
+{
+    if n == 0 {
+        return single::put_none(result);
+    }
+    if n == 1 {
+        return single::single_shortest_path(sheet, t, part, result);
+    }
+    list_many(sheet, t, n, finals, part, result)
 }

@@ -38,8 +38,11 @@ noneListed room = listedBy (ltb room 20) 0 0 0
 abbrev pub endWord : ℕ → ℕ
 endWord start = cond (eqb start nothing) nothing (start + 1)
 
--- work slots: none for n = 0, N for n = 1, otherwise N + T + 2 × F + 2 + n × (T + 1)
+-- work slots, for N nodes, T links and F final nodes: none for n = 0, N for n = 1, otherwise N + T + 2 × F + 2 + n × (T + 1)
+abbrev pub slotsOf : ℕ → ℕ → ℕ → ℕ → ℕ
+slotsOf nodes links finals zero = 0
+slotsOf nodes links finals (suc zero) = nodes
+slotsOf nodes links finals (suc (suc k)) = nodes + links + 2 * finals + 2 + suc (suc k) * (links + 1)
+
 abbrev pub slotsFor : Machine → ℕ → ℕ
-slotsFor m zero = 0
-slotsFor m (suc zero) = length (m .finals)
-slotsFor m (suc (suc k)) = length (m .finals) + length (m .links) + 2 * marked (m .finals) + 2 + suc (suc k) * (length (m .links) + 1)
+slotsFor m n = slotsOf (length (m .finals)) (length (m .links)) (marked (m .finals)) n

@@ -22,6 +22,10 @@ nodeLimit = 4096
 abbrev pub linkLimit : ℕ
 linkLimit = 16384
 
+-- the most readings that a list is asked for
+abbrev pub listLimit : ℕ
+listLimit = 64
+
 -- the most units of a sum, either way: up to here single precision has every whole number
 abbrev pub sumLimit : ℕ
 sumLimit = 2 ^ 24

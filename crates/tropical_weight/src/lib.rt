@@ -27,6 +27,9 @@ pub const NODE_LIMIT: usize = 4096;
 // The most links of a machine.
 pub const LINK_LIMIT: usize = 16384;
 
+// The most readings that a list is asked for.
+pub const LIST_LIMIT: u32 = 64;
+
 // The exponent's field of the values from 2 ^ 23 units up to 2 ^ 24, whose last digit is the unit.
 const LAST_IS_UNIT: u32 = 150 - UNIT;
 

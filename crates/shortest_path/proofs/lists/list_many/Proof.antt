@@ -27,9 +27,9 @@ few : (c : tie.After-shared-slice-known) → let args = c .before .args in
 few c =
     let root = c .before in
     let args = root .args in (
-      few-finals (now (args .sheet)) (λ i. omega (arith, c .shared-slice-known .given i)) (root .pre .0 .0) (args .t) (root .pre .0 .1) (args .finals) (root .pre .0 .2) (args .n) (root .pre .1 .0) (root .pre .1 .1),
-      few-links (now (args .sheet)) (λ i. omega (arith, c .shared-slice-known .given i)) (root .pre .0 .0) (args .t) (root .pre .0 .1) (args .finals) (root .pre .0 .2) (args .n) (root .pre .1 .0) (root .pre .1 .1),
-      few-nodes (now (args .sheet)) (λ i. omega (arith, c .shared-slice-known .given i)) (root .pre .0 .0) (args .t) (root .pre .0 .1) (args .finals) (root .pre .0 .2) (args .n) (root .pre .1 .0) (root .pre .1 .1),
+      few-finals (now (args .sheet)) (λ i. omega (arith, c .shared-slice-known .given i)) (root .pre .0 .0) (args .t) (root .pre .0 .1) (args .finals) (root .pre .0 .2),
+      few-links (now (args .sheet)) (λ i. omega (arith, c .shared-slice-known .given i)) (root .pre .0 .0) (args .t) (root .pre .0 .1) (args .finals) (root .pre .0 .2),
+      few-nodes (now (args .sheet)) (λ i. omega (arith, c .shared-slice-known .given i)) (root .pre .0 .0) (args .t) (root .pre .0 .1) (args .finals) (root .pre .0 .2),
       product (now (args .sheet)) (λ i. omega (arith, c .shared-slice-known .given i)) (root .pre .0 .0) (args .t) (root .pre .0 .1) (args .finals) (root .pre .0 .2) (args .n) (root .pre .1 .0) (root .pre .1 .1),
       omega (arith, root .pre .1 .2, slots-are (now (args .sheet)) (λ i. omega (arith, c .shared-slice-known .given i)) (root .pre .0 .0) (args .t) (root .pre .0 .1) (args .finals) (root .pre .0 .2) (args .n) (root .pre .1 .0) (root .pre .1 .1)),
     )
