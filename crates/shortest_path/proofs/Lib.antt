@@ -2,3 +2,4 @@ pub mod Lying
 pub mod Joining
 pub mod Outcomes
 pub mod Promises
+pub mod Bench
