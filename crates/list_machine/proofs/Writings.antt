@@ -145,7 +145,7 @@ module _ (m : Machine) (s : Search) where
   all-leave : (v : ℕ) → leaving (listMachine m s .links) v ≡ leaving (map (startLink s) (s .listed)) v + leaving (map (entryLink m s) (later s)) v
   all-leave v = leaving-append (map (startLink s) (s .listed)) (map (entryLink m s) (later s)) v
 
-  nodes-is : partsFor (listMachine m s) .nodes ≡ headWords (length (s .listed)) ++ nodeWords (length (later s))
+  pub nodes-is : partsFor (listMachine m s) .nodes ≡ headWords (length (s .listed)) ++ nodeWords (length (later s))
   unfolding partsFor nodeFields
   nodes-is =
       let start : leaving (listMachine m s .links) 0 ≡ length (s .listed) = all-leave 0 ∙ omega (arith, starts-leave (s .listed), entries-off (length (s .entries) - 1) 0 (inl (omega arith))) in

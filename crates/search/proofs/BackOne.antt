@@ -41,10 +41,10 @@ abbrev wayBack : Machine → Reading → Machine
 wayBack m x = bestResult m x .machine
 
 module _ (m : Machine) (x : Reading) where
-  links-long : length (wayBack m x .links) ≡ length (x .run)
+  pub links-long : length (wayBack m x .links) ≡ length (x .run)
   links-long = length-back m 1 (reverse (x .run)) ∙ length-reverse (x .run)
 
-  nodes-long : length (wayBack m x .finals) ≡ suc (length (x .run))
+  pub nodes-long : length (wayBack m x .finals) ≡ suc (length (x .run))
   nodes-long = ap suc (length-replicate {A = Option Tropical} (length (x .run)) none)
 
   link-at : (l : ℕ) (d : Link) → l < length (x .run) → getD (wayBack m x .links) l d ≡ moved (link m (getD (reverse (x .run)) l 0)) (suc l) l
@@ -53,7 +53,7 @@ module _ (m : Machine) (x : Reading) where
   source-at : (l : ℕ) (d : Link) → l < length (x .run) → getD (wayBack m x .links) l d .source ≡ suc l
   source-at l d h = ap (λ (k : Link). k .source) (link-at l d h)
 
-  words-are : map wordFor (bestResult m x .repeats) ≡ reverse (x .run)
+  pub words-are : map wordFor (bestResult m x .repeats) ≡ reverse (x .run)
   words-are = map-map wordFor some (reverse (x .run)) ∙ map-id (reverse (x .run))
 
 module _ (m : Machine) (x : Reading) (f : OneFits m x) where
@@ -135,4 +135,4 @@ module _ (m : Machine) (x : Reading) (f : OneFits m x) (w : Tropical) (marked : 
 
   -- the list read back is the one reading
   pub best-back : (rest : List ℕ) → listOf 1 (length (bestResult m x .machine .finals)) (length (bestResult m x .machine .links)) (resultBytes (bestResult m x) ++ rest) ≡ x .run ∷ []
-  best-back rest = read-result (bestResult m x) (best-storable m x f) 1 rest ∙ ap (oneWay (fields m x)) (words-are m x) ∙ one-way
+  best-back rest = read-result (bestResult m x) (best-storable m x f) rest 1 ∙ ap (oneWay (fields m x)) (words-are m x) ∙ one-way

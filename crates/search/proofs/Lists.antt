@@ -58,7 +58,7 @@ module _ (m : Machine) (a : Accepted m) where
       let x : n * (length (m .links) + 1) ≤ 64 * (length (m .links) + 1) = mul-le-mul-right (length (m .links) + 1) b in
       omega (arith, x, marked-few (m .finals), a .few-nodes, a .few-links)
 
-  fits : (n : ℕ) → n ≤ listLimit → Fits m (search m n)
+  pub fits : (n : ℕ) → n ≤ listLimit → Fits m (search m n)
   fits n b = record {
     labels = a .labels;
     few = omega (arith, put-in m (a .climbs) n, holds m (a .climbs) n .mirrors .size, few-listed m (a .climbs) n, few-entries n b);
@@ -83,7 +83,7 @@ module _ (m : Machine) (a : Accepted m) where
       ∙ list-back m (search m n) (numbered m (a .climbs) n) (fits n b) n (λ z. omega (arith, z)) rest
 
   -- ---- n = 1
-  one-fits : (x : Reading) → IsReading m x → OneFits m x
+  pub one-fits : (x : Reading) → IsReading m x → OneFits m x
   one-fits x i = record {
     labels = a .labels;
     few = omega (arith, run-length m (a .climbs) (x .run) (i .from) (x .end) (i .runs), final-in m (x .end) (i .weight) (i .marked), a .few-nodes);

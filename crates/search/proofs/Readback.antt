@@ -38,16 +38,16 @@ pub record Fits (m : Machine) (s : Search) : Type 0 where
 
 -- ---- the list machine by its numbers
 module _ (m : Machine) (s : Search) where
-  links-long : length (listMachine m s .links) ≡ length (s .listed) + length (later s)
+  pub links-long : length (listMachine m s .links) ≡ length (s .listed) + length (later s)
   links-long = length-append (map (startLink s) (s .listed)) (map (entryLink m s) (later s)) ∙ λ i. length-map (s .listed) (startLink s) i + length-map (later s) (entryLink m s) i
 
-  nodes-long : length (listMachine m s .finals) ≡ 2 + length (later s)
+  pub nodes-long : length (listMachine m s .finals) ≡ 2 + length (later s)
   nodes-long = omega (arith, length-replicate {A = Option Tropical} (length (later s)) none)
 
-  link-start : (l : ℕ) (d : Link) → l < length (s .listed) → getD (listMachine m s .links) l d ≡ startLink s (getD (s .listed) l 0)
+  pub link-start : (l : ℕ) (d : Link) → l < length (s .listed) → getD (listMachine m s .links) l d ≡ startLink s (getD (s .listed) l 0)
   link-start l d h = List·getD-append (map (startLink s) (s .listed)) (map (entryLink m s) (later s)) d l (omega (arith, length-map (s .listed) (startLink s))) ∙ getD-map (startLink s) (s .listed) l 0 d h
 
-  link-entry : (l i : ℕ) (d : Link) → i < length (later s) → l ≡ length (s .listed) + i → getD (listMachine m s .links) l d ≡ entryLink m s (getD (later s) i 0)
+  pub link-entry : (l i : ℕ) (d : Link) → i < length (later s) → l ≡ length (s .listed) + i → getD (listMachine m s .links) l d ≡ entryLink m s (getD (later s) i 0)
   link-entry l i d h e =
       ap (λ (n : ℕ). getD (listMachine m s .links) n d) (let z : l ≡ length (map (startLink s) (s .listed)) + i = omega (arith, length-map (s .listed) (startLink s)) in z)
       ∙ getD-append-add (map (startLink s) (s .listed)) (map (entryLink m s) (later s)) i d ∙ getD-map (entryLink m s) (later s) i 0 d h
@@ -55,7 +55,7 @@ module _ (m : Machine) (s : Search) where
   entry-source : (j : ℕ) → entryLink m s j .source ≡ stateOf s j
   entry-source j = let e = getD (s .entries) j first in linkBy-ends m (e .input) (e .entry) (stateOf s j) (stateOf s (e .from)) .0
 
-  entry-next : (j : ℕ) → entryLink m s j .next ≡ stateOf s (cameFrom s j)
+  pub entry-next : (j : ℕ) → entryLink m s j .next ≡ stateOf s (cameFrom s j)
   entry-next j = let e = getD (s .entries) j first in linkBy-ends m (e .input) (e .entry) (stateOf s j) (stateOf s (e .from)) .1
 
   -- a number among the links of the start, or among those of the entries
@@ -87,7 +87,7 @@ module _ (m : Machine) (s : Search) where
       List·getD-append (replicate (length (s .listed)) none) (map (inputOf s) (later s)) none l (omega (arith, length-replicate {A = Option ℕ} (length (s .listed)) none))
       ∙ getD-replicate (length (s .listed)) l none none h
 
-  repeat-entry : (l i : ℕ) → i < length (later s) → l ≡ length (s .listed) + i → getD (listResult m s .repeats) l none ≡ inputOf s (getD (later s) i 0)
+  pub repeat-entry : (l i : ℕ) → i < length (later s) → l ≡ length (s .listed) + i → getD (listResult m s .repeats) l none ≡ inputOf s (getD (later s) i 0)
   repeat-entry l i h e =
       ap (λ (n : ℕ). getD (listResult m s .repeats) n none) (let z : l ≡ length (replicate {A = Option ℕ} (length (s .listed)) none) + i = omega (arith, length-replicate {A = Option ℕ} (length (s .listed)) none) in z)
       ∙ getD-append-add (replicate (length (s .listed)) none) (map (inputOf s) (later s)) i none ∙ getD-map (inputOf s) (later s) i 0 none h
@@ -242,4 +242,4 @@ module _ (m : Machine) (s : Search) (w : Numbered s) (x : Fits m s) where
 
   -- the list read back is the list
   pub list-back : (n : ℕ) → (n ≡ 1 → ⊥) → (rest : List ℕ) → listOf n (length (listMachine m s .finals)) (length (listMachine m s .links)) (resultBytes (listResult m s) ++ rest) ≡ runs s
-  list-back n h rest = read-result (listResult m s) (list-storable m s w x) n rest ∙ ap (λ (t : Bool). cond t (oneWay (fields m s) (wordsOf m s)) (ways (fields m s) (wordsOf m s))) (ne-eqb n 1 h) ∙ ways-are
+  list-back n h rest = read-result (listResult m s) (list-storable m s w x) rest n ∙ ap (λ (t : Bool). cond t (oneWay (fields m s) (wordsOf m s)) (ways (fields m s) (wordsOf m s))) (ne-eqb n 1 h) ∙ ways-are

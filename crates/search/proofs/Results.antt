@@ -9,7 +9,7 @@ use Prim.Native.Nat.{ℕ, zero, suc, _+_, _*_, _^_, _≤_, _<_}
 use native.Mathlib.Decide.{ℕ-discrete}
 use native.Mathlib.Omega.{arith}
 use lib.Dec.{eqb}
-use lib.ListN.{length, getD, take, length-map, List·getD-eq-default}
+use lib.ListN.{length, getD, take, length-append, length-map, List·getD-eq-default}
 use lib.Seq.{take-at}
 use borrow.Author.Tests.{eq-eqb, ne-eqb}
 use Rattle.sheet.specs.Below.{listBelow}
@@ -17,6 +17,7 @@ use Rattle.sheet.specs.Words.{words, bytesOfAll}
 use Rattle.sheet.specs.Sheet.{Parts, noStart, nodeCount, sheetOf, partsOf}
 use Rattle.sheet.specs.Machine.{Link, Machine, sourcesBelow, nodeFields, partsFor}
 use Rattle.sheet.proofs.Below.{split-at}
+use Rattle.sheet.proofs.Bytes.{length-bytesOfAll}
 use Rattle.sheet.proofs.Round.{Below, words-of}
 use Rattle.sheet.proofs.Encoding.{Writable, fields-back, sheet-length}
 use Rattle.machine.specs.Readings.{link, noLink}
@@ -51,27 +52,42 @@ words-below (o ∷ os) f (suc i) = words-below os (λ i l h. f (suc i) l (omega 
 abbrev pub listIn : ℕ → Parts → List ℕ → List (List ℕ)
 listIn n p ws = cond (eqb n 1) (oneWay p ws) (ways p ws)
 
-pub read-result : (r : Result) → Storable r → (n : ℕ) (rest : List ℕ)
-    → listOf n (length (r .machine .finals)) (length (r .machine .links)) (resultBytes r ++ rest) ≡ listIn n (partsFor (r .machine)) (map wordFor (r .repeats))
-unfolding listOf resultBytes
-read-result r x n rest = λ i. listIn n (parts i) (repeats i)
-  where
-    sheet : List ℕ
-    sheet = sheetOf (partsFor (r .machine))
+module _ (r : Result) (x : Storable r) (rest : List ℕ) where
+  abbrev sheet : List ℕ
+  sheet = sheetOf (partsFor (r .machine))
 
-    after : List ℕ
-    after = bytesOfAll (map wordFor (r .repeats))
+  abbrev after : List ℕ
+  after = bytesOfAll (map wordFor (r .repeats))
 
-    size : ℕ
-    size = 16 * length (r .machine .links) + 12 * length (r .machine .finals) + 20
+  abbrev size : ℕ
+  size = 16 * length (r .machine .links) + 12 * length (r .machine .finals) + 20
 
-    parts : partsOf (take size (sheet ++ after ++ rest)) ≡ partsFor (r .machine)
-    parts = ap (λ (b : List ℕ). partsOf (take size b)) (append-assoc sheet after rest) ∙ ap partsOf (take-at sheet (after ++ rest) size (sheet-length (r .machine) (x .machine-fits))) ∙ fields-back (r .machine) (x .machine-fits)
+  pub parts-read : partsOf (take (16 * length (r .machine .links) + 12 * length (r .machine .finals) + 20) (resultBytes r ++ rest)) ≡ partsFor (r .machine)
+  unfolding resultBytes
+  parts-read = ap (λ (b : List ℕ). partsOf (take size b)) (append-assoc sheet after rest) ∙ ap partsOf (take-at sheet (after ++ rest) size (sheet-length (r .machine) (x .machine-fits))) ∙ fields-back (r .machine) (x .machine-fits)
 
-    repeats : words (sheet ++ after ++ rest) size (length (r .machine .links)) ≡ map wordFor (r .repeats)
-    repeats =
-        (λ i. words (sheet ++ after ++ rest) (sym (sheet-length (r .machine) (x .machine-fits)) i) (sym (length-map (r .repeats) wordFor ∙ x .word-each) i))
-        ∙ words-of (map wordFor (r .repeats)) sheet rest (words-below (r .repeats) (x .inputs-fit))
+  pub words-read : words (resultBytes r ++ rest) (16 * length (r .machine .links) + 12 * length (r .machine .finals) + 20) (length (r .machine .links)) ≡ map wordFor (r .repeats)
+  unfolding resultBytes
+  words-read =
+      (λ i. words (sheet ++ after ++ rest) (sym (sheet-length (r .machine) (x .machine-fits)) i) (sym (length-map (r .repeats) wordFor ∙ x .word-each) i))
+      ∙ words-of (map wordFor (r .repeats)) sheet rest (words-below (r .repeats) (x .inputs-fit))
+
+  pub result-long : 16 * length (r .machine .links) + 12 * length (r .machine .finals) + 20 + 4 * length (r .machine .links) ≤ length (resultBytes r ++ rest)
+  unfolding resultBytes
+  result-long =
+      omega (
+        arith,
+        length-append (sheet ++ after) rest,
+        length-append sheet after,
+        sheet-length (r .machine) (x .machine-fits),
+        length-bytesOfAll (map wordFor (r .repeats)),
+        length-map (r .repeats) wordFor,
+        x .word-each,
+      )
+
+  pub read-result : (n : ℕ) → listOf n (length (r .machine .finals)) (length (r .machine .links)) (resultBytes r ++ rest) ≡ listIn n (partsFor (r .machine)) (map wordFor (r .repeats))
+  unfolding listOf
+  read-result n = λ i. listIn n (parts-read i) (words-read i)
 
 -- ---- the links out of a state
 module _ (p : Parts) (ws : List ℕ) where
@@ -121,17 +137,17 @@ module _ (p : Parts) (ws : List ℕ) where
   repeated-is (some a) l way f e = ap (λ (x : ℕ). cond (eqb x noStart) way (x ∷ way)) e ∙ ap (λ (t : Bool). cond t way (a ∷ way)) (ne-eqb a noStart (λ z. omega (arith, z, f a refl)))
 
 -- ---- the empty result
+pub empty-storable : Storable empty
+empty-storable = record {
+  machine-fits = record { each = λ l d h. absurd (omega arith); by-source = λ k l d a b. absurd (omega arith); start-fits = omega arith; few-nodes = omega arith; few-links = omega arith };
+  word-each = refl;
+  inputs-fit = λ i l h e. absurd (omega arith);
+}
+
 pub empty-back : (n : ℕ) (rest : List ℕ) → listOf n 0 0 (resultBytes empty ++ rest) ≡ []
 unfolding partsFor flatMap nodeFields outFrom
-empty-back n rest = read-result empty storable n rest ∙ go (eqb n 1)
+empty-back n rest = read-result empty empty-storable rest n ∙ go (eqb n 1)
   where
     go : (t : Bool) → cond t (oneWay (partsFor (empty .machine)) []) (ways (partsFor (empty .machine)) []) ≡ []
     go true = refl
     go false = refl
-
-    storable : Storable empty
-    storable = record {
-      machine-fits = record { each = λ l d h. absurd (omega arith); by-source = λ k l d a b. absurd (omega arith); start-fits = omega arith; few-nodes = omega arith; few-links = omega arith };
-      word-each = refl;
-      inputs-fit = λ i l h e. absurd (omega arith);
-    }

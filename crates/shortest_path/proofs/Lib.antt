@@ -2,4 +2,3 @@ pub mod Lying
 pub mod Joining
 pub mod Outcomes
 pub mod Promises
-pub mod Bench

@@ -13,8 +13,8 @@ use Rattle.shortest_distance.specs.Outcome.{distanceNumber}
 use Rattle.search.specs.Reversed.{outOfZero, linksInto}
 use Rattle.search.specs.Search.{marked}
 use Rattle.search.specs.Listed.{listOf}
 use Rattle.shortest_path.specs.Outcome.{listNumber}
-use Rattle.shortest_path.specs.Table.{sheetA, sheetE, oneLink, Case, table, P1, P2, P3, P4, P5, P6, P7, P8, P9}
+use Rattle.bench_values.specs.Table.{sheetA, sheetE, oneLink, Case, table, P1, P2, P3, P4, P5, P6, P7, P8, P9}
 
 -- Sheet A has 148 bytes
 size-A : length sheetA ≡ 148

@@ -56,16 +56,16 @@ listTold bytes n = toldList bytes n (listAnswer bytes n workWords (length result
 unfoldable pub sheetA : List ℕ
 unfolding bytesOfAll
 sheetA = bytesOfAll (
-  1 ∷ 1 ∷ 0x3f80_0000 ∷ 1 ∷
-  2 ∷ 2 ∷ 0x3f00_0000 ∷ 2 ∷
-  3 ∷ 3 ∷ 0x3e80_0000 ∷ 3 ∷
-  5 ∷ 5 ∷ 0 ∷ 2 ∷
-  4 ∷ 4 ∷ 0x3f40_0000 ∷ 3 ∷
-  2 ∷ 0 ∷ 0 ∷
-  2 ∷ 0 ∷ 0 ∷
-  1 ∷ 0 ∷ 0 ∷
-  0 ∷ 1 ∷ 0x3f00_0000 ∷
-  0 ∷ 80 ∷ 4 ∷ 5 ∷ 0 ∷ [])
+    1 ∷ 1 ∷ 0x3f80_0000 ∷ 1 ∷
+    2 ∷ 2 ∷ 0x3f00_0000 ∷ 2 ∷
+    3 ∷ 3 ∷ 0x3e80_0000 ∷ 3 ∷
+    5 ∷ 5 ∷ 0 ∷ 2 ∷
+    4 ∷ 4 ∷ 0x3f40_0000 ∷ 3 ∷
+    2 ∷ 0 ∷ 0 ∷
+    2 ∷ 0 ∷ 0 ∷
+    1 ∷ 0 ∷ 0 ∷
+    0 ∷ 1 ∷ 0x3f00_0000 ∷
+    0 ∷ 80 ∷ 4 ∷ 5 ∷ 0 ∷ [])
 
 -- no nodes and no start
 unfoldable pub sheetE : List ℕ
@@ -76,10 +76,10 @@ sheetE = bytesOfAll (0 ∷ 0 ∷ 0 ∷ 0 ∷ 0xffff_ffff ∷ [])
 unfoldable pub oneLink : ℕ → ℕ → List ℕ
 unfolding bytesOfAll
 oneLink bits next = bytesOfAll (
-  1 ∷ 1 ∷ bits ∷ next ∷
-  1 ∷ 0 ∷ 0 ∷
-  0 ∷ 1 ∷ 0 ∷
-  0 ∷ 16 ∷ 2 ∷ 1 ∷ 0 ∷ [])
+    1 ∷ 1 ∷ bits ∷ next ∷
+    1 ∷ 0 ∷ 0 ∷
+    0 ∷ 1 ∷ 0 ∷
+    0 ∷ 16 ∷ 2 ∷ 1 ∷ 0 ∷ [])
 
 -- ---- the table
 -- A case: what the definitions give, and what is stated.

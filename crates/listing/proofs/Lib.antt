@@ -1,0 +1,6 @@
+pub mod Decimals
+pub mod Storing
+pub mod TextBench
+pub mod Turns
+pub mod Walks
+pub mod RunCosts

@@ -1,0 +1,130 @@
+-- The sum of a reading's weights in single precision is its cost, exactly, and its run ends where the reading does. Assumes nothing.
+use mathlib.Core.Path.{_≡_, refl, sym, ap, _∙_, subst}
+use mathlib.Core.Bool.{Bool, true, false, cond}
+use mathlib.Core.Option.{Option, none, some}
+use mathlib.Core.List.{List, [], _∷_, _++_, map, map-map, append-nil, List·Memᴰ·tail}
+use Prim.Native.Nat.{ℕ, _+_, _*_, _≤_, _<_}
+use native.Mathlib.Omega.{arith}
+use lib.Dec.{eqb}
+use lib.IntN.{ℤ}
+use lib.ListN.{length, getD, length-map}
+use lib.Ieee.{Float, binary32, add, ofBits}
+use Rattle.tropical_weight.specs.Limits.{unit, weightLimit, nodeLimit, sumLimit}
+use Rattle.tropical_weight.specs.Tropical.{Tropical, fin, one, _⊗_, timesAll, Within}
+use Rattle.tropical_weight.specs.Grid.{ofT}
+use Rattle.tropical_weight.specs.Single.{addAll, Computes, Costs}
+use Rattle.tropical_weight.proofs.Semiring.{⊗-assoc, one-⊗, ⊗-one}
+use Rattle.tropical_weight.proofs.Exact.{bits-back}
+use Rattle.tropical_weight.proofs.Sums.{within-mono, limits, sums-exact}
+use Rattle.sheet.specs.Words.{word}
+use Rattle.sheet.specs.Sheet.{noStart, partsOf, statedLinks, statedNodes, trailerField}
+use Rattle.sheet.specs.Machine.{Machine, machineOf}
+use Rattle.sheet.proofs.Fields.{length-read, read-fits}
+use Rattle.sheet.proofs.Round.{Below}
+use Rattle.machine.specs.Readings.{link, final, finalWeight, nodeOr, runCost, endFrom, IsReading, readingOf, readingCost}
+use Rattle.machine.specs.Demand.{_∈_}
+use Rattle.machine.specs.Input.{inputNumber}
+use Rattle.machine.proofs.Lists.{here, mem-map, map-same, getD-mem}
+use Rattle.machine.proofs.Runs.{run-length, run-in}
+use Rattle.machine.proofs.Readings.{final-in}
+use Rattle.machine.proofs.Distance.{reading-finite}
+use Rattle.machine.proofs.Bounds.{reading-limit}
+use Rattle.machine.proofs.Accepted.{passes, input-read, finite-machine}
+use Rattle.shortest_distance.proofs.Rows.{Reads}
+use Rattle.shortest_distance.proofs.Accepted.{reads, links-are, nodes-are}
+use Rattle.list_machine.proofs.SheetWords.{final-word}
+use Rattle.listing.specs.Ways.{weightAt, runSum, runEnd}
+
+-- the sum of a run's weights from its front
+times-run : (m : Machine) (a : Tropical) (r : List ℕ) → timesAll a (map (λ l. link m l .weight) r) ≡ a ⊗ runCost m r
+unfolding timesAll runCost
+times-run m a [] = sym (⊗-one a)
+times-run m a (l ∷ r) = times-run m (a ⊗ link m l .weight) r ∙ ⊗-assoc a (link m l .weight) (runCost m r)
+
+module _ (bytes : List ℕ) (below : Below 256 bytes) (accepted : inputNumber bytes ≡ 0) (run : List ℕ) (reading : IsReading (machineOf (partsOf bytes)) (readingOf (machineOf (partsOf bytes)) run)) where
+  abbrev m : Machine
+  m = machineOf (partsOf bytes)
+
+  abbrev end : ℕ
+  end = readingOf m run .end
+
+  r : Reads bytes (statedLinks bytes) (machineOf (partsOf bytes))
+  r = reads bytes accepted
+
+  long : length bytes ≡ 16 * statedLinks bytes + 12 * statedNodes bytes + 20
+  long = length-read bytes (read-fits bytes (input-read bytes accepted .0))
+
+  -- its links are links, and it ends at a node
+  in-links : (l : ℕ) → l ∈ run → l < length (m .links)
+  in-links = run-in m run (reading .from) end (reading .runs)
+
+  pub link-in-sheet : (i : ℕ) → i < length run → 16 * getD run i 0 + 16 ≤ length bytes
+  link-in-sheet i h = omega (arith, long, links-are bytes accepted, in-links (getD run i 0) (getD-mem run i 0 h))
+
+  in-nodes : end < length (m .finals)
+  in-nodes = final-in m end (reading .weight) (reading .marked)
+
+  pub end-in-sheet : 16 * statedLinks bytes + 12 * readingOf (machineOf (partsOf bytes)) run .end + 12 ≤ length bytes
+  end-in-sheet = omega (arith, long, nodes-are bytes accepted, in-nodes)
+
+  -- ---- where it ends
+  -- the start
+  start-at : nodeOr (m .start) ≡ trailerField bytes 4
+  unfolding machineOf partsOf
+  start-at = go (eqb (trailerField bytes 4) noStart) (reading .starts)
+    where
+      go : (b : Bool) → cond b none (some (trailerField bytes 4)) ≡ some (reading .from) → nodeOr (cond b none (some (trailerField bytes 4))) ≡ trailerField bytes 4
+      go true e = let z : _≡_ {A = ℕ} 0 1 = cc in absurd (omega arith)
+      go false e = refl
+
+  -- the last link's next node
+  last-next : (u : ℕ) (ls : List ℕ) → ((l : ℕ) → l ∈ ls → l < length (m .links)) → endFrom m u ls ≡ runEnd bytes u ls
+  last-next u [] h = refl
+  last-next u (l ∷ []) h = sym (r .next-at l (h l (here l [])))
+  last-next u (l ∷ k ∷ ls) h = last-next (link m l .next) (k ∷ ls) (λ a q. h a (List·Memᴰ·tail q))
+
+  pub run-end-is : runEnd bytes (trailerField bytes 4) run ≡ readingOf (machineOf (partsOf bytes)) run .end
+  run-end-is = sym (ap (λ (u : ℕ). endFrom m u run) start-at ∙ last-next (trailerField bytes 4) run in-links)
+
+  -- ---- what it costs
+  abbrev weights : List Tropical
+  weights = map (λ l. link m l .weight) run
+
+  few : length (weights ++ []) ≤ nodeLimit
+  few = omega (arith, ap length (append-nil weights), length-map run (λ l. link m l .weight), run-length m (r .climbs) run (reading .from) end (reading .runs), in-nodes, r .few)
+
+  each : (w : Tropical) → w ∈ (weights ++ []) → Within weightLimit w
+  each w q =
+      let x = mem-map (λ l. link m l .weight) run (subst (λ (l : List Tropical). w ∈ l) (append-nil weights) q) in
+      subst (Within weightLimit) (sym (x .2)) (r .small .onLink (x .0) (in-links (x .0) (x .1)))
+
+  exact : (addAll (ofT unit one) (map (ofT unit) weights) ≡ ofT unit (timesAll one weights)) × Within sumLimit (timesAll one weights)
+  exact = sums-exact nodeLimit weightLimit limits unit (omega arith) weights [] few each
+
+  cost-is : timesAll one weights ≡ runCost m run
+  cost-is = times-run m one run ∙ one-⊗ (runCost m run)
+
+  sum-is : runSum bytes run ≡ ofT unit (runCost m run)
+  sum-is =
+      ap (addAll (ofT unit one)) (map-same (weightAt bytes) (λ l. ofT unit (link m l .weight)) run (λ l q. r .weight-at l (in-links l q)) ∙ sym (map-map (ofT unit) (λ l. link m l .weight) run))
+      ∙ exact .0 ∙ ap (ofT unit) cost-is
+
+  -- the final weight
+  final-is : ofBits binary32 (word bytes (16 * statedLinks bytes + 12 * end + 8)) ≡ ofT unit (finalWeight (final m end))
+  final-is =
+      ap (ofBits binary32) (sym (final-word bytes below accepted end (reading .weight) (reading .marked) .1)) ∙ bits-back unit (omega arith) (reading .weight)
+      ∙ ap (λ (o : Option Tropical). ofT unit (finalWeight o)) (sym (reading .marked))
+
+  final-within : Within sumLimit (finalWeight (final m end))
+  final-within =
+      subst (λ (o : Option Tropical). Within sumLimit (finalWeight o)) (sym (reading .marked)) (within-mono weightLimit sumLimit (reading .weight) (omega arith) (r .small .onFinal end (reading .weight) (reading .marked)))
+
+  -- what the code adds up and answers
+  pub cost-answers : (sum weight total : Float) (k : ℤ) → sum ≡ runSum bytes run → weight ≡ ofBits binary32 (word bytes (16 * statedLinks bytes + 12 * readingOf (machineOf (partsOf bytes)) run .end + 8)) → Computes (add binary32) _⊗_ sum weight total → Costs unit total k
+      → fin k ≡ readingCost (machineOf (partsOf bytes)) (readingOf (machineOf (partsOf bytes)) run)
+  cost-answers sum weight total k s w t c =
+      let x = reading-finite m (finite-machine (partsOf bytes) (passes bytes accepted)) (readingOf m run) reading in
+      let few : Within sumLimit (fin (x .0)) = subst (Within sumLimit) (x .1) (reading-limit m (r .climbs) weightLimit (r .small) nodeLimit limits (r .few) (readingOf m run) reading) in
+      let is : total ≡ ofT unit (readingCost m (readingOf m run)) =
+      t .exact unit (omega arith) (runCost m run) (finalWeight (final m end)) (subst (Within sumLimit) cost-is (exact .1)) final-within (s ∙ sum-is) (w ∙ final-is) in
+      ap fin (c .exact (x .0) few (is ∙ ap (ofT unit) (x .1))) ∙ sym (x .1)

@@ -1,0 +1,3 @@
+// The listing program: the list for n of a sheet, as text.
+pub mod text;
+pub mod ways;
