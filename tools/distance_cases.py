@@ -1,40 +1,16 @@
 #!/usr/bin/env python3
 """Writes the cases that crates/replay_distances replays: a line a case, with a space between: the number that the call must answer (0: the
 distances), the words of the work area, the bytes of the result area, the words of the work area that must be left zero, the bytes of the
-sheet, those bytes, the bytes of the answer, and what the case is. Bytes are in hexadecimal (- for none); *bbcccccc repeats the last bb bytes
-over cccccc bytes, and +bbcccccc too, with the last word one higher each time. What is expected comes from `outcome` below, which follows the
-text of the requirements with exact fractions and shares nothing with the library.
+sheet, those bytes, the bytes of the answer, as sheets.py writes bytes, and what the case is. What is expected comes from `outcome` below,
+which follows the text of the requirements with exact fractions and shares nothing with the library.
 
     python3 tools/distance_cases.py > crates/replay_distances/stdin
 """
 import random, struct
 from fractions import Fraction
-from sheets import A, NONE, f, fields, read_number, real, sheet, with_word
+from sheets import A, CHAIN, EMPTY, NONE, TRAILER, climbing, distances, f, input_number, read, real, sheet, with_word, written
 
 INFINITY = 0x7F800000
-
-def sources(nodes): return [v for v, (count, _, _) in enumerate(nodes) for _ in range(count)]
-
-def number(b):
-    """the refusal from the input, 1 to 6, or 0"""
-    k = read_number(b)
-    if k: return k
-    links, nodes, _ = fields(b)
-    if len(nodes) > 4096 or len(links) > 16384: return 5
-    if any(link[3] <= v for v, link in zip(sources(nodes), links)): return 6
-    return 0
-
-def distances(b):
-    """a value per node up to the highest reached, None for an unreached one"""
-    links, nodes, start = fields(b)
-    least = [None] * len(nodes)
-    if start == NONE: return []
-    least[start] = Fraction(0)
-    for v, (_, _, bits, nxt) in zip(sources(nodes), links):
-        if least[v] is None: continue
-        to = least[v] + Fraction(real(bits))
-        if least[nxt] is None or to < least[nxt]: least[nxt] = to
-    return least[:1 + max(v for v, d in enumerate(least) if d is not None)]
 
 def value(d):
     if d is None: return INFINITY
@@ -44,7 +20,7 @@ def value(d):
 
 def outcome(b, words, room):
     """the number, how many words of the work area are left zero, and the bytes of the answer"""
-    k = number(b)
+    k = input_number(b)
     if k: return k, 0, b''
     n = struct.unpack('<I', b[-12:-8])[0]
     if words // 8 < n: return 20, 0, b''
@@ -52,56 +28,16 @@ def outcome(b, words, room):
     if room < 4 * len(ws): return 21, 8 * n, b''
     return 0, 8 * n, struct.pack('<%dI' % len(ws), *ws)
 
-def climbing(n, ways, start):
-    """a sheet of n nodes from (source, weight, next), none of its nodes final but the last"""
-    ways = sorted(ways, key=lambda w: w[0])
-    links = [(i + 1, i + 1, f(weight), nxt) for i, (_, weight, nxt) in enumerate(ways)]
-    return sheet(links, [(sum(w[0] == v for w in ways), int(v == n - 1), 0) for v in range(n)], start)
-
-def raised(block):
-    w = struct.unpack('<H', block[-4:-2])[0]
-    return block[:-4] + struct.pack('<H', w + 1 & 0xFFFF) + block[-2:]
-
-def repeats(b, at, back, change):
-    """how many parts of so many bytes follow, each made by change from the one before"""
-    k = 0
-    while at >= back and at + back <= len(b) and b[at:at + back] == change(b[at - back:at]): at += back; k += 1
-    return k
-
-def written(b):
-    out, at = [], 0
-    while at < len(b):
-        sign, back, k = max((('*+'[c], back, repeats(b, at, back, change)) for back in (4, 12, 16) for c, change in enumerate((bytes, raised))),
-                            key=lambda x: x[1] * x[2])
-        if k < 16: out.append(b[at:at + 1].hex()); at += 1
-        else: out.append(f'{sign}{back:02x}{back * k:06x}'); at += back * k
-    return ''.join(out) or '-'
-
-def read(text):
-    """what `written` wrote"""
-    b, at = b'', 0
-    while at < len(text) and text != '-':
-        if text[at] not in '*+': b += bytes.fromhex(text[at:at + 2]); at += 2; continue
-        back, more = int(text[at + 1:at + 3], 16), int(text[at + 3:at + 9], 16)
-        parts = [b[-back:]]
-        for _ in range(more // back): parts.append(raised(parts[-1]) if text[at] == '+' else parts[-1])
-        b += b''.join(parts[1:]); at += 9
-    return b
-
 lines = []
 def case(what, b, words=None, room=None):
     """a case; the areas that are not given are just long enough"""
-    n = struct.unpack('<I', b[-12:-8])[0] if number(b) == 0 else 2
+    n = struct.unpack('<I', b[-12:-8])[0] if input_number(b) == 0 else 2
     words = 8 * n if words is None else words
     if room is None: room = len(outcome(b, words, 1 << 20)[2])
     k, zeros, answer = outcome(b, words, room)
     assert read(written(b)) == b and read(written(answer)) == answer
     lines.append(f'{k} {words} {room} {zeros} {len(b)} {written(b)} {written(answer)} # {what}')
 
-EMPTY = sheet([], [], NONE)
-TRAILER = len(A) // 4 - 5
-NAMES = ['link offset', 'node offset', 'node count', 'link count', 'start']
-CHAIN = sheet([(1, 1, f(64), v + 1) for v in range(4095)], [(1, 0, 0)] * 4095 + [(0, 1, f(64))], 0)
 HIGH = climbing(5, [(0, 1, 1), (1, -3, 2), (2, 2, 3), (2, 1, 4), (3, -2, 4)], 2)
 GAP = climbing(4, [(0, 1, 1), (0, .25, 3), (1, -2, 3), (2, -64, 3)], 0)
 LOW = climbing(5, [(0, 1, 1), (0, 2, 2), (3, 1, 4)], 0)

@@ -1,5 +1,5 @@
 #!/usr/bin/env python3
-"""The search for the n cheapest readings, from the text of the requirements, apart from the library: prints costs, readings, entries
+"""The search for the n cheapest readings, from the text of the requirements, apart from the library. Run, it prints costs, readings, entries
 taken, and the links of the trimmed list machine as (source, next, weight, input link or None), of the small machines whose values
 crates/search/proofs/Bench.antt states. Weights are in units.
 
@@ -78,12 +78,14 @@ class Search:
         """entry i is state i + 1, and 0 the start; states that the start does not lead to, or that do not lead to state 1, go"""
         links = [(0, i + 1, 0, None) for i in self.listed]
         links += [(i + 1, e[2] + 1, e[1] - self.entries[e[2]][1], e[3]) for i, e in enumerate(self.entries) if i]
-        def closed(seen, step):
-            while True:
-                more = {step(k)[1] for k in links if step(k)[0] in seen} - seen
-                if not more: return seen
-                seen = seen | more
-        stay = sorted(closed({0}, lambda k: (k[0], k[1])) & closed({1}, lambda k: (k[1], k[0])))
+        def closed(first, step):
+            steps, seen, more = {}, {first}, [first]
+            for a, b in map(step, links): steps.setdefault(a, []).append(b)
+            while more:
+                more = [b for a in more for b in steps.get(a, []) if b not in seen]
+                seen.update(more)
+            return seen
+        stay = sorted(closed(0, lambda k: (k[0], k[1])) & closed(1, lambda k: (k[1], k[0])))
         number = {q: i for i, q in enumerate(stay)}
         return [(number[s], number[t], w, l) for s, t, w, l in links if s in number and t in number]
 
@@ -91,5 +93,6 @@ A = [(0, 64, 1), (0, 32, 2), (1, 16, 3), (1, 0, 2), (2, 48, 3)], [None, None, No
 B = [(0, 0, 1), (0, 0, 1), (1, 0, 2), (1, 0, 2), (1, 0, 2)], [None, None, 0], 0
 C = [(0, 7, 1), (1, 4, 2)], [0, 4, 0, 0], 1
 D = [(0, 0, 1), (0, 0, 2)], [0, 0, 0], 0
-for name, machine, n in (('A', A, 2), ('A', A, 3), ('A', A, 4), ('A', A, 64), ('B', B, 2), ('C', C, 3), ('D', D, 2)):
-    print(name, n, *Search(*machine, n).run())
+if __name__ == '__main__':
+    for name, machine, n in (('A', A, 2), ('A', A, 3), ('A', A, 4), ('A', A, 64), ('B', B, 2), ('C', C, 3), ('D', D, 2)):
+        print(name, n, *Search(*machine, n).run())

@@ -6,9 +6,8 @@ fractions and shares nothing with the library.
     python3 tools/sheet_cases.py > crates/replay_sheets/stdin
 """
 import itertools, random, struct
-from sheets import A, NONE, f, read_number, sheet, with_word
+from sheets import A, EMPTY, NONE, f, read_number, sheet, with_word
 
-EMPTY = sheet([], [], NONE)
 ONE = sheet([], [(0, 1, f(-2))], 0)
 TWO = sheet([(7, 9, f(3), 1)], [(1, 0, 0), (0, 1, f(1))], 0)
 LOOP = sheet([(1, 1, f(1), 0), (2, 2, f(2), 0)], [(2, 1, 0), (0, 0, 0)], 1)

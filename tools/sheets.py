@@ -1,5 +1,8 @@
-"""Sheets as the requirements lay them out, and their tests 1 to 4 with exact fractions: what the scripts beside this one share. It shares
-nothing with the library.
+"""Sheets as the requirements lay them out, their tests 1 to 6 and their distances with exact fractions, and how stored cases write bytes:
+what the scripts beside this one share. It shares nothing with the library.
+
+Stored bytes are in hexadecimal (- for none); *bbcccccc repeats the last bb bytes over cccccc bytes, and +bbcccccc too, with the last word one
+higher each time.
 """
 import math, struct
 from fractions import Fraction
@@ -43,6 +46,70 @@ def read_number(b):
     if any(mark == 1 and not on_grid(bits) for _, mark, bits in nodes): return 4
     return 0
 
+def sources(nodes): return [v for v, (count, _, _) in enumerate(nodes) for _ in range(count)]
+
+def input_number(b):
+    """the refusal from the input, 1 to 6, or 0"""
+    k = read_number(b)
+    if k: return k
+    links, nodes, _ = fields(b)
+    if len(nodes) > 4096 or len(links) > 16384: return 5
+    if any(link[3] <= v for v, link in zip(sources(nodes), links)): return 6
+    return 0
+
+def distances(b):
+    """a value per node up to the highest reached, None for an unreached one"""
+    links, nodes, start = fields(b)
+    least = [None] * len(nodes)
+    if start == NONE: return []
+    least[start] = Fraction(0)
+    for v, (_, _, bits, nxt) in zip(sources(nodes), links):
+        if least[v] is None: continue
+        to = least[v] + Fraction(real(bits))
+        if least[nxt] is None or to < least[nxt]: least[nxt] = to
+    return least[:1 + max(v for v, d in enumerate(least) if d is not None)]
+
+def climbing(n, ways, start, finals=None, label=lambda i: (i + 1, i + 1)):
+    """a sheet of n nodes from (source, weight, next), with the final weights of some nodes, or none of its nodes final but the last"""
+    ways, finals = sorted(ways, key=lambda w: w[0]), {n - 1: 0} if finals is None else finals
+    links = [(*label(i), f(weight), nxt) for i, (_, weight, nxt) in enumerate(ways)]
+    return sheet(links, [(sum(w[0] == v for w in ways), int(v in finals), f(finals.get(v, 0))) for v in range(n)], start)
+
+def raised(block):
+    w = struct.unpack('<H', block[-4:-2])[0]
+    return block[:-4] + struct.pack('<H', w + 1 & 0xFFFF) + block[-2:]
+
+def repeats(b, at, back, change):
+    """how many parts of so many bytes follow, each made by change from the one before"""
+    k = 0
+    while at >= back and at + back <= len(b) and b[at:at + back] == change(b[at - back:at]): at += back; k += 1
+    return k
+
+def written(b, least=16):
+    """bytes as stored, with the repeats of at least so many parts"""
+    out, at = [], 0
+    while at < len(b):
+        sign, back, k = max((('*+'[c], back, repeats(b, at, back, change)) for back in (4, 12, 16) for c, change in enumerate((bytes, raised))),
+                            key=lambda x: x[1] * x[2])
+        if k < least: out.append(b[at:at + 1].hex()); at += 1
+        else: out.append(f'{sign}{back:02x}{back * k:06x}'); at += back * k
+    return ''.join(out) or '-'
+
+def read(text):
+    """what `written` wrote"""
+    b, at = b'', 0
+    while at < len(text) and text != '-':
+        if text[at] not in '*+': b += bytes.fromhex(text[at:at + 2]); at += 2; continue
+        back, more = int(text[at + 1:at + 3], 16), int(text[at + 3:at + 9], 16)
+        parts = [b[-back:]]
+        for _ in range(more // back): parts.append(raised(parts[-1]) if text[at] == '+' else parts[-1])
+        b += b''.join(parts[1:]); at += 9
+    return b
+
 # Sheet A
 A = sheet([(1, 1, f(1), 1), (2, 2, f(.5), 2), (3, 3, f(.25), 3), (5, 5, f(0), 2), (4, 4, f(.75), 3)],
           [(2, 0, 0), (2, 0, 0), (1, 0, 0), (0, 1, f(.5))], 0)
+# the word at which its trailer begins
+TRAILER = len(A) // 4 - 5
+EMPTY = sheet([], [], NONE)
+CHAIN = sheet([(1, 1, f(64), v + 1) for v in range(4095)], [(1, 0, 0)] * 4095 + [(0, 1, f(64))], 0)
