@@ -4,3 +4,5 @@ pub mod TextBench
 pub mod Turns
 pub mod Walks
 pub mod RunCosts
+pub mod Listings
+pub mod Printing

@@ -1,2 +1,4 @@
 pub mod Text
 pub mod Ways
+pub mod Printed
+pub mod Held

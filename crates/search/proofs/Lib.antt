@@ -22,3 +22,4 @@ pub mod BackOne
 pub mod Lists
 pub mod Within
 pub mod Tallies
+pub mod Sizes

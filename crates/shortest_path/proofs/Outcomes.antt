@@ -26,10 +26,10 @@ beyond-part part work k j e size = subst (λ (i : ℕ). drop (8 * i) (part ++ dr
 
 -- ---- the number, by what was tested
 module _ (bytes : List ℕ) (n words room : ℕ) where
-  abbrev ofAreas : ℕ
+  abbrev pub ofAreas : ℕ
   ofAreas = cond (ltb (words / 8) (slotsNeeded bytes n)) 20 (cond (ltb room (length (answerOf bytes n))) 21 0)
 
-  number-input : (inputNumber bytes ≡ 0 → ⊥) → listNumber bytes n words room ≡ inputNumber bytes
+  pub number-input : (inputNumber bytes ≡ 0 → ⊥) → listNumber bytes n words room ≡ inputNumber bytes
   unfolding listNumber
   number-input h = ap (λ (b : Bool). cond (not b) (inputNumber bytes) (cond (ltb listLimit n) 7 ofAreas)) (ne-eqb (inputNumber bytes) 0 h)
 
@@ -37,7 +37,7 @@ module _ (bytes : List ℕ) (n words room : ℕ) where
   unfolding listNumber
   number-n e = ap (λ (k : ℕ). cond (not (eqb k 0)) k (cond (ltb listLimit n) 7 ofAreas)) e
 
-  number-areas : inputNumber bytes ≡ 0 → n ≤ listLimit → listNumber bytes n words room ≡ ofAreas
+  pub number-areas : inputNumber bytes ≡ 0 → n ≤ listLimit → listNumber bytes n words room ≡ ofAreas
   number-areas e h = number-n e ∙ ap (λ (b : Bool). cond b 7 ofAreas) (le-ltb listLimit n h)
 
   -- what the number 0 tells
