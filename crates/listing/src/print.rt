@@ -4,6 +4,7 @@ ghost use mathlib.Core.Path.{_≡_};
 ghost use mathlib.Core.List.{[], _++_};
 ghost use Prim.Native.Nat.{_+_, _*_, _≤_, _<_};
 ghost use lib.ListN.{length, getD};
+ghost use Rattle.io.specs.Counts.{Counts};
 ghost use Rattle.sheet.specs.Records.{trailerAt};
 ghost use Rattle.machine.specs.Input.{inputNumber};
 ghost use Rattle.shortest_distance.specs.Outcome.{machine as machineFor};
@@ -125,7 +126,8 @@ fn refusal(sheet: &[u8], n: u32) -> u32
 // The text for all that was read, one byte n and then a sheet; answers its length.
 pub fn print(read: &[u8], out: &mut [u8]) -> usize
     requires { ⌜ textMost ≤ length (now out) ⌝ }
-    ensures { λ r. ⌜ Puts (now (out .entry)) 0 (printed (now (read .entry))) (now (out .exit)) r × (r ≤ textMost) ⌝ }
+    ensures { λ r. ⌜ Puts (now (out .entry)) 0 (printed (now (read .entry))) (now (out .exit)) r ⌝ }
+    ensures { λ r. ⌜ Counts r (now (out .exit)) ⌝ }
 {
     if read.len() == 0 {
         return text::put_refused(out, 0, 1);

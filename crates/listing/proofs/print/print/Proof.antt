@@ -1,7 +1,11 @@
 use mathlib.Core.Path.{sym, ap, _∙_}
 use native.Mathlib.Omega.{arith}
-use lib.ListN.{getD}
+use mathlib.Core.List.{List}
+use Prim.Native.Nat.{ℕ, _≤_}
+use lib.ListN.{length, getD}
+use lib.Seq.{length-take-le}
 use denote.Ref.{now}
+use Rattle.io.specs.Counts.{Counts}
 use Rattle.listing.specs.Text.{refusedLine}
 use Rattle.listing.proofs.Storing.{puts-same}
 use Rattle.listing.proofs.Printing.{behind, printed-none, printed-some, printed-long, printed-large}
@@ -15,10 +19,14 @@ put-refused-requires c κs = search needs
 same-length : tie.Need-same-length
 same-length c = search needs
 
+-- a count within an area
+counts : (n : ℕ) (l : List ℕ) → n ≤ length l → Counts n l
+counts n l h = (h, sym (length-take-le n l h))
+
 returns : tie.Need-returns
 returns c =
     let a = c .before .before .before .before .before .before .before .args in
-    (puts-same (printed-none (now (a .read)) (c .before .before .before .before .if1 .taken)) (c .before .before .put-refused .ensures .0), omega (arith, c .before .before .put-refused .ensures .1))
+    (puts-same (printed-none (now (a .read)) (c .before .before .before .before .if1 .taken)) (c .before .before .put-refused .ensures .0), counts (c .before .before .put-refused .result) (c .before .before .put-refused .last .0) (omega (arith, c .before .before .put-refused .ensures .1, c .before .before .put-refused .kept .0, c .before .before .before .before .before .before .before .pre)))
 
 shared-slice-read-n : tie.Need-shared-slice-read-n
 shared-slice-read-n c = search needs
@@ -44,7 +52,7 @@ same-length-2 c = search needs
 returns-2 : tie.Need-returns-2
 returns-2 c =
     let a = c .before .before .before .before .before .before .before .before .before .before .args in
-    (puts-same (sym (printed-long (getD (now (a .read)) 0 0) (behind (now (a .read))) (c .before .before .before .before .if2 .taken)) ∙ printed-some (now (a .read)) (c .before .before .before .before .before .before .before .if1 .left)) (c .before .before .put-refused2 .ensures .0), omega (arith, c .before .before .put-refused2 .ensures .1))
+    (puts-same (sym (printed-long (getD (now (a .read)) 0 0) (behind (now (a .read))) (c .before .before .before .before .if2 .taken)) ∙ printed-some (now (a .read)) (c .before .before .before .before .before .before .before .if1 .left)) (c .before .before .put-refused2 .ensures .0), counts (c .before .before .put-refused2 .result) (c .before .before .put-refused2 .last .0) (omega (arith, c .before .before .put-refused2 .ensures .1, c .before .before .put-refused2 .kept .0, c .before .before .before .before .before .before .before .before .before .before .pre)))
 
 refusal-requires : tie.Need-refusal-requires
 refusal-requires c κs = search needs
@@ -58,7 +66,7 @@ same-length-3 c = search needs
 returns-3 : tie.Need-returns-3
 returns-3 c =
     let a = c .before .before .before .before .before .before .before .before .before .before .before .before .args in
-    (puts-same (ap refusedLine (c .before .before .before .refusal .ensures) ∙ sym (printed-large (getD (now (a .read)) 0 0) (behind (now (a .read))) (c .before .before .before .before .before .before .if2 .left) (c .before .before .before .before .before .if3 .taken)) ∙ printed-some (now (a .read)) (c .before .before .before .before .before .before .before .before .before .if1 .left)) (c .before .before .put-refused3 .ensures .0), omega (arith, c .before .before .put-refused3 .ensures .1))
+    (puts-same (ap refusedLine (c .before .before .before .refusal .ensures) ∙ sym (printed-large (getD (now (a .read)) 0 0) (behind (now (a .read))) (c .before .before .before .before .before .before .if2 .left) (c .before .before .before .before .before .if3 .taken)) ∙ printed-some (now (a .read)) (c .before .before .before .before .before .before .before .before .before .if1 .left)) (c .before .before .put-refused3 .ensures .0), counts (c .before .before .put-refused3 .result) (c .before .before .put-refused3 .last .0) (omega (arith, c .before .before .put-refused3 .ensures .1, c .before .before .put-refused3 .kept .0, c .before .before .before .before .before .before .before .before .before .before .before .before .pre)))
 
 put-few-requires : tie.Need-put-few-requires
 put-few-requires c κs = search needs
@@ -69,7 +77,7 @@ same-length-4 c = search needs
 returns-4 : tie.Need-returns-4
 returns-4 c =
     let a = c .before .before .before .before .before .before .before .before .before .before .before .args in
-    (puts-same (printed-some (now (a .read)) (c .before .before .before .before .before .before .before .before .if1 .left)) (c .before .before .put-few .ensures .0), c .before .before .put-few .ensures .1)
+    (puts-same (printed-some (now (a .read)) (c .before .before .before .before .before .before .before .before .if1 .left)) (c .before .before .put-few .ensures .0), counts (c .before .before .put-few .result) (c .before .before .put-few .last .1 .1 .0) (omega (arith, c .before .before .put-few .ensures .1, c .before .before .put-few .kept .1 .1 .0, c .before .before .before .before .before .before .before .before .before .before .before .pre)))
 
 pub print-spec : {M : Type 1} → statement M
 print-spec =
