@@ -1,6 +1,6 @@
 -- What is printed, by the way the code goes, and that its areas are long enough. Assumes nothing.
 use mathlib.Core.Path.{_≡_, refl, sym, ap, _∙_, subst}
-use mathlib.Core.Bool.{Bool, true, false, not, cond}
+use mathlib.Core.Bool.{Bool, true, false, cond}
 use mathlib.Core.List.{List, [], _∷_, _++_}
 use Prim.Native.Nat.{ℕ, zero, suc, _+_, _-_, _*_, _/_, _≤_, _<_}
 use native.Mathlib.Nat.{mul-le-mul-right}
@@ -27,45 +27,18 @@ use Rattle.search.proofs.Sizes as Sizes
 use Rattle.search.proofs.Sizes.{result-length, zero-holds, one-holds, many-holds}
 use Rattle.slots.specs.declared.Listed.{Listed}
 use Rattle.slots.specs.declared.Listed.the-variants.{Made, Refused}
-use Rattle.shortest_path.specs.Outcome.{resultOf, answerOf, slotsNeeded, listNumber, listBy, listAnswer, resultAfter}
+use Rattle.shortest_path.specs.Outcome.{resultOf, answerOf, slotsNeeded, testedNumber, listNumber, listBy, listAnswer, resultAfter}
 use Rattle.shortest_path.proofs.Joining.{slots-many}
-use Rattle.shortest_path.proofs.Outcomes.{number-input, number-areas}
+use Rattle.shortest_path.proofs.Outcomes.{tested-input, tested-last, tested-zero, number-input, number-areas}
 use Rattle.listing.specs.Text.{refusedLine}
 use Rattle.listing.specs.Held.{Held}
-use Rattle.listing.specs.Printed.{sheetMost, listMost, testedNumber, listingNumber, listingText, printedFor, printed}
+use Rattle.listing.specs.Printed.{sheetMost, listMost, listingNumber, listingText, printedFor, printed}
 
 -- ---- the number, by what was tested
-module _ (n : ℕ) (sheet : List ℕ) (last : ℕ) where
-  pub tested-input : (inputNumber sheet ≡ 0 → ⊥) → testedNumber n sheet last ≡ inputNumber sheet
-  unfolding testedNumber
-  tested-input h = ap (λ (b : Bool). cond (not b) (inputNumber sheet) (cond (ltb listLimit n) 7 last)) (ne-eqb (inputNumber sheet) 0 h)
-
-  tested-n : inputNumber sheet ≡ 0 → testedNumber n sheet last ≡ cond (ltb listLimit n) 7 last
-  unfolding testedNumber
-  tested-n e = ap (λ (k : ℕ). cond (not (eqb k 0)) k (cond (ltb listLimit n) 7 last)) e
-
-  pub tested-seven : inputNumber sheet ≡ 0 → listLimit < n → testedNumber n sheet last ≡ 7
-  tested-seven e h = tested-n e ∙ ap (λ (b : Bool). cond b 7 last) (lt-ltb listLimit n h)
-
-  pub tested-last : inputNumber sheet ≡ 0 → n ≤ listLimit → testedNumber n sheet last ≡ last
-  tested-last e h = tested-n e ∙ ap (λ (b : Bool). cond b 7 last) (le-ltb listLimit n h)
-
-  -- where the last is a refusal, there is one
-  tested-some : (last ≡ 0 → ⊥) → testedNumber n sheet last ≡ 0 → ⊥
-  tested-some h z = go (eqb (inputNumber sheet) 0) refl
-    where
-      go : (b : Bool) → eqb (inputNumber sheet) 0 ≡ b → ⊥
-      go false q = let ne = eqb-false (inputNumber sheet) 0 q in ne (sym (tested-input ne) ∙ z)
-      go true q = let e = eqb-true (inputNumber sheet) 0 q in large (ltb listLimit n) (sym (tested-n e) ∙ z)
-        where
-          large : (b : Bool) → cond b 7 last ≡ 0 → ⊥
-          large true y = omega (arith, y)
-          large false y = h y
-
 module _ (n : ℕ) (sheet : List ℕ) where
-  number-short : length sheet ≤ sheetMost → listingNumber n sheet ≡ testedNumber n sheet (cond (ltb listMost n) 20 0)
+  number-short : length sheet ≤ sheetMost → listingNumber n sheet ≡ testedNumber sheet n (cond (ltb listMost n) 20 0)
   unfolding listingNumber
-  number-short h = ap (λ (b : Bool). cond b 20 (testedNumber n sheet (cond (ltb listMost n) 20 0))) (le-ltb sheetMost (length sheet) h)
+  number-short h = ap (λ (b : Bool). cond b 20 (testedNumber sheet n (cond (ltb listMost n) 20 0))) (le-ltb sheetMost (length sheet) h)
 
   -- a refusal's line
   refused-is : (k : ℕ) → (k ≡ 0 → ⊥) → listingNumber n sheet ≡ k → printedFor n sheet ≡ refusedLine k
@@ -73,22 +46,22 @@ module _ (n : ℕ) (sheet : List ℕ) where
 
   pub printed-long : sheetMost < length sheet → printedFor n sheet ≡ refusedLine 20
   unfolding listingNumber
-  printed-long h = refused-is 20 (λ z. omega (arith, z)) (ap (λ (b : Bool). cond b 20 (testedNumber n sheet (cond (ltb listMost n) 20 0))) (lt-ltb sheetMost (length sheet) h))
+  printed-long h = refused-is 20 (λ z. omega (arith, z)) (ap (λ (b : Bool). cond b 20 (testedNumber sheet n (cond (ltb listMost n) 20 0))) (lt-ltb sheetMost (length sheet) h))
 
-  pub printed-large : length sheet ≤ sheetMost → listMost < n → printedFor n sheet ≡ refusedLine (testedNumber n sheet 20)
+  pub printed-large : length sheet ≤ sheetMost → listMost < n → printedFor n sheet ≡ refusedLine (testedNumber sheet n 20)
   printed-large h b =
-      refused-is (testedNumber n sheet 20) (tested-some n sheet 20 (λ z. omega (arith, z)))
-      (number-short h ∙ ap (λ (t : Bool). testedNumber n sheet (cond t 20 0)) (lt-ltb listMost n b))
+      refused-is (testedNumber sheet n 20) (λ z. let passed = tested-zero sheet n 20 z in omega (arith, sym (tested-last sheet n 20 (passed .0) (passed .1)) ∙ z))
+      (number-short h ∙ ap (λ (t : Bool). testedNumber sheet n (cond t 20 0)) (lt-ltb listMost n b))
 
   module _ (h : length sheet ≤ sheetMost) (b : n ≤ listMost) where
-    few-number : listingNumber n sheet ≡ testedNumber n sheet 0
-    few-number = number-short h ∙ ap (λ (t : Bool). testedNumber n sheet (cond t 20 0)) (le-ltb listMost n b)
+    few-number : listingNumber n sheet ≡ testedNumber sheet n 0
+    few-number = number-short h ∙ ap (λ (t : Bool). testedNumber sheet n (cond t 20 0)) (le-ltb listMost n b)
 
     pub printed-refused : (k : ℕ) → (k ≡ 0 → ⊥) → inputNumber sheet ≡ k → printedFor n sheet ≡ refusedLine k
-    printed-refused k ne e = refused-is k ne (few-number ∙ tested-input n sheet 0 (λ z. ne (sym e ∙ z)) ∙ e)
+    printed-refused k ne e = refused-is k ne (few-number ∙ tested-input sheet n 0 (λ z. ne (sym e ∙ z)) ∙ e)
 
     pub printed-listed : inputNumber sheet ≡ 0 → listingText (machine sheet) n ≡ printedFor n sheet
-    printed-listed e = sym (ap (λ (j : ℕ). cond (eqb j 0) (listingText (machine sheet) n) (refusedLine j)) (few-number ∙ tested-last n sheet 0 e (omega arith)))
+    printed-listed e = sym (ap (λ (j : ℕ). cond (eqb j 0) (listingText (machine sheet) n) (refusedLine j)) (few-number ∙ tested-last sheet n 0 e (omega arith)))
 
 -- an accepted sheet has a trailer
 pub in-sheet-trailer : (sheet : List ℕ) → inputNumber sheet ≡ 0 → 20 ≤ length sheet

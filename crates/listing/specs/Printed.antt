@@ -1,18 +1,17 @@
 -- What the listing program prints for the bytes that it reads. Definitions only.
-use mathlib.Core.Bool.{not, cond}
+use mathlib.Core.Bool.{cond}
 use mathlib.Core.List.{List, [], _∷_, _++_, map}
 use Prim.Native.Nat.{ℕ, suc}
 use lib.Dec.{ltb, eqb}
 use lib.IntN.{ℤ, pos}
 use lib.ListN.{length}
-use Rattle.tropical_weight.specs.Limits.{listLimit}
 use Rattle.tropical_weight.specs.Tropical.{Tropical, fin, inf}
 use Rattle.sheet.specs.Machine.{Machine}
 use Rattle.machine.specs.Readings.{link, readingOf, readingCost}
-use Rattle.machine.specs.Input.{inputNumber}
 use Rattle.shortest_distance.specs.Outcome.{machine}
 use Rattle.search.specs.ListMachine.{resultFor, resultBytes}
 use Rattle.search.specs.Listed.{listOf}
+use Rattle.shortest_path.specs.Outcome.{testedNumber}
 use Rattle.listing.specs.Text.{firstLine, refusedLine, lineOf}
 
 -- the most bytes of a sheet, and the largest n, that the program lists
@@ -26,15 +25,10 @@ listMost = 4
 abbrev pub textMost : ℕ
 textMost = 49152
 
--- the first number of 1 to 7 whose test fails, or else the last
-unfoldable pub testedNumber : ℕ → List ℕ → ℕ → ℕ
-unfolding inputNumber
-testedNumber n sheet last = let k = inputNumber sheet in cond (not (eqb k 0)) k (cond (ltb listLimit n) 7 last)
-
 -- The number of the refusal, or 0: more than 4,096 sheet bytes before any other test; then 1 to 7; then n from 5 to 64.
 unfoldable pub listingNumber : ℕ → List ℕ → ℕ
 unfolding testedNumber
-listingNumber n sheet = cond (ltb sheetMost (length sheet)) 20 (testedNumber n sheet (cond (ltb listMost n) 20 0))
+listingNumber n sheet = cond (ltb sheetMost (length sheet)) 20 (testedNumber sheet n (cond (ltb listMost n) 20 0))
 
 -- the units of a cost; no reading's cost is infinite
 abbrev pub unitsIn : Tropical → ℤ

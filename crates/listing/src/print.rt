@@ -8,9 +8,10 @@ ghost use Rattle.io.specs.Counts.{Counts};
 ghost use Rattle.sheet.specs.Records.{trailerAt};
 ghost use Rattle.machine.specs.Input.{inputNumber};
 ghost use Rattle.shortest_distance.specs.Outcome.{machine as machineFor};
+ghost use Rattle.shortest_path.specs.Outcome.{testedNumber};
 ghost use Rattle.listing.specs.Text.{Puts, firstLine};
 ghost use Rattle.listing.specs.Held.{Held};
-ghost use Rattle.listing.specs.Printed.{sheetMost, listMost, textMost, testedNumber, listFor, readingLine, readingLines, printedFor, printed};
+ghost use Rattle.listing.specs.Printed.{sheetMost, listMost, textMost, listFor, readingLine, readingLines, printedFor, printed};
 use crate::text;
 use crate::ways;
 use machine::input::input;
@@ -115,7 +116,7 @@ fn put_few(sheet: &[u8], n: u32, out: &mut [u8]) -> usize
 
 // The refusal of an n that there are no areas for, after tests 1 to 7.
 fn refusal(sheet: &[u8], n: u32) -> u32
-    ensures { λ r. ⌜ r ≡ testedNumber n (now (sheet .entry)) 20 ⌝ }
+    ensures { λ r. ⌜ r ≡ testedNumber (now (sheet .entry)) n 20 ⌝ }
 {
     match input(sheet) {
         Tested::Refused(k) => k,

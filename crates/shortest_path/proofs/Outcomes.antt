@@ -18,39 +18,53 @@ use Rattle.search.specs.ListMachine.{resultFor, resultBytes}
 use Rattle.slots.specs.declared.Listed.{Listed}
 use Rattle.slots.specs.declared.Listed.the-variants.{Refused}
 use Rattle.slots.specs.ListAnswer.{listedBy, listedIn, listedOver}
-use Rattle.shortest_path.specs.Outcome.{resultOf, answerOf, slotsNeeded, listNumber, listBy, listAnswer, workAfter, resultAfter}
+use Rattle.shortest_path.specs.Outcome.{resultOf, answerOf, slotsNeeded, testedNumber, areasNumber, listNumber, listBy, listAnswer, workAfter, resultAfter}
 
 -- a part of so many slots put back leaves what is beyond it
 pub beyond-part : (part work : List ℕ) (k j : ℕ) → k ≡ j → length part ≡ 8 * k → drop (8 * j) (part ++ drop (8 * k) work) ≡ drop (8 * j) work
 beyond-part part work k j e size = subst (λ (i : ℕ). drop (8 * i) (part ++ drop (8 * k) work) ≡ drop (8 * i) work) e (drop-at part (drop (8 * k) work) (8 * k) size)
 
 -- ---- the number, by what was tested
-module _ (bytes : List ℕ) (n words room : ℕ) where
-  abbrev pub ofAreas : ℕ
-  ofAreas = cond (ltb (words / 8) (slotsNeeded bytes n)) 20 (cond (ltb room (length (answerOf bytes n))) 21 0)
+module _ (bytes : List ℕ) (n last : ℕ) where
+  pub tested-input : (inputNumber bytes ≡ 0 → ⊥) → testedNumber bytes n last ≡ inputNumber bytes
+  unfolding testedNumber
+  tested-input h = ap (λ (b : Bool). cond (not b) (inputNumber bytes) (cond (ltb listLimit n) 7 last)) (ne-eqb (inputNumber bytes) 0 h)
 
-  pub number-input : (inputNumber bytes ≡ 0 → ⊥) → listNumber bytes n words room ≡ inputNumber bytes
-  unfolding listNumber
-  number-input h = ap (λ (b : Bool). cond (not b) (inputNumber bytes) (cond (ltb listLimit n) 7 ofAreas)) (ne-eqb (inputNumber bytes) 0 h)
+  tested-n : inputNumber bytes ≡ 0 → testedNumber bytes n last ≡ cond (ltb listLimit n) 7 last
+  unfolding testedNumber
+  tested-n e = ap (λ (k : ℕ). cond (not (eqb k 0)) k (cond (ltb listLimit n) 7 last)) e
 
-  number-n : inputNumber bytes ≡ 0 → listNumber bytes n words room ≡ cond (ltb listLimit n) 7 ofAreas
-  unfolding listNumber
-  number-n e = ap (λ (k : ℕ). cond (not (eqb k 0)) k (cond (ltb listLimit n) 7 ofAreas)) e
+  pub tested-seven : inputNumber bytes ≡ 0 → listLimit < n → testedNumber bytes n last ≡ 7
+  tested-seven e h = tested-n e ∙ ap (λ (b : Bool). cond b 7 last) (lt-ltb listLimit n h)
 
-  pub number-areas : inputNumber bytes ≡ 0 → n ≤ listLimit → listNumber bytes n words room ≡ ofAreas
-  number-areas e h = number-n e ∙ ap (λ (b : Bool). cond b 7 ofAreas) (le-ltb listLimit n h)
+  pub tested-last : inputNumber bytes ≡ 0 → n ≤ listLimit → testedNumber bytes n last ≡ last
+  tested-last e h = tested-n e ∙ ap (λ (b : Bool). cond b 7 last) (le-ltb listLimit n h)
 
   -- what the number 0 tells
-  pub number-zero : listNumber bytes n words room ≡ 0 → (inputNumber bytes ≡ 0) × (n ≤ listLimit)
-  number-zero z = let e = input-zero (eqb (inputNumber bytes) 0) refl in (e, n-few e (ltb listLimit n) refl)
+  pub tested-zero : testedNumber bytes n last ≡ 0 → (inputNumber bytes ≡ 0) × (n ≤ listLimit)
+  tested-zero z = let e = input-zero (eqb (inputNumber bytes) 0) refl in (e, n-few e (ltb listLimit n) refl)
     where
       input-zero : (b : Bool) → eqb (inputNumber bytes) 0 ≡ b → inputNumber bytes ≡ 0
       input-zero true q = eqb-true (inputNumber bytes) 0 q
-      input-zero false q = sym (number-input (eqb-false (inputNumber bytes) 0 q)) ∙ z
+      input-zero false q = sym (tested-input (eqb-false (inputNumber bytes) 0 q)) ∙ z
 
       n-few : inputNumber bytes ≡ 0 → (b : Bool) → ltb listLimit n ≡ b → n ≤ listLimit
-      n-few e true q = let seven : _≡_ {A = ℕ} 7 0 = sym (number-n e ∙ ap (λ (b : Bool). cond b 7 ofAreas) q) ∙ z in absurd (omega (arith, seven))
+      n-few e true q = let seven : _≡_ {A = ℕ} 7 0 = sym (tested-n e ∙ ap (λ (b : Bool). cond b 7 last) q) ∙ z in absurd (omega (arith, seven))
       n-few e false q = ltb-false listLimit n q
+
+module _ (bytes : List ℕ) (n words room : ℕ) where
+  pub number-tested : listNumber bytes n words room ≡ testedNumber bytes n (areasNumber bytes n words room)
+  unfolding listNumber
+  number-tested = refl
+
+  pub number-input : (inputNumber bytes ≡ 0 → ⊥) → listNumber bytes n words room ≡ inputNumber bytes
+  number-input h = number-tested ∙ tested-input bytes n (areasNumber bytes n words room) h
+
+  pub number-areas : inputNumber bytes ≡ 0 → n ≤ listLimit → listNumber bytes n words room ≡ areasNumber bytes n words room
+  number-areas e h = number-tested ∙ tested-last bytes n (areasNumber bytes n words room) e h
+
+  pub number-zero : listNumber bytes n words room ≡ 0 → (inputNumber bytes ≡ 0) × (n ≤ listLimit)
+  number-zero z = tested-zero bytes n (areasNumber bytes n words room) (sym number-tested ∙ z)
 
 module _ (bytes : List ℕ) (n : ℕ) (work result : List ℕ) where
   pub record Outcome (answer : Listed) (work′ result′ : List ℕ) : Type 0 where
@@ -76,7 +90,7 @@ module _ (bytes : List ℕ) (n : ℕ) (work result : List ℕ) where
     pub outcome-7 : listLimit < n → Outcome (Refused 7) work result
     outcome-7 h =
         early 7 (λ z. omega arith) (λ z. omega arith)
-        (number-n bytes n (length work) (length result) e ∙ ap (λ (b : Bool). cond b 7 (ofAreas bytes n (length work) (length result))) (lt-ltb listLimit n h))
+        (number-tested bytes n (length work) (length result) ∙ tested-seven bytes n (areasNumber bytes n (length work) (length result)) e h)
 
     module _ (few : n ≤ listLimit) where
       pub outcome-20 : length work / 8 < slotsNeeded bytes n → Outcome (Refused 20) work result

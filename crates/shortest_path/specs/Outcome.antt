@@ -25,13 +25,19 @@ answerOf bytes n = resultBytes (resultOf bytes n)
 abbrev pub slotsNeeded : List ℕ → ℕ → ℕ
 slotsNeeded bytes n = slotsFor (machine bytes) n
 
--- The number of the refusal, or 0: 1 to 6, then 7, then 20 and 21. The work area has so many words, the result area so many bytes.
+-- the first number of 1 to 7 whose test fails, or else the last
+unfoldable pub testedNumber : List ℕ → ℕ → ℕ → ℕ
+unfolding inputNumber
+testedNumber bytes n last = let k = inputNumber bytes in cond (not (eqb k 0)) k (cond (ltb listLimit n) 7 last)
+
+-- 20, 21 or 0. The work area has so many words, the result area so many bytes.
+abbrev pub areasNumber : List ℕ → ℕ → ℕ → ℕ → ℕ
+areasNumber bytes n words room = cond (ltb (words / 8) (slotsNeeded bytes n)) 20 (cond (ltb room (length (answerOf bytes n))) 21 0)
+
+-- the number of the refusal, or 0: 1 to 7, then 20 and 21
 unfoldable pub listNumber : List ℕ → ℕ → ℕ → ℕ → ℕ
-unfolding inputNumber resultFor resultBytes
-listNumber bytes n words room =
-    let k = inputNumber bytes in
-    let state : ℕ = cond (ltb (words / 8) (slotsNeeded bytes n)) 20 (cond (ltb room (length (answerOf bytes n))) 21 0) in
-    cond (not (eqb k 0)) k (cond (ltb listLimit n) 7 state)
+unfolding testedNumber resultFor resultBytes
+listNumber bytes n words room = testedNumber bytes n (areasNumber bytes n words room)
 
 -- what the call answers: the counts of the machine's nodes and links and of the entries taken, or the number alone
 abbrev pub listBy : Bool → Result → ℕ → Listed
