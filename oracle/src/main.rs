@@ -1,0 +1,86 @@
+//! Prints what the Rust answers: to the bench values, to random cases, to sheets on standard input.
+
+use std::io::{self, BufWriter, Write};
+use std::process::ExitCode;
+
+use oracle::bytes::{self, from_hex, hex};
+use oracle::cases::{Case, Cases};
+use oracle::{bench, reference};
+
+const USAGE: &str = "usage:
+  oracle self              checks bench values of the requirements
+  oracle cases SEED COUNT  prints random cases, one a line, with what is expected
+  oracle answer            the same for sheets read from standard input: SHEET N, one a line";
+
+/// The sheet, n, the distances, the nodes and links of the list's machine, the entries taken, and the
+/// result; bytes in hexadecimal, - for none.
+fn line(case: &Case) -> String {
+    let distances = reference::distances(&case.machine);
+    let list = reference::list(&case.machine, case.n);
+    format!(
+        "{} {} {} {} {} {} {}",
+        hex(&bytes::sheet(&case.machine)),
+        case.n,
+        hex(&bytes::distances(&distances)),
+        list.machine.nodes.len(),
+        list.words.len(),
+        list.taken,
+        hex(&bytes::list(&list))
+    )
+}
+
+fn own_checks() -> bool {
+    let checks = bench::checks();
+    for (what, holds) in &checks {
+        println!("{} {what}", if *holds { "ok  " } else { "FAIL" });
+    }
+    let failed = checks.iter().filter(|check| !check.1).count();
+    println!("{} passed, {failed} failed", checks.len() - failed);
+    failed == 0
+}
+
+fn print_cases(cases: impl Iterator<Item = Case>) -> io::Result<()> {
+    let mut out = BufWriter::new(io::stdout().lock());
+    for case in cases {
+        writeln!(out, "{}", line(&case))?;
+    }
+    out.flush()
+}
+
+/// The case of a line with a sheet that is laid out as it must be, and n.
+fn asked(line: &str) -> Option<Case> {
+    let (sheet, n) = line.split_once(' ')?;
+    Some(Case {
+        machine: bytes::machine(&from_hex(sheet)?),
+        n: n.trim().parse().ok()?,
+    })
+}
+
+fn run(arguments: &[&str]) -> Option<bool> {
+    match arguments {
+        ["self"] => Some(own_checks()),
+        ["cases", seed, count] => {
+            let cases = Cases::new(seed.parse().ok()?).take(count.parse().ok()?);
+            Some(print_cases(cases).is_ok())
+        }
+        ["answer"] => {
+            let lines = io::stdin().lines().map_while(Result::ok);
+            let cases = lines.map(|line| asked(&line).expect("SHEET N"));
+            Some(print_cases(cases).is_ok())
+        }
+        _ => None,
+    }
+}
+
+fn main() -> ExitCode {
+    let arguments: Vec<String> = std::env::args().skip(1).collect();
+    let arguments: Vec<&str> = arguments.iter().map(String::as_str).collect();
+    match run(&arguments) {
+        Some(true) => ExitCode::SUCCESS,
+        Some(false) => ExitCode::FAILURE,
+        None => {
+            eprintln!("{USAGE}");
+            ExitCode::from(2)
+        }
+    }
+}

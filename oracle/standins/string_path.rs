@@ -1,0 +1,3 @@
+//! Stand-in: a name.
+
+pub struct StringPath {}
