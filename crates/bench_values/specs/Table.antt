@@ -1,5 +1,4 @@
 -- Cases P1 to P9 of document 01: one table of what the calls tell and what the document states. Definitions only.
-use mathlib.Core.Bool.{Bool}
 use mathlib.Core.List.{List, [], _∷_, map}
 use Prim.Native.Nat.{ℕ}
 use lib.IntN.{pos}

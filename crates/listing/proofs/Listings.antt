@@ -1,7 +1,7 @@
 -- The list that a result area holds, line by line. Assumes nothing.
 use mathlib.Core.Path.{_≡_, refl, sym, ap, _∙_, subst}
 use mathlib.Core.List.{List, [], _∷_, _++_, map, append-assoc, append-nil}
-use Prim.Native.Nat.{ℕ, zero, suc, _+_, _*_, _≤_, _<_, min}
+use Prim.Native.Nat.{ℕ, zero, suc, _+_, _≤_, _<_}
 use native.Mathlib.Nat.{add-zero}
 use native.Mathlib.Omega.{arith}
 use lib.IntN.{ℤ}
@@ -12,7 +12,6 @@ use Rattle.sheet.specs.declared.tr.Trailer.{Trailer}
 use Rattle.sheet.specs.Machine.{Machine}
 use Rattle.sheet.proofs.Round.{Below}
 use Rattle.machine.specs.Readings.{link, readings, readingOf, readingCost, IsReading}
-use Rattle.machine.specs.Input.{inputNumber}
 use Rattle.machine.proofs.Lists.{map-same}
 use Rattle.machine.proofs.Runs.{run-in}
 use Rattle.shortest_distance.specs.Outcome.{machine}
@@ -22,7 +21,7 @@ use Rattle.search.proofs.Lists.{Accepted, accepted, listIn, demand-result}
 use Rattle.search.proofs.Results.{empty-back}
 use Rattle.search.proofs.Sizes.{rest-same}
 use Rattle.single_path.proofs.SheetFields.{ilabel-at}
-use Rattle.shortest_path.specs.Outcome.{resultOf, answerOf}
+use Rattle.shortest_path.specs.Outcome.{answerOf}
 use Rattle.shortest_path.proofs.Joining.{zero-empty}
 use Rattle.listing.specs.Text.{Puts, labelsOf, lineOf}
 use Rattle.listing.specs.Ways.{readingCount, readingNumbers, Readable}

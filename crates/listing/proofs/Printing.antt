@@ -1,18 +1,16 @@
 -- What is printed, by the way the code goes, and that its areas are long enough. Assumes nothing.
-use mathlib.Core.Path.{_≡_, refl, sym, ap, _∙_, subst}
+use mathlib.Core.Path.{_≡_, refl, sym, ap, _∙_}
 use mathlib.Core.Bool.{Bool, true, false, cond}
 use mathlib.Core.List.{List, [], _∷_, _++_}
-use Prim.Native.Nat.{ℕ, zero, suc, _+_, _-_, _*_, _/_, _≤_, _<_}
+use Prim.Native.Nat.{ℕ, zero, suc, _+_, _-_, _*_, _≤_, _<_}
 use native.Mathlib.Nat.{mul-le-mul-right}
 use native.Mathlib.Omega.{arith}
 use lib.Dec.{ltb, eqb}
 use lib.ListN.{length, getD, take, drop}
 use lib.Seq.{drop-append-seam, take-all}
-use borrow.Author.Tests.{lt-ltb, le-ltb, ne-eqb, eq-eqb, eqb-true, eqb-false}
-use Rattle.tropical_weight.specs.Limits.{listLimit}
+use borrow.Author.Tests.{lt-ltb, le-ltb, ne-eqb, eqb-true, eqb-false}
 use Rattle.sheet.specs.declared.tr.Trailer.{Trailer}
 use Rattle.sheet.specs.Machine.{Machine}
-use Rattle.sheet.specs.Sheet.{partsOf, statedLinks, statedNodes}
 use Rattle.sheet.specs.Records.{trailerAt}
 use Rattle.sheet.proofs.Fields.{length-read, read-fits}
 use Rattle.sheet.proofs.Round.{Below}
@@ -20,12 +18,10 @@ use Rattle.machine.specs.Input.{inputNumber}
 use Rattle.machine.proofs.Accepted.{input-read}
 use Rattle.shortest_distance.specs.Outcome.{machine}
 use Rattle.shortest_distance.proofs.Accepted as Stated
-use Rattle.search.specs.Search.{marked, mostTaken}
-use Rattle.search.specs.ListMachine.{Result, resultFor, resultBytes}
+use Rattle.search.specs.Search.{marked}
+use Rattle.search.specs.ListMachine.{resultFor}
 use Rattle.search.proofs.Lists.{Accepted, accepted, marked-few}
-use Rattle.search.proofs.Sizes as Sizes
 use Rattle.search.proofs.Sizes.{result-length, zero-holds, one-holds, many-holds}
-use Rattle.slots.specs.declared.Listed.{Listed}
 use Rattle.slots.specs.declared.Listed.the-variants.{Made, Refused}
 use Rattle.shortest_path.specs.Outcome.{resultOf, answerOf, slotsNeeded, testedNumber, listNumber, listBy, listAnswer, resultAfter}
 use Rattle.shortest_path.proofs.Joining.{slots-many}

@@ -5,8 +5,6 @@ ghost use mathlib.Core.List.{[], _++_};
 ghost use Prim.Native.Nat.{_+_, _*_, _≤_, _<_};
 ghost use lib.ListN.{length, getD};
 ghost use Rattle.io.specs.Counts.{Counts};
-ghost use Rattle.sheet.specs.Records.{trailerAt};
-ghost use Rattle.machine.specs.Input.{inputNumber};
 ghost use Rattle.shortest_distance.specs.Outcome.{machine as machineFor};
 ghost use Rattle.shortest_path.specs.Outcome.{testedNumber};
 ghost use Rattle.listing.specs.Text.{Puts, firstLine};

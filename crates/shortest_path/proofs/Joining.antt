@@ -38,7 +38,6 @@ use Rattle.search.proofs.Trims.{trimmed-is}
 use Rattle.slots.specs.Slots.{nothing, listedWord, distanceWord, visitsWord}
 use Rattle.slots.specs.ListAnswer.{endWord, slotsOf, slotsFor, listedIn, listedOver}
 use Rattle.reversed_machine.specs.ReverseWords.{finalsAt, finalCount}
-use Rattle.reversed_machine.specs.Laid as Laying
 use Rattle.reversed_machine.specs.Laid.{Reversal}
 use Rattle.shortest_distance.proofs.Accepted.{links-are, nodes-are}
 use Rattle.reversed_machine.proofs.Granted.{tells}

@@ -14,7 +14,6 @@ use Rattle.machine.specs.Input.{inputNumber}
 use Rattle.shortest_distance.specs.Slots.{cleared}
 use Rattle.shortest_distance.proofs.Outcomes.{neither}
 use Rattle.shortest_distance.proofs.Areas.{cleared-same}
-use Rattle.search.specs.ListMachine.{resultFor, resultBytes}
 use Rattle.slots.specs.declared.Listed.{Listed}
 use Rattle.slots.specs.declared.Listed.the-variants.{Refused}
 use Rattle.slots.specs.ListAnswer.{listedBy, listedIn, listedOver}
