@@ -15,6 +15,7 @@ use Rattle.sheet.specs.Words.{bytesOfAll}
 use Rattle.sheet.specs.Sheet.{Parts, linkCount, nodeCount, count, mark, finalBits, linkBits, next, recordsFit, verdict, writeNumber, sheetOf, sheetLength, trailerOf}
 use Rattle.sheet.specs.Tests.{nodeTests, linkTests, judged}
 use Rattle.sheet.specs.Answers.{written, writtenBy, writtenOver}
+use Rattle.sheet.proofs.Apart.{not-zero}
 use Rattle.sheet.proofs.Bytes.{sets-append, bytesOfAll-append, length-bytesOfAll}
 use Rattle.sheet.proofs.Fields.{Fields, verdict-judged}
 
@@ -34,10 +35,6 @@ sheet-stores l links nodes trailer =
     ∙ ap (λ (m : List ℕ). sets l 0 m) (ap (λ (m : List ℕ). m ++ C) (sym (bytesOfAll-append links nodes)) ∙ sym (bytesOfAll-append (links ++ nodes) trailer))
 
 -- ---- the number
--- what is told apart by a number that is not 0
-pub not-zero : (k : ℕ) (x y : List ℕ) → (k ≡ 0 → ⊥) → cond (eqb k 0) x y ≡ y
-not-zero k x y a = ap (λ (b : Bool). cond b x y) (ne-eqb k 0 a)
-
 module _ (p : Parts) where
   -- what the test of records says
   pub records : recordsFit p ≡ true → (length (p .links) % 4 ≡ 0) × (length (p .nodes) % 3 ≡ 0) × (nodeCount p < 2 ^ 32) × (16 * linkCount p < 2 ^ 32)

@@ -32,7 +32,8 @@ use Rattle.shortest_distance.specs.Relaxation.{State, relaxHeads}
 use Rattle.shortest_distance.specs.Sound.{Sound, Made}
 use Rattle.shortest_distance.specs.Outcome.{machine}
 use Rattle.shortest_distance.proofs.Areas.{length-prepared, prepared-distance, prepared-beyond}
-use Rattle.shortest_distance.proofs.Offers.{isFinite, bits-inf}
+use Rattle.tropical_weight.proofs.Semiring.{isFinite}
+use Rattle.shortest_distance.proofs.Offers.{bits-inf}
 use Rattle.shortest_distance.proofs.Rows.{Holds, Final, heads}
 use Rattle.shortest_distance.proofs.Accepted.{reads, nodes-are}
 use Rattle.shortest_distance.proofs.Starts.{begun-holds}

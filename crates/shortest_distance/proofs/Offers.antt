@@ -1,16 +1,16 @@
 -- One offer of a distance: on the bits of values of the semiring it is exactly ⊕ and ⊗. Assumes nothing.
-use mathlib.Core.Path.{_≡_, refl, sym, ap, _∙_, subst}
-use mathlib.Core.Bool.{Bool, true, false, not, _&&_, _||_, cond, and-false}
+use mathlib.Core.Path.{_≡_, refl, sym, ap, _∙_}
+use mathlib.Core.Bool.{Bool, true, false, not, _&&_, cond, and-false}
 use Prim.Native.Nat.{ℕ, _≤_}
 use native.Mathlib.Omega.{arith}
-use lib.Dec.{T, eqb, lit≤}
+use lib.Dec.{eqb, lit≤}
 use lib.Ieee.{binary32, ofBits, toBits}
 use borrow.Author.Tests.{eq-eqb, ne-eqb}
 use Rattle.tropical_weight.specs.Limits.{unit, sumLimit}
-use Rattle.tropical_weight.specs.Tropical.{Tropical, fin, inf, ltT, eqT, _⊕_, _⊗_, Within}
+use Rattle.tropical_weight.specs.Tropical.{Tropical, fin, inf, eqT, _⊕_, _⊗_, Within}
 use Rattle.tropical_weight.specs.Grid.{ofT}
 use Rattle.tropical_weight.specs.Single.{lesser, approxEqual}
-use Rattle.tropical_weight.proofs.Semiring.{eqT-eq, zero-⊕}
+use Rattle.tropical_weight.proofs.Semiring.{isFinite, eqT-eq, zero-⊕}
 use Rattle.tropical_weight.proofs.Exact.{times-ofT, lesser-ofT, ofT-injective, bits-back}
 use Rattle.tropical_weight.proofs.Sums.{within-⊕}
 use Rattle.tropical_weight.proofs.Near.{approx-ofT, shortest-delta-small}
@@ -21,24 +21,6 @@ use Rattle.shortest_distance.specs.Relaxation.{delta, offered, improves,
 -- the unit is one that the laws cover
 covered : unit ≤ 8
 covered = lit≤ tt
-
--- ---- whether a value is finite
-abbrev pub isFinite : Tropical → Bool
-isFinite w = ltT w inf
-
-pub finite-⊕ : (x y : Tropical) → isFinite (x ⊕ y) ≡ isFinite x || isFinite y
-finite-⊕ (fin a) (fin b) = go (lib.Signed.ltZ b a)
-  where
-    go : (t : Bool) → isFinite (cond t (fin b) (fin a)) ≡ true
-    go true = refl
-    go false = refl
-finite-⊕ (fin a) inf = refl
-finite-⊕ inf (fin b) = refl
-finite-⊕ inf inf = refl
-
-pub not-finite : (x : Tropical) → isFinite x ≡ false → x ≡ inf
-not-finite (fin a) e = absurd (subst T e tt)
-not-finite inf e = refl
 
 -- ---- the bits
 -- infinity's bits, and no other value's

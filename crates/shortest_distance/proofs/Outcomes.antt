@@ -1,26 +1,25 @@
 -- The outcome of the call, by the way the code goes. Assumes nothing.
 use mathlib.Core.Path.{_≡_, refl, sym, ap, _∙_, subst}
 use mathlib.Core.Bool.{Bool, true, false, not, _||_, cond}
-use mathlib.Core.List.{List, [], _∷_, _++_, map}
+use mathlib.Core.List.{List, _++_, map}
 use Prim.Native.Nat.{ℕ, zero, suc, _*_, _/_, _≤_, _<_}
 use native.Mathlib.Nat.{le-refl}
 use native.Mathlib.Omega.{arith}
 use lib.Dec.{ltb, eqb}
 use lib.ListN.{length, drop, length-map}
 use borrow.Author.Tests.{lt-ltb, le-ltb, ne-eqb}
-use Rattle.sheet.specs.Below.{listBelow}
 use Rattle.sheet.specs.declared.tr.Trailer.{Trailer}
 use Rattle.sheet.specs.Records.{trailerAt}
 use Rattle.sheet.specs.Sheet.{partsOf, statedLinks}
 use Rattle.sheet.proofs.Fields.{read-fields}
 use Rattle.sheet.proofs.Below.{length-listBelow}
 use Rattle.sheet.proofs.Bytes.{length-bytesOfAll}
-use Rattle.sheet.proofs.Writing.{not-zero}
+use Rattle.sheet.proofs.Apart.{not-zero, neither}
 use Rattle.sheet.proofs.Sources.{machine-nodes}
 use Rattle.sheet.specs.Machine.{bitsOf}
 use Rattle.machine.specs.Distance.{dist, distances, height}
 use Rattle.machine.specs.Input.{inputNumber}
-use Rattle.machine.proofs.Lists.{map-append}
+use Rattle.machine.proofs.Lists.{below-map}
 use Rattle.machine.proofs.Accepted.{passes, finite-machine}
 use Rattle.machine.proofs.Reached.{height-le}
 use Rattle.state_order_queue.specs.Queues.{emptied}
@@ -35,12 +34,6 @@ use Rattle.shortest_distance.proofs.Rows.{Final}
 use Rattle.shortest_distance.proofs.Accepted.{reads}
 use Rattle.shortest_distance.proofs.Starts.{height-is}
 
--- a list below a bound, value by value
-below-map : {A : Type 0} (g : A → ℕ) (n : ℕ) (f : ℕ → ℕ) (h : ℕ → A) → ((v : ℕ) → v < n → f v ≡ g (h v)) → listBelow n f ≡ map g (listBelow n h)
-unfolding listBelow
-below-map g zero f h e = refl
-below-map g (suc n) f h e = (λ i. below-map g n f h (λ v b. e v (omega arith)) i ++ (e n (omega arith) i ∷ [])) ∙ sym (map-append g (listBelow n h) (h n ∷ []))
-
 -- ---- the number, by what was tested
 module _ (bytes : List ℕ) (words : ℕ) (room : ℕ) where
   number-input : (inputNumber bytes ≡ 0 → ⊥) → distanceNumber bytes words room ≡ inputNumber bytes
@@ -50,10 +43,6 @@ module _ (bytes : List ℕ) (words : ℕ) (room : ℕ) where
   number-state : inputNumber bytes ≡ 0 → distanceNumber bytes words room ≡ cond (ltb (words / 8) (slotsNeeded bytes)) 20 (cond (ltb room (length (answerOf bytes))) 21 0)
   unfolding distanceNumber
   number-state e = ap (λ (k : ℕ). cond (not (eqb k 0)) k (cond (ltb (words / 8) (slotsNeeded bytes)) 20 (cond (ltb room (length (answerOf bytes))) 21 0))) e
-
--- what is told apart by 0 and 21
-pub neither : (k : ℕ) (x y : List ℕ) → (k ≡ 0 → ⊥) → (k ≡ 21 → ⊥) → cond (eqb k 0 || eqb k 21) x y ≡ y
-neither k x y a b = λ i. cond (ne-eqb k 0 a i || ne-eqb k 21 b i) x y
 
 -- what a number that refuses before the search leaves
 module _ (bytes work result : List ℕ) where

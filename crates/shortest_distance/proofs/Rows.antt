@@ -18,7 +18,7 @@ use Rattle.tropical_weight.specs.Limits.{unit, weightLimit, nodeLimit, sumLimit
 use Rattle.tropical_weight.specs.Tropical.{Tropical, inf, _⊕_, _⊗_, Within}
 use Rattle.tropical_weight.specs.Grid.{ofT}
 use Rattle.tropical_weight.proofs.Exact.{bits-back}
-use Rattle.tropical_weight.proofs.Semiring.{⊕-comm, zero-⊕}
+use Rattle.tropical_weight.proofs.Semiring.{isFinite, finite-⊕, not-finite, ⊕-comm, zero-⊕}
 use Rattle.tropical_weight.proofs.Sums.{within-mono, terms-within, limits}
 use Rattle.sheet.specs.Below.{sumBelow}
 use Rattle.sheet.specs.Machine.{Machine, bitsOf}
@@ -33,7 +33,7 @@ use Rattle.state_order_queue.specs.Queues.{holds, isValid, isEmpty, enqueued, d
 use Rattle.state_order_queue.proofs.Sets.{enqueued-full, enqueued-holds, enqueued-valid, dequeued-full, dequeued-valid, empty-exactly, front-held, front-least, dequeued-holds}
 use Rattle.shortest_distance.specs.Slots.{distanceWord, firstWord}
 use Rattle.shortest_distance.specs.Relaxation.{State, relaxedWord, reaches, relaxLink, relaxLinks, relaxHead, relaxHeads}
-use Rattle.shortest_distance.proofs.Offers.{isFinite, finite-⊕, not-finite, relaxed-is, reaches-is}
+use Rattle.shortest_distance.proofs.Offers.{relaxed-is, reaches-is}
 
 -- A sheet's records as the code reads them, and the machine that they are of.
 pub record Reads (bytes : List ℕ) (links : ℕ) (m : Machine) : Type 0 where

@@ -27,7 +27,8 @@ use Rattle.state_order_queue.proofs.Sets.{emptied-full, emptied-valid, enqueued
 use Rattle.shortest_distance.specs.Slots.{infinite, distanceWord, prepared, heightIn}
 use Rattle.shortest_distance.specs.Relaxation.{State}
 use Rattle.shortest_distance.proofs.Areas.{length-prepared, prepared-distance, prepared-first, prepared-beyond}
-use Rattle.shortest_distance.proofs.Offers.{isFinite, bits-inf, bits-finite}
+use Rattle.tropical_weight.proofs.Semiring.{isFinite}
+use Rattle.shortest_distance.proofs.Offers.{bits-inf, bits-finite}
 use Rattle.shortest_distance.proofs.Rows.{Reads, Holds, Final}
 
 -- the bits of the semiring's one

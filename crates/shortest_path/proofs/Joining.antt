@@ -50,7 +50,8 @@ use Rattle.list_machine.specs.ListingWords.{keptCount, listAnswer, listAfter, L
 use Rattle.list_machine.proofs.Writings.{listable, list-answers, list-leaves}
 use Rattle.list_machine.proofs.Sources.{sourced}
 use Rattle.shortest_distance.specs.Slots.{infinite}
-use Rattle.shortest_distance.proofs.Offers.{isFinite, not-finite, bits-finite}
+use Rattle.tropical_weight.proofs.Semiring.{isFinite, not-finite}
+use Rattle.shortest_distance.proofs.Offers.{bits-finite}
 use Rattle.shortest_path.proofs.Lying.{endField, lies, fan-few}
 
 -- ---- numbers

@@ -9,10 +9,9 @@ use lib.ListN.{length, drop}
 use lib.Seq.{drop-at}
 use borrow.Author.Tests.{lt-ltb, le-ltb, ne-eqb, ltb-false, eqb-true, eqb-false}
 use Rattle.tropical_weight.specs.Limits.{listLimit}
-use Rattle.sheet.proofs.Writing.{not-zero}
+use Rattle.sheet.proofs.Apart.{not-zero, neither}
 use Rattle.machine.specs.Input.{inputNumber}
 use Rattle.shortest_distance.specs.Slots.{cleared}
-use Rattle.shortest_distance.proofs.Outcomes.{neither}
 use Rattle.shortest_distance.proofs.Areas.{cleared-same}
 use Rattle.slots.specs.declared.Listed.{Listed}
 use Rattle.slots.specs.declared.Listed.the-variants.{Refused}

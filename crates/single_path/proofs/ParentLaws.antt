@@ -19,7 +19,7 @@ use Rattle.tropical_weight.specs.Limits.{unit, weightLimit, nodeLimit, sumLimit
 use Rattle.tropical_weight.specs.Tropical.{Tropical, fin, inf, eqT, _⊗_, Within}
 use Rattle.tropical_weight.specs.Grid.{ofT}
 use Rattle.tropical_weight.proofs.Exact.{times-ofT, ofT-injective, bits-back}
-use Rattle.tropical_weight.proofs.Semiring.{eqT-eq, eq-eqT}
+use Rattle.tropical_weight.proofs.Semiring.{isFinite, not-finite, eqT-eq, eq-eqT}
 use Rattle.tropical_weight.proofs.Sums.{within-mono, limits}
 use Rattle.sheet.specs.Below.{sumBelow}
 use Rattle.sheet.specs.Machine.{Machine, bitsOf}
@@ -34,7 +34,7 @@ use Rattle.machine.proofs.Parents.{Lowest, lowest-is}
 use Rattle.machine.proofs.Relax.{relax-is}
 use Rattle.machine.proofs.Bounds.{dist-limit, step-within}
 use Rattle.shortest_distance.specs.Slots.{infinite, distanceWord}
-use Rattle.shortest_distance.proofs.Offers.{isFinite, not-finite, bits-finite}
+use Rattle.shortest_distance.proofs.Offers.{bits-finite}
 use Rattle.shortest_distance.proofs.Rows.{Reads}
 use Rattle.slots.specs.Slots.{nothing}
 use Rattle.single_path.specs.SingleWords.{orphaned, parentWord, sourceWord, attainsBits, parentLink, parentLinks, parentNode, parentNodes}

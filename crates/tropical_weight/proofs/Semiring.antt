@@ -1,9 +1,10 @@
 -- The laws of the tropical semiring and of its order. Assumes nothing.
 use mathlib.Core.Path.{_≡_, refl, sym, ap, _∙_, subst}
 use mathlib.Core.Logic.{_⊎_, inl, inr}
-use mathlib.Core.Bool.{Bool, true, false, not, _&&_, cond}
+use mathlib.Core.Bool.{Bool, true, false, not, _&&_, _||_, cond}
 use lib.Dec.{T}
 use lib.IntN.{ℤ, +ℤ-assoc, +ℤ-comm, +ℤ-idl}
+use lib.Signed.{ltZ}
 use lib.Ieee.Fits.{and-l, and-r, and-i}
 use lib.Ieee.Bits.{is-true}
 use Rattle.tropical_weight.specs.Tropical.{Tropical, fin, inf, leT, ltT, eqT, _≼_, _⊕_, _⊗_, zero, one}
@@ -179,3 +180,21 @@ pub ⊗-cancel : {a b : Tropical} (k : ℤ) → a ⊗ fin k ≼ b ⊗ fin k → 
 
 pub ⊗-⊕ : (a b c : Tropical) → (a ⊕ b) ⊗ c ≡ a ⊗ c ⊕ b ⊗ c
 ⊗-⊕ a b c = ≼-antisym (⊕-greatest (⊗-mono-left c (⊕-left a b)) (⊗-mono-left c (⊕-right a b))) (elim (⊕-either a b) [ inl e ↦ subst (λ x. a ⊗ c ⊕ b ⊗ c ≼ x ⊗ c) (sym e) (⊕-left (a ⊗ c) (b ⊗ c)) | inr e ↦ subst (λ x. a ⊗ c ⊕ b ⊗ c ≼ x ⊗ c) (sym e) (⊕-right (a ⊗ c) (b ⊗ c)) ])
+
+-- ---- whether a value is finite
+abbrev pub isFinite : Tropical → Bool
+isFinite w = ltT w inf
+
+pub finite-⊕ : (x y : Tropical) → isFinite (x ⊕ y) ≡ isFinite x || isFinite y
+finite-⊕ (fin a) (fin b) = go (ltZ b a)
+  where
+    go : (t : Bool) → isFinite (cond t (fin b) (fin a)) ≡ true
+    go true = refl
+    go false = refl
+finite-⊕ (fin a) inf = refl
+finite-⊕ inf (fin b) = refl
+finite-⊕ inf inf = refl
+
+pub not-finite : (x : Tropical) → isFinite x ≡ false → x ≡ inf
+not-finite (fin a) e = absurd (subst T e tt)
+not-finite inf e = refl
