@@ -199,4 +199,5 @@ for i in range(250):
     b, n = some(), random.choice([0, 1, 2, 2, 2, 3, 3, 4, 5, 7, random.randint(0, 66), random.randint(60, 66)])
     words, room = 8 * slots(b, n), len(made(b, min(n, 64))[3])
     case(f'random {i}', b, n, max(0, words + random.choice([0] * 9 + [3, 8, 17, -1, -8])), max(0, room + random.choice([0] * 9 + [1, 5, 12, -1, -4])))
-for line in lines: print(line)
+if __name__ == '__main__':
+    for line in lines: print(line)
