@@ -79,7 +79,7 @@ module _ (bytes : List ℕ) (below : Below 256 bytes) (ok : inputNumber bytes �
   b : Small weightLimit m
   b = small-machine (partsOf bytes) (passes bytes ok)
 
-  links-is : t .links ≡ length (m .links)
+  pub links-is : t .links ≡ length (m .links)
   links-is = ap (λ (t : Trailer). t .links) same ∙ sym (links-are bytes ok)
 
   pub nodes-is : t .nodes ≡ length (m .finals)

@@ -14,6 +14,8 @@ use tropical_weight::LIST_LIMIT;
 
 mod lists;
 
+pub use lists::slots_needed;
+
 // Lists of an accepted sheet: tests 7, 20 and 21, and the answer.
 fn lists_of(sheet: &[u8], t: Trailer, n: u32, work: &mut [u32], result: &mut [u8]) -> Listed
     requires { ⌜ (inputNumber (now sheet) ≡ 0) × (t ≡ trailerAt (now sheet)) ⌝ }

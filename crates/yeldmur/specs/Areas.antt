@@ -1,0 +1,35 @@
+-- Areas with which a list is never refused for want of room: the slots are those that it needs, the bytes a bound. Definitions only.
+use mathlib.Core.Path.{_≡_}
+use mathlib.Core.List.{List}
+use Prim.Native.Nat.{ℕ, zero, suc, _+_, _*_, _≤_}
+use lib.ListN.{length}
+use Rattle.sheet.specs.Machine.{Machine}
+use Rattle.shortest_distance.specs.Outcome.{machine}
+use Rattle.search.specs.Search.{marked}
+use Rattle.shortest_path.specs.Outcome.{listNumber}
+
+-- the bytes of a result with so many states and links: 12 a state, 16 and a word a link, and the trailer
+abbrev pub resultBytesOf : ℕ → ℕ → ℕ
+resultBytesOf states links = 12 * states + 20 * links + 20
+
+-- with at most so many entries: a state each and the start; a link each, and n to those that are listed
+abbrev pub entriesBytes : ℕ → ℕ → ℕ
+entriesBytes entries n = resultBytesOf (entries + 1) (entries + n)
+
+-- for N nodes, T links and F final nodes: the empty machine for n = 0; a run has fewer links than there are nodes; from n = 2 the
+-- entries are at most 1 + F + n × (T + 1)
+abbrev pub bytesOf : ℕ → ℕ → ℕ → ℕ → ℕ
+bytesOf nodes links finals zero = resultBytesOf 0 0
+bytesOf nodes links finals (suc zero) = resultBytesOf nodes nodes
+bytesOf nodes links finals (suc (suc k)) = entriesBytes (1 + finals + suc (suc k) * (links + 1)) (suc (suc k))
+
+abbrev pub bytesFor : Machine → ℕ → ℕ
+bytesFor m n = bytesOf (length (m .finals)) (length (m .links)) (marked (m .finals)) n
+
+-- of a sheet
+abbrev pub bytesEnough : List ℕ → ℕ → ℕ
+bytesEnough sheet n = bytesFor (machine sheet) n
+
+-- no list for n is refused in areas of so many slots of eight words, and bytes, or longer ones
+abbrev pub Enough : List ℕ → ℕ → ℕ → ℕ → Type 0
+Enough sheet n slots bytes = (words room : ℕ) → 8 * slots ≤ words → bytes ≤ room → listNumber sheet n words room ≡ 0

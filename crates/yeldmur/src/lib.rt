@@ -1,0 +1,137 @@
+// Yeldmur for C and Rust: sheets read and written, distances, and lists of the cheapest readings, in
+// areas that the caller lends. Each function returns 0 or the number of the refusal, and then the
+// numbers behind its references keep their values.
+ghost use mathlib.Core.Path.{_≡_};
+ghost use mathlib.Core.Bool.{cond};
+ghost use Prim.Native.Nat.{_≤_};
+ghost use lib.Dec.{eqb};
+ghost use lib.ListN.{length};
+ghost use Rattle.tropical_weight.specs.Limits.{nodeLimit, linkLimit, listLimit};
+ghost use Rattle.sheet.specs.Sheet.{readNumber, writeNumber};
+ghost use Rattle.sheet.specs.Answers.{parts, written, writtenOver};
+ghost use Rattle.shortest_distance.specs.Outcome.{machine as machineFor, distanceNumber, distanceAnswer, workAfter as distanceWork, resultAfter as distanceResult};
+ghost use Rattle.shortest_path.specs.Outcome.{slotsNeeded, testedNumber, listNumber, listAnswer, workAfter, resultAfter};
+ghost use Rattle.shortest_path.specs.Promise.{Keeps};
+ghost use Rattle.yeldmur.specs.Told.{writtenTold, distancesTold, listedTold};
+ghost use Rattle.yeldmur.specs.Areas.{bytesOf, bytesEnough, Enough};
+use reversed_machine::reverse;
+use sheet::read::Tested;
+use sheet::write::Written;
+use shortest_distance::Distances;
+use slots::Listed;
+use tropical_weight::LIST_LIMIT;
+
+// Tests 1 to 4 of a byte string as a sheet.
+#[no_mangle]
+pub extern "C" fn yeldmur_read_sheet(sheet: &[u8]) -> u32
+    ensures { λ r. ⌜ r ≡ readNumber (now (sheet .entry)) ⌝ }
+{
+    match sheet::read::read(sheet) {
+        Tested::Accepted(_) => 0,
+        Tested::Refused(k) => k,
+    }
+}
+
+// Writes the sheet of these links, four words each, and nodes, three words each: tests 1 to 4 and 21.
+#[no_mangle]
+pub extern "C" fn yeldmur_write_sheet(
+    links: &[u32],
+    nodes: &[u32],
+    start: u32,
+    result: &mut [u8],
+    size: &mut u64,
+) -> u32
+    ensures { λ r. ⌜ (r ≡ writeNumber (parts (now (links .entry)) (now (nodes .entry)) start) (length (now (result .entry)))) × ((r, now (size .exit)) ≡ writtenTold (written (parts (now (links .entry)) (now (nodes .entry)) start) (length (now (result .entry)))) (now (size .entry))) ⌝ }
+    ensures { λ _. ⌜ now (result .exit) ≡ writtenOver (parts (now (links .entry)) (now (nodes .entry)) start) (now (result .entry)) ⌝ }
+{
+    match sheet::write::write(links, nodes, start, result) {
+        Written::Length(bytes) => {
+            *size = bytes as u64;
+            0
+        }
+        Written::Refused(k) => k,
+    }
+}
+
+// The distances of a sheet's nodes, as 32 weight bits each, and how many there are.
+#[no_mangle]
+pub extern "C" fn yeldmur_shortest_distance(
+    sheet: &[u8],
+    work: &mut [u32],
+    result: &mut [u8],
+    values: &mut u32,
+) -> u32
+    ensures { λ r. ⌜ (r ≡ distanceNumber (now (sheet .entry)) (length (now (work .entry))) (length (now (result .entry)))) × ((r, now (values .exit)) ≡ distancesTold (distanceAnswer (now (sheet .entry)) (length (now (work .entry))) (length (now (result .entry)))) (now (values .entry))) ⌝ }
+    ensures { λ _. ⌜ (now (work .exit) ≡ distanceWork (now (sheet .entry)) (now (work .entry)) (length (now (result .entry)))) × (now (result .exit) ≡ distanceResult (now (sheet .entry)) (length (now (work .entry))) (now (result .entry))) ⌝ }
+{
+    match shortest_distance::shortest_distance(sheet, work, result) {
+        Distances::Count(count) => {
+            *values = count;
+            0
+        }
+        Distances::Refused(k) => k,
+    }
+}
+
+// The n cheapest readings of a sheet, n up to 64, as a machine and its words: the counts of its states
+// and links, and of the entries that the search has taken.
+#[no_mangle]
+pub extern "C" fn yeldmur_shortest_path(
+    sheet: &[u8],
+    n: u32,
+    work: &mut [u32],
+    result: &mut [u8],
+    states: &mut u32,
+    links: &mut u32,
+    taken: &mut u32,
+) -> u32
+    ensures { λ r. ⌜ (r ≡ listNumber (now (sheet .entry)) n (length (now (work .entry))) (length (now (result .entry)))) × ((r, now (states .exit), now (links .exit), now (taken .exit)) ≡ listedTold (listAnswer (now (sheet .entry)) n (length (now (work .entry))) (length (now (result .entry)))) (now (states .entry)) (now (links .entry)) (now (taken .entry))) ⌝ }
+    ensures { λ _. ⌜ (now (work .exit) ≡ workAfter (now (sheet .entry)) n (now (work .entry)) (length (now (result .entry)))) × (now (result .exit) ≡ resultAfter (now (sheet .entry)) n (length (now (work .entry))) (now (result .entry))) ⌝ }
+    ensures { λ r. ⌜ (r ≡ 0 → Keeps (machineFor (now (sheet .entry))) n (now (states .exit)) (now (links .exit)) (now (taken .exit)) (now (result .exit))) ⌝ }
+{
+    match shortest_path::shortest_path(sheet, n, work, result) {
+        Listed::Made(nodes, made, removed) => {
+            *states = nodes;
+            *links = made;
+            *taken = removed;
+            0
+        }
+        Listed::Refused(k) => k,
+    }
+}
+
+// The bytes that a list for n takes at the most.
+fn bytes_enough(nodes: u32, links: u32, finals: u32, n: u32) -> u32
+    requires { ⌜ (nodes ≤ nodeLimit) × (links ≤ linkLimit) × (finals ≤ nodes) × (n ≤ listLimit) ⌝ }
+    ensures { λ r. ⌜ r ≡ bytesOf nodes links finals n ⌝ }
+{
+    if n == 0 {
+        return 20;
+    }
+    if n == 1 {
+        return 32 * nodes + 20;
+    }
+    let entries = 1 + finals + n * (links + 1);
+    12 * (entries + 1) + 20 * (entries + n) + 20
+}
+
+// The areas that a list for n of a sheet is made in: the work slots that it needs, of eight words, and
+// bytes that are enough for the result. Tests 1 to 7, in time that grows with the sheet alone.
+#[no_mangle]
+pub extern "C" fn yeldmur_areas(sheet: &[u8], n: u32, slots: &mut u64, bytes: &mut u64) -> u32
+    ensures { λ r. ⌜ (r ≡ testedNumber (now (sheet .entry)) n 0) × (now (slots .exit) ≡ cond (eqb r 0) (slotsNeeded (now (sheet .entry)) n) (now (slots .entry))) × (now (bytes .exit) ≡ cond (eqb r 0) (bytesEnough (now (sheet .entry)) n) (now (bytes .entry))) ⌝ }
+    ensures { λ r. ⌜ (r ≡ 0 → Enough (now (sheet .entry)) n (now (slots .exit)) (now (bytes .exit))) ⌝ }
+{
+    match machine::input::input(sheet) {
+        Tested::Refused(k) => k,
+        Tested::Accepted(t) => {
+            if LIST_LIMIT < n {
+                return 7;
+            }
+            let finals = reverse::count_finals(sheet, t.links, t.nodes);
+            *slots = shortest_path::slots_needed(t.nodes, t.links, finals, n) as u64;
+            *bytes = bytes_enough(t.nodes, t.links, finals, n) as u64;
+            0
+        }
+    }
+}

@@ -1,0 +1,88 @@
+/* Yeldmur: sheets read and written, distances, and lists of the cheapest readings, with every promise
+ * proved. Link with libyeldmur.a, which `rt staticlib yeldmur` writes.
+ *
+ * A slice is a pointer and a count of its elements, and not of bytes. No pointer is NULL, also where
+ * the count is 0; a pointer to 32-bit or 64-bit numbers is aligned for them; and no two of a call's
+ * areas and numbers overlap. The calls keep nothing, and take no memory but the areas and the stack.
+ *
+ * Each call returns 0 or the number of a refusal. A refusal leaves the numbers behind `size`,
+ * `values`, `states`, `links`, `taken`, `slots` and `bytes` as they were. In 1 to 20 no area changes.
+ * From then on, 21 included, the work slots needed are left zero and those beyond keep their value.
+ * With 21 the result area keeps its bytes; bytes past an answer keep their value. */
+#ifndef YELDMUR_H
+#define YELDMUR_H
+
+#include <stddef.h>
+#include <stdint.h>
+
+#ifdef __cplusplus
+extern "C" {
+#endif
+
+enum {
+    YELDMUR_DONE = 0,
+    /* length, offsets, a count or offset too big for its field, marks, an absent final's weight field
+     * or the sum of link counts is not as laid out */
+    YELDMUR_LAYOUT = 1,
+    /* start neither below N nor none */
+    YELDMUR_START = 2,
+    /* next node not below N */
+    YELDMUR_NEXT = 3,
+    /* a weight off the grid */
+    YELDMUR_WEIGHT = 4,
+    /* N above 4,096 or T above 16,384 */
+    YELDMUR_LIMITS = 5,
+    /* a link that does not lead to a higher node */
+    YELDMUR_CLIMB = 6,
+    /* n above 64 */
+    YELDMUR_COUNT = 7,
+    /* work area shorter than needed, in slots of eight 32-bit words: none for n = 0; N for distances
+     * and for n = 1; otherwise N + T + 2 x F + 2 + n x (T + 1) */
+    YELDMUR_WORK = 20,
+    /* result area shorter than this very answer */
+    YELDMUR_RESULT = 21
+};
+
+/* The words of a work slot. */
+#define YELDMUR_SLOT 8u
+
+/* The start of a sheet that has none, and the word of a link that repeats no input link. */
+#define YELDMUR_NONE 0xffffffffu
+
+/* Reads a sheet: tests 1 to 4. */
+uint32_t yeldmur_read_sheet(const uint8_t *sheet, size_t sheet_bytes);
+
+/* Writes a sheet of links, four words each (input label, output label, weight bits, next node), and
+ * nodes, three words each (link count, final mark, final weight bits): tests 1 to 4, then 21. `size`
+ * becomes its bytes, 16 a link, 12 a node and 20. */
+uint32_t yeldmur_write_sheet(const uint32_t *links, size_t links_words,
+                             const uint32_t *nodes, size_t nodes_words, uint32_t start,
+                             uint8_t *result, size_t result_bytes, uint64_t *size);
+
+/* The distances of a sheet's nodes: tests 1 to 6, 20 and 21. The result has one value per node up to
+ * the highest reached, infinity for an unreached one, as 32 weight bits each, little-endian; `values`
+ * becomes how many there are. */
+uint32_t yeldmur_shortest_distance(const uint8_t *sheet, size_t sheet_bytes,
+                                   uint32_t *work, size_t work_words,
+                                   uint8_t *result, size_t result_bytes, uint32_t *values);
+
+/* The n cheapest readings of a sheet, n up to 64: tests 1 to 7, 20 and 21. The result is the list's
+ * machine as a sheet, 16 bytes a link, 12 a state and 20, and then one 32-bit word per link of it: the
+ * number, from 0, of the input link that it repeats, or YELDMUR_NONE. `states` and `links` become the
+ * counts of that machine, `taken` the entries that the search has taken. */
+uint32_t yeldmur_shortest_path(const uint8_t *sheet, size_t sheet_bytes, uint32_t n,
+                               uint32_t *work, size_t work_words,
+                               uint8_t *result, size_t result_bytes,
+                               uint32_t *states, uint32_t *links, uint32_t *taken);
+
+/* The areas for yeldmur_shortest_path on this sheet and n: tests 1 to 7. `slots` becomes the work slots
+ * that it needs, `bytes` as many as its result has at the most: with a work area of YELDMUR_SLOT x slots
+ * words and a result area of so many bytes, or longer ones, it refuses nothing. */
+uint32_t yeldmur_areas(const uint8_t *sheet, size_t sheet_bytes, uint32_t n,
+                       uint64_t *slots, uint64_t *bytes);
+
+#ifdef __cplusplus
+}
+#endif
+
+#endif
