@@ -1,0 +1,132 @@
+//! The five functions of the static library. All that is `unsafe` in this crate stands here: each slice goes over as
+//! its pointer and its length, each number to be told as a pointer. The functions have no requirements; that they stay inside the
+//! slices is proved, and so is every value that they leave there. A function returns 0 or the number of the refusal,
+//! and with a refusal the numbers to be told keep their values.
+#![allow(unsafe_code)]
+
+#[cfg(not(all(target_arch = "x86_64", target_os = "linux")))]
+compile_error!("the static library links into x86-64 programs on Linux only");
+
+extern "C" {
+    fn yeldmur_read_sheet(sheet: *const u8, sheet_bytes: usize) -> u32;
+    fn yeldmur_write_sheet(
+        links: *const u32,
+        links_words: usize,
+        nodes: *const u32,
+        nodes_words: usize,
+        start: u32,
+        result: *mut u8,
+        result_bytes: usize,
+        size: *mut u64,
+    ) -> u32;
+    fn yeldmur_shortest_distance(
+        sheet: *const u8,
+        sheet_bytes: usize,
+        work: *mut u32,
+        work_words: usize,
+        result: *mut u8,
+        result_bytes: usize,
+        values: *mut u32,
+    ) -> u32;
+    fn yeldmur_shortest_path(
+        sheet: *const u8,
+        sheet_bytes: usize,
+        n: u32,
+        work: *mut u32,
+        work_words: usize,
+        result: *mut u8,
+        result_bytes: usize,
+        states: *mut u32,
+        links: *mut u32,
+        taken: *mut u32,
+    ) -> u32;
+    fn yeldmur_areas(
+        sheet: *const u8,
+        sheet_bytes: usize,
+        n: u32,
+        slots: *mut u64,
+        bytes: *mut u64,
+    ) -> u32;
+}
+
+pub(crate) fn read_sheet(sheet: &[u8]) -> u32 {
+    // SAFETY: the pointer and the length are of one slice, lent for the call, that is only read.
+    unsafe { yeldmur_read_sheet(sheet.as_ptr(), sheet.len()) }
+}
+
+pub(crate) fn write_sheet(
+    links: &[u32],
+    nodes: &[u32],
+    start: u32,
+    result: &mut [u8],
+    size: &mut u64,
+) -> u32 {
+    // SAFETY: each pointer and length are of one slice, lent for the call; the two that are written to,
+    // `result` and `size`, are lent mutably, so that they overlap nothing.
+    unsafe {
+        yeldmur_write_sheet(
+            links.as_ptr(),
+            links.len(),
+            nodes.as_ptr(),
+            nodes.len(),
+            start,
+            result.as_mut_ptr(),
+            result.len(),
+            size,
+        )
+    }
+}
+
+pub(crate) fn shortest_distance(
+    sheet: &[u8],
+    work: &mut [u32],
+    result: &mut [u8],
+    values: &mut u32,
+) -> u32 {
+    // SAFETY: each pointer and length are of one slice, lent for the call; `work`, `result` and `values`,
+    // which are written to, are lent mutably, so that they overlap nothing.
+    unsafe {
+        yeldmur_shortest_distance(
+            sheet.as_ptr(),
+            sheet.len(),
+            work.as_mut_ptr(),
+            work.len(),
+            result.as_mut_ptr(),
+            result.len(),
+            values,
+        )
+    }
+}
+
+pub(crate) fn shortest_path(
+    sheet: &[u8],
+    n: u32,
+    work: &mut [u32],
+    result: &mut [u8],
+    states: &mut u32,
+    links: &mut u32,
+    taken: &mut u32,
+) -> u32 {
+    // SAFETY: each pointer and length are of one slice, lent for the call; `work`, `result` and the three
+    // numbers, which are written to, are lent mutably, so that they overlap nothing.
+    unsafe {
+        yeldmur_shortest_path(
+            sheet.as_ptr(),
+            sheet.len(),
+            n,
+            work.as_mut_ptr(),
+            work.len(),
+            result.as_mut_ptr(),
+            result.len(),
+            states,
+            links,
+            taken,
+        )
+    }
+}
+
+pub(crate) fn areas(sheet: &[u8], n: u32, slots: &mut u64, bytes: &mut u64) -> u32 {
+    // SAFETY: the pointer and the length are of one slice, lent for the call, that is only read; `slots`
+    // and `bytes`, which are written to, are lent mutably, so that they overlap nothing.
+    unsafe { yeldmur_areas(sheet.as_ptr(), sheet.len(), n, slots, bytes) }
+}

@@ -1,0 +1,56 @@
+//! Distances and lists of the cheapest readings of a machine, proved: this crate is a safe layer over Yeldmur's static library.
+//!
+//! A *sheet* is a machine of nodes and links, as bytes. A *reading* is a run of links from its start to a final node; its cost
+//! is the sum of its weights and the final weight. Of every sheet that it accepts, and for every n from 1 to 64, the library is
+//! proved to list as many readings as the smaller of n and the number of readings: each once, in order of cost, and none left out
+//! that is cheaper. What this crate adds, memory for the areas and the reading of results, is plain Rust with tests.
+//!
+//! ```
+//! use yeldmur::{distances, list, Link, Refusal, Sheet};
+//!
+//! # fn main() -> Result<(), Refusal> {
+//! let link = |source, label, weight, next| Link { source, ilabel: label, olabel: label, weight, next };
+//! let links = [link(0, 1, 1.0, 1), link(0, 2, 0.5, 2), link(1, 3, 0.25, 3), link(1, 5, 0.0, 2), link(2, 4, 0.75, 3)];
+//! let sheet = Sheet::write(&links, &[None, None, None, Some(0.5)], Some(0))?;
+//! assert_eq!(distances(&sheet)?, [0.0, 1.0, 0.5, 1.25]);
+//!
+//! let list = list(&sheet, 3)?;
+//! assert_eq!(list.taken(), 11);
+//! let costs: Vec<i32> = list.readings().map(|reading| reading.cost()).collect();
+//! assert_eq!(costs, [112, 112, 144]); // in sixty-fourths
+//! let third: Vec<u32> = list.readings().nth(2).unwrap().links().map(|link| link.ilabel).collect();
+//! assert_eq!(third, [1, 5, 4]);
+//! # Ok(())
+//! # }
+//! ```
+//!
+//! A sheet that is not as it should be, or too large an n, is refused with the number that the requirements give it:
+//!
+//! ```
+//! use yeldmur::{Refusal, Sheet};
+//!
+//! let refused = Sheet::read([0; 19]).unwrap_err();
+//! assert_eq!(refused, Refusal::Layout);
+//! assert_eq!(refused.number(), 1);
+//! ```
+//!
+//! Calls in a loop can keep their memory in [`Areas`]. [`raw`] has the library's calls themselves, in areas that the caller lends.
+#![deny(missing_docs)]
+// each module but `ffi` forbids it; here a `forbid` could not be lifted for that one
+#![deny(unsafe_code)]
+
+mod ffi;
+mod layout;
+mod list;
+pub mod raw;
+mod refusal;
+mod sheet;
+
+pub use list::{distances, list, Areas, List, Reading};
+pub use refusal::Refusal;
+pub use sheet::{Link, Sheet};
+
+// has the example in README.md run as a test
+#[cfg(doctest)]
+#[doc = include_str!("../README.md")]
+struct Readme;

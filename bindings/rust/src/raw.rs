@@ -1,0 +1,124 @@
+//! The library's own calls, in areas that the caller lends. Each tests all that it is given and relies on no
+//! earlier call, so that any bytes may be handed over.
+//!
+//! With refusals 1 to 20 no lent area changes. From then on, 21 included, the work slots needed are left zero and
+//! those beyond keep their value. With 21 the result area keeps its bytes, and bytes past an answer keep their value.
+#![forbid(unsafe_code)]
+
+use crate::ffi;
+use crate::layout::{LINK, NODE, TRAILER};
+use crate::Refusal;
+
+/// The 32-bit words of a slot of the work area.
+pub const SLOT: usize = 8;
+
+/// What a list is made in: the figures that [`areas`] gives.
+#[derive(Clone, Copy, Debug, PartialEq, Eq)]
+pub struct Needed {
+    /// The slots of the work area, of eight words each: with fewer the call is refused with 20.
+    pub slots: usize,
+    /// Bytes that are enough for the result: with so many the call is not refused with 21. The answer may be shorter.
+    pub bytes: usize,
+}
+
+impl Needed {
+    /// The words of a work area that has the slots needed.
+    pub fn words(&self) -> usize {
+        SLOT * self.slots
+    }
+}
+
+/// What a call for a list tells besides the bytes of the result.
+#[derive(Clone, Copy, Debug, PartialEq, Eq)]
+pub struct Listed {
+    /// The states of the list's machine.
+    pub states: u32,
+    /// The links of the list's machine.
+    pub links: u32,
+    /// The entries that the search has taken; 0 for n below 2.
+    pub taken: u32,
+}
+
+impl Listed {
+    /// The bytes of the machine, which stands first in the result.
+    pub fn machine_len(&self) -> usize {
+        LINK * self.links as usize + NODE * self.states as usize + TRAILER
+    }
+
+    /// The bytes of the whole answer: the machine, then a word for each of its links.
+    pub fn result_len(&self) -> usize {
+        self.machine_len() + 4 * self.links as usize
+    }
+}
+
+fn told(number: u32) -> Result<(), Refusal> {
+    if number == 0 {
+        return Ok(());
+    }
+    Err(Refusal::from_number(number).expect("the library is proved to give no other number"))
+}
+
+/// Tests a byte string as a sheet: tests 1 to 4.
+pub fn read_sheet(sheet: &[u8]) -> Result<(), Refusal> {
+    told(ffi::read_sheet(sheet))
+}
+
+/// Writes a sheet and tells its length: tests 1 to 4, then 21. A link is four words, as a sheet has them: input label,
+/// output label, weight bits, next node. A node is three: link count, final mark, final weight bits. The start is
+/// FFFFFFFF hexadecimal for none.
+pub fn write_sheet(
+    links: &[u32],
+    nodes: &[u32],
+    start: u32,
+    result: &mut [u8],
+) -> Result<usize, Refusal> {
+    let mut size = 0;
+    told(ffi::write_sheet(links, nodes, start, result, &mut size))?;
+    Ok(size as usize)
+}
+
+/// Writes the distances of a sheet's nodes, 32 weight bits each, and tells how many there are: tests 1 to 6, then 20
+/// and 21. It needs a slot for each node.
+pub fn shortest_distance(
+    sheet: &[u8],
+    work: &mut [u32],
+    result: &mut [u8],
+) -> Result<u32, Refusal> {
+    let mut values = 0;
+    told(ffi::shortest_distance(sheet, work, result, &mut values))?;
+    Ok(values)
+}
+
+/// Writes the list of the n cheapest readings, as a machine and a word for each of its links: tests 1 to 7, then 20 and 21.
+pub fn shortest_path(
+    sheet: &[u8],
+    n: u32,
+    work: &mut [u32],
+    result: &mut [u8],
+) -> Result<Listed, Refusal> {
+    let (mut states, mut links, mut taken) = (0, 0, 0);
+    told(ffi::shortest_path(
+        sheet,
+        n,
+        work,
+        result,
+        &mut states,
+        &mut links,
+        &mut taken,
+    ))?;
+    Ok(Listed {
+        states,
+        links,
+        taken,
+    })
+}
+
+/// The areas that a list for n is made in: tests 1 to 7. The slots for n = 1 are those that distances need, too.
+pub fn areas(sheet: &[u8], n: u32) -> Result<Needed, Refusal> {
+    let (mut slots, mut bytes) = (0, 0);
+    told(ffi::areas(sheet, n, &mut slots, &mut bytes))?;
+    Ok(Needed {
+        slots: slots as usize,
+        bytes: bytes as usize,
+    })
+}

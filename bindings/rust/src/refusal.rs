@@ -1,0 +1,91 @@
+//! The refusals, with the numbers and words of the requirements.
+#![forbid(unsafe_code)]
+
+use std::error::Error;
+use std::fmt;
+
+/// Why a call was refused. Tests go by number over the whole sheet, so that a sheet with more than one
+/// fault gets the lowest number. N is the number of nodes of a sheet, T that of its links.
+#[derive(Clone, Copy, Debug, PartialEq, Eq, Hash)]
+#[non_exhaustive]
+pub enum Refusal {
+    /// 1: length, offsets, a count or offset too big for its field, marks, an absent final's weight field
+    /// or the sum of link counts is not as laid out.
+    Layout,
+    /// 2: start neither below N nor none.
+    Start,
+    /// 3: next node not below N.
+    Next,
+    /// 4: a weight off the grid. The grid is k/64 for a whole k from -4,096 to 4,096; NaN, infinities and
+    /// negative zero are off it.
+    Weight,
+    /// 5: N above 4,096 or T above 16,384.
+    Limits,
+    /// 6: a link that does not lead to a higher node.
+    Climb,
+    /// 7: n above 64.
+    Count,
+    /// 20: work area shorter than needed.
+    WorkArea,
+    /// 21: result area shorter than this very answer.
+    ResultArea,
+}
+
+const ALL: [Refusal; 9] = [
+    Refusal::Layout,
+    Refusal::Start,
+    Refusal::Next,
+    Refusal::Weight,
+    Refusal::Limits,
+    Refusal::Climb,
+    Refusal::Count,
+    Refusal::WorkArea,
+    Refusal::ResultArea,
+];
+
+impl Refusal {
+    /// The number that the requirements give it.
+    pub fn number(self) -> u32 {
+        match self {
+            Refusal::Layout => 1,
+            Refusal::Start => 2,
+            Refusal::Next => 3,
+            Refusal::Weight => 4,
+            Refusal::Limits => 5,
+            Refusal::Climb => 6,
+            Refusal::Count => 7,
+            Refusal::WorkArea => 20,
+            Refusal::ResultArea => 21,
+        }
+    }
+
+    /// The refusal that has a number, or none where no call here gives it.
+    pub fn from_number(number: u32) -> Option<Refusal> {
+        ALL.into_iter().find(|refusal| refusal.number() == number)
+    }
+
+    fn words(self) -> &'static str {
+        match self {
+            Refusal::Layout => {
+                "length, offsets, a count or offset too big for its field, marks, \
+                 an absent final's weight field or the sum of link counts is not as laid out"
+            }
+            Refusal::Start => "start neither below N nor none",
+            Refusal::Next => "next node not below N",
+            Refusal::Weight => "a weight off the grid",
+            Refusal::Limits => "N above 4,096 or T above 16,384",
+            Refusal::Climb => "a link that does not lead to a higher node",
+            Refusal::Count => "n above 64",
+            Refusal::WorkArea => "work area shorter than needed",
+            Refusal::ResultArea => "result area shorter than this very answer",
+        }
+    }
+}
+
+impl fmt::Display for Refusal {
+    fn fmt(&self, f: &mut fmt::Formatter<'_>) -> fmt::Result {
+        write!(f, "refused {}: {}", self.number(), self.words())
+    }
+}
+
+impl Error for Refusal {}

@@ -1,0 +1,168 @@
+//! The raw calls in areas of every length near the one needed: refusals 20 and 21, and every cell of both areas afterwards.
+#![forbid(unsafe_code)]
+
+mod common;
+
+use common::{bytes, A, NONE};
+use yeldmur::raw::{self, Needed, SLOT};
+use yeldmur::Refusal;
+
+const WORD: u32 = 0xDEAD_BEEF;
+const BYTE: u8 = 0xA5;
+
+fn unchanged(work: &[u32], result: &[u8]) -> bool {
+    work.iter().all(|&word| word == WORD) && result.iter().all(|&byte| byte == BYTE)
+}
+
+// The slots needed are zero and those beyond, with the words of a part of a slot, are as they were.
+fn cleared(work: &[u32], slots: usize) -> bool {
+    let (needed, beyond) = work.split_at(SLOT * slots);
+    needed.iter().all(|&word| word == 0) && beyond.iter().all(|&word| word == WORD)
+}
+
+// N = 4, T = 5, F = 1
+fn slots_of_a(n: usize) -> usize {
+    match n {
+        0 => 0,
+        1 => 4,
+        _ => 4 + 5 + 2 + 2 + n * 6,
+    }
+}
+
+#[test]
+fn areas_of_a() {
+    let a = bytes(&A);
+    for n in 0..=64 {
+        let needed = raw::areas(&a, n).unwrap();
+        assert_eq!(needed.slots, slots_of_a(n as usize));
+        assert_eq!(needed.words(), 8 * needed.slots);
+        let mut work = vec![WORD; needed.words()];
+        let mut result = vec![BYTE; needed.bytes];
+        let listed = raw::shortest_path(&a, n, &mut work, &mut result).unwrap();
+        assert!(listed.result_len() <= needed.bytes);
+        assert!(cleared(&work, needed.slots));
+    }
+}
+
+#[test]
+fn a_list_in_short_areas() {
+    let a = bytes(&A);
+    for n in [0, 1, 2, 3, 4, 64] {
+        let Needed { slots, bytes } = raw::areas(&a, n).unwrap();
+        let mut answer = vec![BYTE; bytes + 3];
+        let mut work = vec![WORD; SLOT * slots + 13];
+        let listed = raw::shortest_path(&a, n, &mut work, &mut answer).unwrap();
+        let length = listed.result_len();
+        assert!(cleared(&work, slots));
+        assert!(answer[length..].iter().all(|&byte| byte == BYTE));
+
+        // one word short of the last slot
+        if slots > 0 {
+            let mut work = vec![WORD; SLOT * slots - 1];
+            let mut result = vec![BYTE; length];
+            let refused = raw::shortest_path(&a, n, &mut work, &mut result);
+            assert_eq!(refused.unwrap_err(), Refusal::WorkArea);
+            assert!(unchanged(&work, &result));
+        }
+
+        // every result that is too short, the empty one too
+        for short in [0, 19, length - 1] {
+            let mut work = vec![WORD; SLOT * slots + 13];
+            let mut result = vec![BYTE; short];
+            let refused = raw::shortest_path(&a, n, &mut work, &mut result);
+            assert_eq!(refused.unwrap_err(), Refusal::ResultArea);
+            assert!(cleared(&work, slots));
+            assert!(unchanged(&[], &result));
+        }
+
+        // just long enough
+        let mut work = vec![WORD; SLOT * slots];
+        let mut result = vec![BYTE; length];
+        assert_eq!(
+            raw::shortest_path(&a, n, &mut work, &mut result),
+            Ok(listed)
+        );
+        assert_eq!(result, answer[..length]);
+        assert!(cleared(&work, slots));
+    }
+}
+
+#[test]
+fn work_is_tested_before_the_result() {
+    let refused = raw::shortest_path(&bytes(&A), 2, &mut [], &mut []);
+    assert_eq!(refused.unwrap_err(), Refusal::WorkArea);
+    let refused = raw::shortest_distance(&bytes(&A), &mut [], &mut []);
+    assert_eq!(refused.unwrap_err(), Refusal::WorkArea);
+}
+
+#[test]
+fn a_sheet_without_nodes_needs_slots_too() {
+    let none = bytes(&[0, 0, 0, 0, NONE]);
+    assert_eq!(raw::areas(&none, 2).unwrap().slots, 4);
+    assert_eq!(raw::areas(&none, 64).unwrap().slots, 66);
+    let mut work = [WORD; 31];
+    let mut result = [BYTE; 20];
+    let refused = raw::shortest_path(&none, 2, &mut work, &mut result);
+    assert_eq!(refused.unwrap_err(), Refusal::WorkArea);
+    assert!(unchanged(&work, &result));
+}
+
+#[test]
+fn distances_in_short_areas() {
+    let a = bytes(&A);
+    let refused = raw::shortest_distance(&a, &mut [WORD; 31], &mut [BYTE; 16]);
+    assert_eq!(refused.unwrap_err(), Refusal::WorkArea);
+
+    let mut work = [WORD; 35];
+    let mut result = [BYTE; 15];
+    let refused = raw::shortest_distance(&a, &mut work, &mut result);
+    assert_eq!(refused.unwrap_err(), Refusal::ResultArea);
+    assert!(cleared(&work, 4));
+    assert!(unchanged(&[], &result));
+
+    let mut work = [WORD; 35];
+    let mut result = [BYTE; 18];
+    assert_eq!(raw::shortest_distance(&a, &mut work, &mut result), Ok(4));
+    assert!(cleared(&work, 4));
+    let values = [0.0f32, 1.0, 0.5, 1.25].map(f32::to_bits);
+    assert_eq!(result[..16], bytes(&values));
+    assert_eq!(result[16..], [BYTE; 2]);
+}
+
+#[test]
+fn a_sheet_written_in_short_areas() {
+    let (links, rest) = A.split_at(20);
+    let nodes = &rest[..12];
+    let mut result = [BYTE; 147];
+    let refused = raw::write_sheet(links, nodes, 0, &mut result);
+    assert_eq!(refused.unwrap_err(), Refusal::ResultArea);
+    assert!(unchanged(&[], &result));
+
+    let mut result = [BYTE; 150];
+    assert_eq!(raw::write_sheet(links, nodes, 0, &mut result), Ok(148));
+    assert_eq!(result[..148], bytes(&A));
+    assert_eq!(result[148..], [BYTE; 2]);
+}
+
+#[test]
+fn the_writer_tests_1_to_4_before_21() {
+    let (links, rest) = A.split_at(20);
+    let nodes = &rest[..12];
+    let written = |links: &[u32], nodes: &[u32], start| {
+        let mut result = [BYTE; 10];
+        let refused = raw::write_sheet(links, nodes, start, &mut result);
+        assert!(unchanged(&[], &result));
+        refused.unwrap_err().number()
+    };
+    assert_eq!(written(&links[1..], nodes, 0), 1);
+    assert_eq!(written(links, &nodes[1..], 0), 1);
+    assert_eq!(written(&links[4..], nodes, 0), 1);
+    assert_eq!(written(links, nodes, 4), 2);
+    let mut changed = links.to_vec();
+    changed[3] = 4;
+    assert_eq!(written(&changed, nodes, 0), 3);
+    changed[3] = 1;
+    changed[2] = 1;
+    assert_eq!(written(&changed, nodes, 0), 4);
+    assert_eq!(written(links, nodes, 0), 21);
+}
