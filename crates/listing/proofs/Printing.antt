@@ -28,7 +28,7 @@ use Rattle.shortest_path.proofs.Joining.{slots-many}
 use Rattle.shortest_path.proofs.Outcomes.{tested-input, tested-last, tested-zero, number-input, number-areas}
 use Rattle.listing.specs.Text.{refusedLine}
 use Rattle.listing.specs.Held.{Held}
-use Rattle.listing.specs.Printed.{sheetMost, listMost, listingNumber, listingText, printedFor, printed}
+use Rattle.listing.specs.Printed.{sheetMost, listMost, runMost, listingNumber, listingText, printedFor, printed}
 
 -- ---- the number, by what was tested
 module _ (n : ℕ) (sheet : List ℕ) where
@@ -92,10 +92,10 @@ module _ (sheet : List ℕ) (below : Below 256 sheet) (n : ℕ) (short : length 
         go (suc zero) p = omega (arith, layout)
         go (suc (suc k)) p = omega (arith, layout, p, marked-few (m .finals), slots-many (length (m .finals)) (length (m .links)) (marked (m .finals)) (suc (suc k)) (omega arith))
 
-    pub sizes : (length (answerOf sheet n) ≤ resultBytesMost) × (length (resultOf sheet n .machine .finals) ≤ 1032)
+    pub sizes : (length (answerOf sheet n) ≤ resultBytesMost) × (length (resultOf sheet n .machine .finals) ≤ runMost)
     sizes = go n few product
       where
-        go : (n : ℕ) → n ≤ listMost → n * (length (m .links) + 1) ≤ listMost * (length (m .links) + 1) → (length (answerOf sheet n) ≤ resultBytesMost) × (length (resultOf sheet n .machine .finals) ≤ 1032)
+        go : (n : ℕ) → n ≤ listMost → n * (length (m .links) + 1) ≤ listMost * (length (m .links) + 1) → (length (answerOf sheet n) ≤ resultBytesMost) × (length (resultOf sheet n .machine .finals) ≤ runMost)
         go zero b p = let s = zero-holds m a in (omega (arith, result-length (resultFor m 0) (s .storable), s .few-nodes, s .few-links), omega (arith, s .few-nodes))
         go (suc zero) b p = let s = one-holds m a in (omega (arith, layout, result-length (resultFor m 1) (s .storable), s .few-nodes, s .few-links), omega (arith, layout, s .few-nodes))
         go (suc (suc k)) b p =

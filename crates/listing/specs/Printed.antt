@@ -1,7 +1,7 @@
 -- What the listing program prints for the bytes that it reads. Definitions only.
 use mathlib.Core.Bool.{cond}
 use mathlib.Core.List.{List, [], _∷_, _++_, map}
-use Prim.Native.Nat.{ℕ, suc}
+use Prim.Native.Nat.{ℕ, suc, _+_, _*_}
 use lib.Dec.{ltb, eqb}
 use lib.IntN.{ℤ, pos}
 use lib.ListN.{length}
@@ -20,6 +20,13 @@ sheetMost = 4096
 
 abbrev pub listMost : ℕ
 listMost = 4
+
+-- at the most, the states of a list for such an n and sheet, and so the links of a reading; and the bytes of a line
+abbrev pub runMost : ℕ
+runMost = 1032
+
+abbrev pub lineMost : ℕ
+lineMost = 23 + 11 * runMost
 
 -- bytes that every text fits in
 abbrev pub textMost : ℕ

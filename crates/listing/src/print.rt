@@ -9,7 +9,7 @@ ghost use Rattle.shortest_distance.specs.Outcome.{machine as machineFor};
 ghost use Rattle.shortest_path.specs.Outcome.{testedNumber};
 ghost use Rattle.listing.specs.Text.{Puts, firstLine};
 ghost use Rattle.listing.specs.Held.{Held};
-ghost use Rattle.listing.specs.Printed.{sheetMost, listMost, textMost, listFor, readingLine, readingLines, printedFor, printed};
+ghost use Rattle.listing.specs.Printed.{sheetMost, listMost, runMost, lineMost, textMost, listFor, readingLine, readingLines, printedFor, printed};
 use crate::text;
 use crate::ways;
 use machine::input::input;
@@ -19,7 +19,7 @@ use slots::Listed;
 use tropical_weight::LIST_LIMIT;
 
 // The most bytes of a sheet, and the largest n, that the areas are long enough for.
-pub const SHEET_MOST: usize = 4096;
+const SHEET_MOST: usize = 4096;
 
 const LIST_MOST: u32 = 4;
 
@@ -43,8 +43,8 @@ fn put_reading(
     at: usize,
 ) -> usize
     requires { ⌜ Held (now sheet) t n (now result) nodes links × (k < length (listFor (machineFor (now sheet)) n)) ⌝ }
-    requires { ⌜ (nodes ≤ 1032) × (at + 11375 ≤ length (now out)) ⌝ }
-    ensures { λ r. ⌜ Puts (now (out .entry)) at (readingLine (machineFor (now (sheet .entry))) (k + 1) (getD (listFor (machineFor (now (sheet .entry))) n) k [])) (now (out .exit)) r × (r ≤ at + 11375) ⌝ }
+    requires { ⌜ (nodes ≤ runMost) × (at + lineMost ≤ length (now out)) ⌝ }
+    ensures { λ r. ⌜ Puts (now (out .entry)) at (readingLine (machineFor (now (sheet .entry))) (k + 1) (getD (listFor (machineFor (now (sheet .entry))) n) k [])) (now (out .exit)) r × (r ≤ at + lineMost) ⌝ }
 {
     let mut run = [0u32; RUN];
     let count = ways::run_of(result, nodes, links, n, k, &mut run);
@@ -65,8 +65,8 @@ fn put_readings(
     at: usize,
 ) -> usize
     requires { ⌜ Held (now sheet) t n (now result) nodes links × (count ≡ length (listFor (machineFor (now sheet)) n)) ⌝ }
-    requires { ⌜ (nodes ≤ 1032) × (count ≤ listMost) × (at + 11375 * count ≤ length (now out)) ⌝ }
-    ensures { λ r. ⌜ Puts (now (out .entry)) at (readingLines (machineFor (now (sheet .entry))) 1 (listFor (machineFor (now (sheet .entry))) n)) (now (out .exit)) r × (r ≤ at + 11375 * count) ⌝ }
+    requires { ⌜ (nodes ≤ runMost) × (count ≤ listMost) × (at + lineMost * count ≤ length (now out)) ⌝ }
+    ensures { λ r. ⌜ Puts (now (out .entry)) at (readingLines (machineFor (now (sheet .entry))) 1 (listFor (machineFor (now (sheet .entry))) n)) (now (out .exit)) r × (r ≤ at + lineMost * count) ⌝ }
 {
     let mut next = at;
     let mut k = 0u32;
@@ -88,7 +88,7 @@ fn put_list(
     taken: u32,
     out: &mut [u8],
 ) -> usize
-    requires { ⌜ Held (now sheet) t n (now result) nodes links × (n ≤ listMost) × (nodes ≤ 1032) × (textMost ≤ length (now out)) ⌝ }
+    requires { ⌜ Held (now sheet) t n (now result) nodes links × (n ≤ listMost) × (nodes ≤ runMost) × (textMost ≤ length (now out)) ⌝ }
     ensures { λ r. ⌜ Puts (now (out .entry)) 0 (firstLine (length (listFor (machineFor (now (sheet .entry))) n)) taken ++ readingLines (machineFor (now (sheet .entry))) 1 (listFor (machineFor (now (sheet .entry))) n)) (now (out .exit)) r × (r ≤ textMost) ⌝ }
 {
     let count = ways::count_readings(result, nodes, links, n);

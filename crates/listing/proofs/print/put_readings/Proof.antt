@@ -9,14 +9,14 @@ use mathlib.Core.Path.{_≡_}
 use lib.ListN.{length, take}
 use Rattle.shortest_distance.specs.Outcome.{machine}
 use Rattle.listing.specs.Text.{Puts}
-use Rattle.listing.specs.Printed.{listFor, readingLines}
+use Rattle.listing.specs.Printed.{lineMost, listFor, readingLines}
 use borrow.Author.Needs.{needs}
 use Rattle.listing.proofs.print.put_readings.Statement.{statement}
 use Rattle.listing.proofs.print.put_readings.Tie as tie
 
 abbrev Inv-loop : tie.InvT-loop
 Inv-loop sheet t n result nodes links count out₀ at next₀ k₀ out next k =
-    (k ≤ count) × (length out ≡ length out₀) × (next ≤ at + 11375 * k) × Puts out₀ at (readingLines (machine sheet) 1 (take k (listFor (machine sheet) n))) out next
+    (k ≤ count) × (length out ≡ length out₀) × (next ≤ at + lineMost * k) × Puts out₀ at (readingLines (machine sheet) 1 (take k (listFor (machine sheet) n))) out next
 
 abbrev μ-loop : tie.MeasureT-loop
 μ-loop sheet t n result nodes links count out₀ at next₀ k₀ out next k = count - k
