@@ -2,13 +2,14 @@
 """Writes the cases that crates/replay_distances replays: a line a case, with a space between: the number that the call must answer (0: the
 distances), the words of the work area, the bytes of the result area, the words of the work area that must be left zero, the bytes of the
 sheet, those bytes, the bytes of the answer, as sheets.py writes bytes, and what the case is. What is expected comes from `outcome` below,
-which follows the text of the requirements with exact fractions and shares nothing with the library.
+which follows the text of the requirements with exact fractions and shares nothing with the library. The last cases are the sheets of
+oracle/sample.txt, and what is expected of them is what the published Rust answered.
 
     python3 tools/distance_cases.py > crates/replay_distances/stdin
 """
 import random, struct
 from fractions import Fraction
-from sheets import A, CHAIN, EMPTY, NONE, TRAILER, climbing, distances, f, input_number, read, real, sheet, with_word, written
+from sheets import A, CHAIN, EMPTY, NONE, TRAILER, climbing, distances, f, input_number, read, real, sample, sheet, with_word, written
 
 INFINITY = 0x7F800000
 
@@ -102,4 +103,9 @@ for i in range(50):
         b = with_word(b, j, random.choice([0, 1, 2, 7, 8, random.getrandbits(32), NONE, struct.unpack_from('<I', b, 4 * j)[0] ^ 1 << random.randrange(32)]))
     if random.random() < .2: b = b[:-random.randint(1, 16)]
     case(f'random and damaged {i}', b, w, r)
+for i, (b, _, told, *_) in enumerate(sample()):
+    n = struct.unpack('<I', b[-12:-8])[0]
+    assert outcome(b, 8 * n, len(told)) == (0, 8 * n, told)
+    case(f'the Rust {i}', b)
+    if i % 10 == 5: case(f'the Rust {i}, longer areas', b, 8 * n + 1 + i % 20, len(told) + 1 + i % 30)
 for line in lines: print(line)

@@ -3,7 +3,8 @@
 the words of the work area, the bytes of the result area, the words of the work area that must be left zero, the nodes and links of the list's
 machine and the entries taken, the bytes of the sheet, those bytes, the bytes of the answer, as sheets.py writes bytes, and what the case is.
 What is expected comes from `outcome` below, which follows the text of the requirements and shares nothing with the library. Of small sheets
-each list is held to all readings, too.
+each list is held to all readings, too. The last cases are the sheets of oracle/sample.txt, and what is expected of them is what the published
+Rust answered.
 
     python3 tools/list_cases.py > crates/replay_lists/stdin
 """
@@ -11,7 +12,7 @@ import functools, itertools, random, struct
 from collections import Counter
 from fractions import Fraction
 from search_oracle import Search
-from sheets import A, CHAIN, EMPTY, NONE, TRAILER, climbing, distances, f, fields, input_number, read, real, sheet, sources, with_word, written
+from sheets import A, CHAIN, EMPTY, NONE, TRAILER, climbing, distances, f, fields, input_number, read, real, sample, sheet, sources, with_word, written
 
 def units(bits): return int(64 * Fraction(real(bits)))
 
@@ -199,5 +200,9 @@ for i in range(250):
     b, n = some(), random.choice([0, 1, 2, 2, 2, 3, 3, 4, 5, 7, random.randint(0, 66), random.randint(60, 66)])
     words, room = 8 * slots(b, n), len(made(b, min(n, 64))[3])
     case(f'random {i}', b, n, max(0, words + random.choice([0] * 9 + [3, 8, 17, -1, -8])), max(0, room + random.choice([0] * 9 + [1, 5, 12, -1, -4])))
+for i, (b, n, _, *told) in enumerate(sample()):
+    assert made(b, n) == tuple(told)
+    case(f'the Rust {i}', b, n)
+    if i % 10 == 5: case(f'the Rust {i}, longer areas', b, n, 8 * slots(b, n) + 1 + i % 20, len(told[3]) + 1 + i % 30)
 if __name__ == '__main__':
     for line in lines: print(line)

@@ -4,7 +4,7 @@ what the scripts beside this one share. It shares nothing with the library.
 Stored bytes are in hexadecimal (- for none); *bbcccccc repeats the last bb bytes over cccccc bytes, and +bbcccccc too, with the last word one
 higher each time.
 """
-import math, struct
+import math, os, struct
 from fractions import Fraction
 
 NONE = 0xFFFFFFFF
@@ -105,6 +105,15 @@ def read(text):
         for _ in range(more // back): parts.append(raised(parts[-1]) if text[at] == '+' else parts[-1])
         b += b''.join(parts[1:]); at += 9
     return b
+
+def sample():
+    """what the Rust answered to the sheets of oracle/sample.txt: the sheet, n, the distances, the nodes and links of the list's machine,
+    the entries taken, and the result"""
+    def unhex(text): return b'' if text == '-' else bytes.fromhex(text)
+    with open(os.path.join(os.path.dirname(os.path.abspath(__file__)), '..', 'oracle', 'sample.txt')) as lines:
+        for line in lines:
+            b, n, values, nodes, links, taken, result = line.split()
+            yield unhex(b), int(n), unhex(values), int(nodes), int(links), int(taken), unhex(result)
 
 # Sheet A
 A = sheet([(1, 1, f(1), 1), (2, 2, f(.5), 2), (3, 3, f(.25), 3), (5, 5, f(0), 2), (4, 4, f(.75), 3)],

@@ -11,12 +11,25 @@ pub struct Case {
 /// The cases of a seed, without end.
 pub struct Cases {
     random: Random,
+    /// The largest size, where it is given: nodes and links.
+    most: Option<(usize, usize)>,
 }
 
 impl Cases {
+    /// Cases of all sizes: nine in ten are small, and one in a thousand is as large as may be.
     pub fn new(seed: u64) -> Self {
         Self {
             random: Random::new(seed),
+            most: None,
+        }
+    }
+
+    /// Cases of at most so many nodes and links. From 61 nodes on most of them have just so many, and
+    /// from 201 links on.
+    pub fn up_to(seed: u64, nodes: usize, links: usize) -> Self {
+        Self {
+            random: Random::new(seed),
+            most: Some((nodes, links)),
         }
     }
 }
@@ -26,11 +39,11 @@ impl Iterator for Cases {
 
     fn next(&mut self) -> Option<Case> {
         let random = &mut self.random;
-        let most = match random.below(1000) {
+        let most = self.most.unwrap_or_else(|| match random.below(1000) {
             0 => (4096, 16384),
             1..=100 => (60, 200),
             _ => (12, 30),
-        };
+        });
         let (nodes, mut ways) = ways(random, most);
         assert!(nodes <= most.0 && ways.len() <= most.1);
         if random.once_in(2) {
@@ -61,7 +74,7 @@ fn ways(random: &mut Random, (most_nodes, most_links): (usize, usize)) -> (usize
     };
     match random.below(8) {
         0 => ladder(random, nodes, most_links),
-        1 => (nodes, diamonds(nodes)),
+        1 => diamonds(nodes, most_links),
         2 => layers(random, nodes, most_links),
         3 => (2, vec![(0, 1); random.among(0, most_links)]),
         4 if random.once_in(8) => (random.pick(&[0, nodes]), vec![]),
@@ -78,10 +91,11 @@ fn ladder(random: &mut Random, nodes: usize, most_links: usize) -> (usize, Vec<W
 }
 
 /// From every third node there are two ways to the next such one, and readings double each time.
-fn diamonds(nodes: usize) -> Vec<Way> {
+fn diamonds(nodes: usize, most_links: usize) -> (usize, Vec<Way>) {
+    let nodes = nodes.min(most_links / 4 * 3 + 1);
     let diamond = |v| [(v, v + 1), (v, v + 2), (v + 1, v + 3), (v + 2, v + 3)];
     let whole = (0..nodes).step_by(3).filter(|v| v + 3 < nodes);
-    whole.flat_map(diamond).collect()
+    (nodes, whole.flat_map(diamond).collect())
 }
 
 /// Each node of a layer is joined to all of the next layer.
@@ -112,7 +126,7 @@ fn tangle(random: &mut Random, nodes: usize, most_links: usize) -> Vec<Way> {
     };
     let mut ways: Vec<Way> = vec![];
     if chain {
-        ways.extend((0..nodes - 1).map(|v| (v, v + 1)));
+        ways.extend((0..nodes - 1).take(most_links).map(|v| (v, v + 1)));
     }
     while ways.len() < count {
         let source = random.below(nodes - 1);

@@ -10,6 +10,8 @@ use oracle::{bench, reference};
 const USAGE: &str = "usage:
   oracle self              checks bench values of the requirements
   oracle cases SEED COUNT  prints random cases, one a line, with what is expected
+  oracle cases SEED COUNT NODES LINKS
+                           the same, of at most so many nodes and links
   oracle answer            the same for sheets read from standard input: SHEET N, one a line";
 
 /// The sheet, n, the distances, the nodes and links of the list's machine, the entries taken, and the
@@ -62,6 +64,10 @@ fn run(arguments: &[&str]) -> Option<bool> {
         ["cases", seed, count] => {
             let cases = Cases::new(seed.parse().ok()?).take(count.parse().ok()?);
             Some(print_cases(cases).is_ok())
+        }
+        ["cases", seed, count, nodes, links] => {
+            let cases = Cases::up_to(seed.parse().ok()?, nodes.parse().ok()?, links.parse().ok()?);
+            Some(print_cases(cases.take(count.parse().ok()?)).is_ok())
         }
         ["answer"] => {
             let lines = io::stdin().lines().map_while(Result::ok);
