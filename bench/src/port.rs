@@ -1,5 +1,7 @@
 //! The library, in areas that are made once and used again.
 
+use yeldmur::ffi;
+
 /// The largest n.
 const MOST: u32 = 64;
 
@@ -29,7 +31,7 @@ impl Port {
     pub fn distances(&mut self) -> usize {
         let mut values = 0;
         let number =
-            library::shortest_distance(&self.sheet, &mut self.work, &mut self.result, &mut values);
+            ffi::shortest_distance(&self.sheet, &mut self.work, &mut self.result, &mut values);
         assert_eq!(number, 0);
         values as usize
     }
@@ -37,12 +39,15 @@ impl Port {
     /// The states and links of the list's machine, and the entries taken.
     pub fn list(&mut self, n: u32) -> [u32; 3] {
         let mut counts = [0; 3];
-        let number = library::shortest_path(
+        let [states, links, taken] = &mut counts;
+        let number = ffi::shortest_path(
             &self.sheet,
             n,
             &mut self.work,
             &mut self.result,
-            &mut counts,
+            states,
+            links,
+            taken,
         );
         assert_eq!(number, 0);
         counts
@@ -55,7 +60,7 @@ impl Port {
 }
 
 fn sizes(sheet: &[u8], n: u32) -> (usize, usize) {
-    let mut sizes = [0; 2];
-    assert_eq!(library::areas(sheet, n, &mut sizes), 0);
-    (sizes[0] as usize, sizes[1] as usize)
+    let (mut slots, mut bytes) = (0, 0);
+    assert_eq!(ffi::areas(sheet, n, &mut slots, &mut bytes), 0);
+    (slots as usize, bytes as usize)
 }

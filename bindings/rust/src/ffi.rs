@@ -49,12 +49,14 @@ extern "C" {
     ) -> u32;
 }
 
-pub(crate) fn read_sheet(sheet: &[u8]) -> u32 {
+/// Reads a sheet: tests 1 to 4.
+pub fn read_sheet(sheet: &[u8]) -> u32 {
     // SAFETY: the pointer and the length are of one slice, lent for the call, that is only read.
     unsafe { yeldmur_read_sheet(sheet.as_ptr(), sheet.len()) }
 }
 
-pub(crate) fn write_sheet(
+/// Writes a sheet of links, four words each, and nodes, three words each: tests 1 to 4, then 21.
+pub fn write_sheet(
     links: &[u32],
     nodes: &[u32],
     start: u32,
@@ -77,7 +79,8 @@ pub(crate) fn write_sheet(
     }
 }
 
-pub(crate) fn shortest_distance(
+/// The distances of a sheet's nodes: tests 1 to 6, 20 and 21.
+pub fn shortest_distance(
     sheet: &[u8],
     work: &mut [u32],
     result: &mut [u8],
@@ -98,7 +101,8 @@ pub(crate) fn shortest_distance(
     }
 }
 
-pub(crate) fn shortest_path(
+/// The n cheapest readings of a sheet: tests 1 to 7, 20 and 21.
+pub fn shortest_path(
     sheet: &[u8],
     n: u32,
     work: &mut [u32],
@@ -125,7 +129,8 @@ pub(crate) fn shortest_path(
     }
 }
 
-pub(crate) fn areas(sheet: &[u8], n: u32, slots: &mut u64, bytes: &mut u64) -> u32 {
+/// The work slots that a list for n needs, and bytes that are enough for its result: tests 1 to 7.
+pub fn areas(sheet: &[u8], n: u32, slots: &mut u64, bytes: &mut u64) -> u32 {
     // SAFETY: the pointer and the length are of one slice, lent for the call, that is only read; `slots`
     // and `bytes`, which are written to, are lent mutably, so that they overlap nothing.
     unsafe { yeldmur_areas(sheet.as_ptr(), sheet.len(), n, slots, bytes) }

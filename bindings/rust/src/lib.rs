@@ -34,12 +34,13 @@
 //! assert_eq!(refused.number(), 1);
 //! ```
 //!
-//! Calls in a loop can keep their memory in [`Areas`]. [`raw`] has the library's calls themselves, in areas that the caller lends.
+//! Calls in a loop can keep their memory in [`Areas`]. [`raw`] has the library's calls themselves, in areas that the caller
+//! lends, and [`ffi`] the same by their numbers.
 #![deny(missing_docs)]
 // each module but `ffi` forbids it; here a `forbid` could not be lifted for that one
 #![deny(unsafe_code)]
 
-mod ffi;
+pub mod ffi;
 mod layout;
 mod list;
 pub mod raw;

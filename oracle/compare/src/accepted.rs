@@ -12,6 +12,7 @@ use crate::parts::Parts;
 use crate::sizes;
 use crate::tally::Tally;
 use crate::writer;
+use yeldmur::ffi;
 
 /// The Rust's distances, as the library must answer them.
 pub fn distances(machine: &Machine) -> Answer {
@@ -49,7 +50,7 @@ fn areas(random: &mut Random, slots: usize, bytes: usize) -> [Areas; 2] {
 pub fn compare(tally: &mut Tally, random: &mut Random, case: &Case) {
     let sheet = bytes::sheet(&case.machine);
     tally.sheets += 1;
-    tally.check("read", &sheet, library::read_sheet(&sheet) == 0);
+    tally.check("read", &sheet, ffi::read_sheet(&sheet) == 0);
     writer::compare(tally, random, &Parts::of(&case.machine));
     compare_distances(tally, random, &sheet, &case.machine);
     let mut asked = vec![1, case.n as u32, random.below(65) as u32];

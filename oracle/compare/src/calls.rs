@@ -1,6 +1,7 @@
 //! Calls into the library, and what is wrong with what they did.
 
 use crate::lent::Lent;
+use yeldmur::ffi;
 
 /// What a call that is not refused answers: its counts, and the bytes of its result.
 pub struct Answer {
@@ -67,8 +68,7 @@ pub fn distances(sheet: &[u8], areas: Areas, seed: u32) -> Left {
     let mut work = Lent::new(seed, areas.words);
     let mut result = Lent::new(seed, areas.room);
     let mut values = COUNT;
-    let number =
-        library::shortest_distance(&bytes[from..], work.cells(), result.cells(), &mut values);
+    let number = ffi::shortest_distance(&bytes[from..], work.cells(), result.cells(), &mut values);
     Left {
         number,
         counts: vec![values],
@@ -83,8 +83,9 @@ pub fn list(sheet: &[u8], n: u32, areas: Areas, seed: u32) -> Left {
     let mut work = Lent::new(seed, areas.words);
     let mut result = Lent::new(seed, areas.room);
     let mut counts = [COUNT; 3];
-    let number =
-        library::shortest_path(&bytes[from..], n, work.cells(), result.cells(), &mut counts);
+    let [states, links, taken] = &mut counts;
+    let sheet = &bytes[from..];
+    let number = ffi::shortest_path(sheet, n, work.cells(), result.cells(), states, links, taken);
     Left {
         number,
         counts: counts.to_vec(),

@@ -15,6 +15,7 @@ use crate::parts::Parts;
 use crate::sizes;
 use crate::tally::Tally;
 use crate::writer;
+use yeldmur::ffi;
 
 /// Areas about as long as needed, where something is needed: exact, short by a slot, a word, a value
 /// or a byte, none, or longer.
@@ -47,7 +48,7 @@ fn areas(random: &mut Random, slots: usize, answer: Option<&Answer>) -> Areas {
 
 /// Makes every call on a sheet.
 fn compare(tally: &mut Tally, random: &mut Random, sheet: &[u8], n: u32) {
-    let number = library::read_sheet(sheet);
+    let number = ffi::read_sheet(sheet);
     tally.check("read", sheet, number == checker::read(sheet));
     compare_distances(tally, random, sheet);
     compare_list(tally, random, sheet, n);

@@ -2,6 +2,7 @@
 
 use crate::checker;
 use crate::tally::Tally;
+use yeldmur::ffi;
 
 /// What the sizes hold before a call.
 const SIZE: u64 = 0xA5C3_0F1E_7788_99AA;
@@ -10,7 +11,8 @@ const SIZE: u64 = 0xA5C3_0F1E_7788_99AA;
 /// bytes are enough for the answer where its length is given; a refusal keeps both sizes.
 pub fn compare(tally: &mut Tally, sheet: &[u8], n: u32, answer: Option<usize>) {
     let mut sizes = [SIZE; 2];
-    let number = library::areas(sheet, n, &mut sizes);
+    let [slots, bytes] = &mut sizes;
+    let number = ffi::areas(sheet, n, slots, bytes);
     let expected = checker::list(sheet, n);
     let told = match expected {
         0 => {

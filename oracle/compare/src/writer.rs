@@ -6,6 +6,7 @@ use crate::checker;
 use crate::lent::Lent;
 use crate::parts::Parts;
 use crate::tally::Tally;
+use yeldmur::ffi;
 
 /// What the size holds before a call.
 const SIZE: u64 = 0x1122_3344_5566_7788;
@@ -19,7 +20,7 @@ pub fn compare(tally: &mut Tally, random: &mut Random, parts: &Parts) {
     let mut write = |links: &[u32], nodes: &[u32], tested: u32, room: usize| {
         let mut result = Lent::new(random.word() as u32, room);
         let mut size = SIZE;
-        let number = library::write_sheet(links, nodes, start, result.cells(), &mut size);
+        let number = ffi::write_sheet(links, nodes, start, result.cells(), &mut size);
         let held = match tested {
             0 if room < bytes.len() => number == 21 && size == SIZE && result.holds(&[]),
             0 => number == 0 && size == bytes.len() as u64 && result.holds(&bytes),
