@@ -8,7 +8,9 @@
  * Each call returns 0 or the number of a refusal. A refusal leaves the numbers behind `size`,
  * `values`, `states`, `links`, `taken`, `slots` and `bytes` as they were. In 1 to 20 no area changes.
  * From then on, 21 included, the work slots needed are left zero and those beyond keep their value.
- * With 21 the result area keeps its bytes; bytes past an answer keep their value. */
+ * With 21 the result area keeps its bytes; bytes past an answer keep their value.
+ *
+ * N is the count of a sheet's nodes, T that of its links, F that of its nodes with mark 1. */
 #ifndef YELDMUR_H
 #define YELDMUR_H
 
@@ -69,7 +71,10 @@ uint32_t yeldmur_shortest_distance(const uint8_t *sheet, size_t sheet_bytes,
 /* The n cheapest readings of a sheet, n up to 64: tests 1 to 7, 20 and 21. The result is the list's
  * machine as a sheet, 16 bytes a link, 12 a state and 20, and then one 32-bit word per link of it: the
  * number, from 0, of the input link that it repeats, or YELDMUR_NONE. `states` and `links` become the
- * counts of that machine, `taken` the entries that the search has taken. */
+ * counts of that machine, `taken` the entries that the search has taken. From n = 2 the k-th reading lies
+ * along the start's k-th link and then each state's only link as far as the final state; with n = 1 a
+ * machine that is not empty holds the one reading along its one way. A reading's links are the input
+ * links repeated on its way, in order. */
 uint32_t yeldmur_shortest_path(const uint8_t *sheet, size_t sheet_bytes, uint32_t n,
                                uint32_t *work, size_t work_words,
                                uint8_t *result, size_t result_bytes,

@@ -17,11 +17,11 @@ use Rattle.slots.specs.declared.Listed.{Listed}
 use Rattle.slots.specs.declared.Listed.the-variants as Listed
 use Rattle.shortest_path.specs.Outcome.{listAnswer, resultAfter}
 
--- What a call tells: the refusal, or the distances, or the list: the input labels of its readings, their costs, and the entries taken.
+-- What a call tells: the refusal, or the distances, or the list: the counts of its machine's nodes and links, the input labels of its readings, their costs, and the entries taken.
 pub data Told : Type 0 where
   refused : ℕ → Told
   distances : List Tropical → Told
-  list : List (List ℕ) → List Tropical → ℕ → Told
+  list : ℕ → ℕ → List (List ℕ) → List Tropical → ℕ → Told
 
 -- areas that are long enough for these cases
 abbrev pub workWords : ℕ
@@ -43,7 +43,7 @@ toldList bytes n (Listed.Refused k) = refused k
 toldList bytes n (Listed.Made nodes links taken) =
     let m = machine bytes in
     let runs = listOf n nodes links (resultAfter bytes n workWords resultArea) in
-    list (map (map (λ (l : ℕ). link m l .ilabel)) runs) (map (λ (run : List ℕ). readingCost m (readingOf m run)) runs) taken
+    list nodes links (map (map (λ (l : ℕ). link m l .ilabel)) runs) (map (λ (run : List ℕ). readingCost m (readingOf m run)) runs) taken
 
 -- the list for n of a sheet
 abbrev pub listTold : List ℕ → ℕ → Told
@@ -91,7 +91,7 @@ units k = fin (pos k)
 
 -- the readings of A by their labels
 abbrev allA : Told
-allA = list ((1 ∷ 3 ∷ []) ∷ (2 ∷ 4 ∷ []) ∷ (1 ∷ 5 ∷ 4 ∷ []) ∷ []) (units 112 ∷ units 112 ∷ units 144 ∷ []) 11
+allA = list 12 13 ((1 ∷ 3 ∷ []) ∷ (2 ∷ 4 ∷ []) ∷ (1 ∷ 5 ∷ 4 ∷ []) ∷ []) (units 112 ∷ units 112 ∷ units 144 ∷ []) 11
 
 -- distances 0, 1, 0.5, 1.25
 abbrev pub P1 : Case
@@ -99,7 +99,7 @@ P1 = record { told = distancesTold sheetA ∷ []; stated = distances (units 0 �
 
 -- best: labels 1, 3
 abbrev pub P2 : Case
-P2 = record { told = listTold sheetA 1 ∷ []; stated = list ((1 ∷ 3 ∷ []) ∷ []) (units 112 ∷ []) 0 ∷ [] }
+P2 = record { told = listTold sheetA 1 ∷ []; stated = list 3 2 ((1 ∷ 3 ∷ []) ∷ []) (units 112 ∷ []) 0 ∷ [] }
 
 -- n = 3: costs 112, 112, 144 sixty-fourths, the third by 1, 5, 4, taken 11
 abbrev pub P3 : Case
@@ -111,7 +111,7 @@ P4 = record { told = listTold sheetA 4 ∷ []; stated = allA ∷ [] }
 
 -- a 20-byte sheet with no nodes and no start: empty at each n up to 64
 abbrev pub P5 : Case
-P5 = record { told = listBelow 65 (listTold sheetE); stated = replicate 65 (list [] [] 0) }
+P5 = record { told = listBelow 65 (listTold sheetE); stated = replicate 65 (list 0 0 [] [] 0) }
 
 -- 19 bytes: 1
 abbrev pub P6 : Case
@@ -119,7 +119,7 @@ P6 = record { told = listTold (take 19 sheetE) 1 ∷ listTold (take 19 sheetA) 2
 
 -- weight 64 passes, 64.015625: 4
 abbrev pub P7 : Case
-P7 = record { told = listTold (oneLink 0x4280_0000 1) 1 ∷ listTold (oneLink 0x4280_0800 1) 1 ∷ []; stated = list ((1 ∷ []) ∷ []) (units 4096 ∷ []) 0 ∷ refused 4 ∷ [] }
+P7 = record { told = listTold (oneLink 0x4280_0000 1) 1 ∷ listTold (oneLink 0x4280_0800 1) 1 ∷ []; stated = list 2 1 ((1 ∷ []) ∷ []) (units 4096 ∷ []) 0 ∷ refused 4 ∷ [] }
 
 -- a link to its own node: 6
 abbrev pub P8 : Case
