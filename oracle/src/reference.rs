@@ -19,11 +19,11 @@ macro_rules! calls {
             use $rust::semirings::{Semiring, TropicalWeight};
             use $rust::{Tr, Trs};
 
-            type Fst = VectorFst<TropicalWeight>;
+            pub type Fst = VectorFst<TropicalWeight>;
 
             /// The Rust's machine, held to be one that it relaxes in the order of states: the
             /// published functions gave it TOP_SORTED, and with it `AutoQueue` takes that queue.
-            fn built(machine: &Machine) -> Fst {
+            pub fn built(machine: &Machine) -> Fst {
                 let mut fst = Fst::new();
                 fst.add_states(machine.nodes.len());
                 for (state, node) in machine.nodes.iter().enumerate() {
@@ -81,6 +81,8 @@ macro_rules! calls {
 
 calls!(in_published, published);
 calls!(in_counted, counted);
+
+pub use in_published::{built, Fst};
 
 /// The Rust's distances. Its vector grows to each node that it meets, and on finite weights each node
 /// that it meets is reached: so it has one value per node up to the highest reached.

@@ -3,7 +3,7 @@
 
 mod common;
 
-use common::{a_with, bytes, chain, link, readings, sheet_a, A, NONE};
+use common::{a_with, bytes, chain, link, links_a, readings, sheet_a, A, NONE};
 use yeldmur::{distances, list, Refusal, Sheet};
 
 #[test]
@@ -167,13 +167,6 @@ fn p11_the_longest_chain() {
 
 #[test]
 fn the_fields_by_hand_are_what_the_writer_writes() {
-    let links = [
-        link(0, 1, 1.0, 1),
-        link(0, 2, 0.5, 2),
-        link(1, 3, 0.25, 3),
-        link(1, 5, 0.0, 2),
-        link(2, 4, 0.75, 3),
-    ];
-    let written = Sheet::write(&links, &[None, None, None, Some(0.5)], Some(0)).unwrap();
+    let written = Sheet::write(&links_a(), &[None, None, None, Some(0.5)], Some(0)).unwrap();
     assert_eq!(written.bytes(), bytes(&A));
 }

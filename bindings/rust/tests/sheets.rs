@@ -3,7 +3,7 @@
 
 mod common;
 
-use common::{bytes, link, sheet_a, A};
+use common::{bytes, link, links_a, sheet_a, A};
 use yeldmur::{list, Link, Refusal, Sheet};
 
 fn again(sheet: &Sheet) -> Sheet {
@@ -16,13 +16,7 @@ fn again(sheet: &Sheet) -> Sheet {
 fn what_a_holds() {
     let a = sheet_a();
     assert_eq!((a.node_count(), a.link_count(), a.start()), (4, 5, Some(0)));
-    let links = [
-        link(0, 1, 1.0, 1),
-        link(0, 2, 0.5, 2),
-        link(1, 3, 0.25, 3),
-        link(1, 5, 0.0, 2),
-        link(2, 4, 0.75, 3),
-    ];
+    let links = links_a();
     assert_eq!(a.links().collect::<Vec<_>>(), links);
     assert_eq!(a.links().len(), 5);
     assert_eq!(a.links().next_back(), Some(links[4]));

@@ -1,4 +1,4 @@
 // The listing program: the list for n of a sheet, as text.
 pub mod print;
-pub mod text;
-pub mod ways;
+mod text;
+mod ways;

@@ -50,6 +50,17 @@ pub fn link(source: u32, label: u32, weight: f32, next: u32) -> Link {
     }
 }
 
+/// The links of Sheet A.
+pub fn links_a() -> [Link; 5] {
+    [
+        link(0, 1, 1.0, 1),
+        link(0, 2, 0.5, 2),
+        link(1, 3, 0.25, 3),
+        link(1, 5, 0.0, 2),
+        link(2, 4, 0.75, 3),
+    ]
+}
+
 /// The numbers of the links of each reading on the list for n, with its cost.
 pub fn readings(sheet: &Sheet, n: u32) -> Vec<(i32, Vec<u32>)> {
     let list = yeldmur::list(sheet, n).unwrap();
