@@ -4,6 +4,7 @@ use mathlib.Core.Logic.{_⊎_, inl, inr}
 use mathlib.Core.Bool.{Bool, true, false, not, cond}
 use mathlib.Core.List.{List}
 use Prim.Native.Nat.{ℕ, zero, suc, _+_, _-_, _*_, _≤_, _<_}
+use native.Mathlib.Numerals.{add-one}
 use native.Mathlib.Omega.{arith}
 use lib.Dec.{eqb}
 use lib.ListN.{set, length-set}
@@ -77,6 +78,16 @@ module _ (bytes : List ℕ) (links nodes : ℕ) where
   links-kept first distance zero s l h = h
   links-kept first distance (suc n) s l h = link-kept (linkAt bytes (first + n)) distance (relaxLinks bytes first distance n s) (h .inside (first + n) (omega arith)) (links-kept first distance n s (omega arith) h)
 
+  -- the loop's turn: one link more
+  pub link-again : (first : ℕ) (distance : Float) (i : ℕ) (s t : State) → first + i < links → Kept t → t ≡ relaxLinks bytes first distance i s
+      → (k : Link) → k ≡ linkAt bytes (first + i) → (u : State) → u ≡ relaxLink k distance t → Kept u × (u ≡ relaxLinks bytes first distance (i + 1) s)
+  unfolding relaxLinks
+  link-again first distance i s t l h e k r u m =
+      let made = m ∙ ap (λ (x : Link). relaxLink x distance t) r in (
+        subst Kept (sym made) (link-kept (linkAt bytes (first + i)) distance t (h .inside (first + i) l) h),
+        made ∙ ap (relaxLink (linkAt bytes (first + i)) distance) e ∙ sym (ap (λ (n : ℕ). relaxLinks bytes first distance n s) (add-one i)),
+      )
+
   -- ---- a head
   module _ (s : State) (h : Kept s) (filled : isEmpty (s .queue) ≡ false) where
     pub front-below : s .queue .front < nodes
@@ -109,8 +120,8 @@ module _ (bytes : List ℕ) (links nodes : ℕ) where
 module _ (bytes : List ℕ) (links : ℕ) (s : State) where
   -- a head's links relaxed, by what the calls answer
   pub head-made : (distance : Float) (count : ℕ) (q : Queue) → distance ≡ ofBits binary32 (distanceWord (s .work) (s .queue .front)) → count ≡ countAt bytes links (s .queue .front) → q ≡ dequeued (s .queue)
-      → (area : List ℕ) (r : Queue) → let t = relaxLinks bytes (firstWord (s .work) (s .queue .front)) distance count (record { work = s .work; queue = q }) in r ≡ t .queue → area ≡ t .work → record { work = area; queue = r } ≡ relaxHead bytes links s
-  head-made distance count q d n e area r h k = (λ i. record { work = k i; queue = h i }) ∙ λ i. relaxLinks bytes (firstWord (s .work) (s .queue .front)) (d i) (n i) (record { work = s .work; queue = e i })
+      → (t : State) → t ≡ relaxLinks bytes (firstWord (s .work) (s .queue .front)) distance count (record { work = s .work; queue = q }) → t ≡ relaxHead bytes links s
+  head-made distance count q d n e t h = h ∙ λ i. relaxLinks bytes (firstWord (s .work) (s .queue .front)) (d i) (n i) (record { work = s .work; queue = e i })
 
   pub heads-none : relaxHeads bytes links 0 s ≡ s
   unfolding relaxHeads

@@ -2,18 +2,15 @@
 use mathlib.Core.Path.{_≡_, sym, ap, _∙_}
 use mathlib.Core.Bool.{Bool, true, false, not, _&&_, cond}
 use mathlib.Core.List.{List}
-use Prim.Native.Nat.{ℕ, _+_, _*_}
-use native.Mathlib.Numerals.{add-one}
+use Prim.Native.Nat.{ℕ, _*_}
 use lib.Dec.{eqb}
 use lib.ListN.{set}
 use lib.Seq.{set-getD}
 use lib.Ieee.{Float, binary32, add, ofBits, toBits}
 use Rattle.tropical_weight.specs.Single.{lesser, approxEqual}
 use Rattle.sheet.specs.declared.tr.Link.{Link}
-use Rattle.sheet.specs.Records.{linkAt}
-use Rattle.state_order_queue.specs.declared.Queue.{Queue}
 use Rattle.shortest_distance.specs.Slots.{infinite, distanceWord}
-use Rattle.shortest_distance.specs.Relaxation.{delta, offered, improves, reaches, relaxedWords, State, relaxLink, relaxLinks}
+use Rattle.shortest_distance.specs.Relaxation.{delta, offered, improves, reaches, relaxedWords}
 
 -- the test, by what the calls answer
 pub offer-test : (word : ℕ) (distance weight old sum new : Float) (near : Bool) → old ≡ ofBits binary32 word → sum ≡ add binary32 distance weight → new ≡ lesser old sum → near ≡ approxEqual old new delta
@@ -40,14 +37,3 @@ module _ (k : Link) (distance : Float) (work : List ℕ) where
     sym (ap (λ (b : Bool). b && eqb (distanceWord work (k .nextstate)) infinite) h),
     ap (set work (8 * k .nextstate)) e ∙ sym (ap (λ (b : Bool). set work (8 * k .nextstate) (cond b (toBits binary32 (offered (distanceWord work (k .nextstate)) distance (k .weight))) (distanceWord work (k .nextstate)))) h),
   )
-
--- ---- one link more, by what its call answers
-module _ (bytes : List ℕ) (first : ℕ) (distance : Float) (i : ℕ) (s : State) where
-  pub links-turn : (area : List ℕ) (q : Queue) → q ≡ relaxLinks bytes first distance i s .queue → area ≡ relaxLinks bytes first distance i s .work
-      → (new : List ℕ) (r : Queue) → let t = relaxLink (linkAt bytes (first + i)) distance (record { work = area; queue = q }) in r ≡ t .queue → new ≡ t .work
-      → (r ≡ relaxLinks bytes first distance (i + 1) s .queue) × (new ≡ relaxLinks bytes first distance (i + 1) s .work)
-  unfolding relaxLinks
-  links-turn area q h k new r e f = (e ∙ λ j. next j .queue, f ∙ λ j. next j .work)
-    where
-      next : relaxLink (linkAt bytes (first + i)) distance (record { work = area; queue = q }) ≡ relaxLinks bytes first distance (i + 1) s
-      next = (λ j. relaxLink (linkAt bytes (first + i)) distance (record { work = k j; queue = h j })) ∙ sym (ap (λ (n : ℕ). relaxLinks bytes first distance n s) (add-one i))

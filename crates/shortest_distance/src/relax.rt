@@ -1,12 +1,9 @@
 // Relaxation, link by link through the queue.
 ghost use mathlib.Core.Path.{_≡_};
-ghost use Prim.Native.Nat.{ℕ, _+_, _*_, _≤_, _<_};
+ghost use Prim.Native.Nat.{_*_, _<_};
 ghost use lib.ListN.{length};
-ghost use Rattle.tropical_weight.specs.Limits.{nodeLimit};
-ghost use Rattle.sheet.specs.Words.{word as wordAt};
-ghost use Rattle.sheet.specs.Records.{linkAt};
 ghost use Rattle.shortest_distance.specs.Slots.{distanceWord};
-ghost use Rattle.shortest_distance.specs.Relaxation.{reaches, relaxedWords, relaxLink, relaxLinks, relaxHeads};
+ghost use Rattle.shortest_distance.specs.Relaxation.{reaches, relaxedWords, relaxHeads};
 ghost use Rattle.shortest_distance.specs.Sound.{Sound};
 use crate::slots::INFINITE;
 use crate::slots::SLOT;
@@ -33,33 +30,9 @@ fn relax_link(k: Link, distance: f32, work: &mut [u32]) -> bool
     word == INFINITE
 }
 
-// Relaxes so many links from a number on, and puts each next node in at the first distance that it
-// gets: the queue goes by value, so no call takes it but then.
-fn relax_links(
-    sheet: &[u8],
-    first: u32,
-    count: u32,
-    distance: f32,
-    work: &mut [u32],
-    q: Queue,
-) -> Queue
-    requires { ⌜ (16 * (first + count) ≤ length (now sheet)) × ((l : ℕ) → l < first + count → (8 * wordAt (now sheet) (16 * l + 12) < length (now work)) × (wordAt (now sheet) (16 * l + 12) < nodeLimit)) ⌝ }
-    ensures { λ r. ⌜ (r ≡ relaxLinks (now (sheet .entry)) first distance count (record { work = now (work .entry); queue = q }) .queue) × (now (work .exit) ≡ relaxLinks (now (sheet .entry)) first distance count (record { work = now (work .entry); queue = q }) .work) ⌝ }
-{
-    let mut queue = q;
-    let mut i = 0u32;
-    while i < count {
-        let k = sheet::tr::link_at(sheet, (first as usize) + (i as usize));
-        if relax_link(k, distance, work) {
-            queue = state_order_queue::put(queue, k.nextstate);
-        }
-        i += 1;
-    }
-    queue
-}
-
-// Takes heads and relaxes their links until the queue is empty. A turn a node is the most, so that
-// the loop ends whatever the links are.
+// Takes heads and relaxes their links until the queue is empty, and puts each next node in at the
+// first distance that it gets. A turn a node is the most, so that the loop ends whatever the links
+// are. A flag is stored where the queue lies, and the queue then goes by value for its ends.
 pub fn relax_heads(sheet: &[u8], links: u32, nodes: u32, work: &mut [u32], q: Queue)
     requires { ⌜ Sound (now sheet) links nodes (now work) q ⌝ }
     ensures { λ _. ⌜ now (work .exit) ≡ relaxHeads (now (sheet .entry)) links nodes (record { work = now (work .entry); queue = q }) .work ⌝ }
@@ -76,14 +49,19 @@ pub fn relax_heads(sheet: &[u8], links: u32, nodes: u32, work: &mut [u32], q: Qu
         let first = work[SLOT * v + 1];
         let count = word(sheet, 16 * (links as usize) + 12 * v);
         let distance = tropical_weight::from_bits(work[SLOT * v]);
-        queue = relax_links(
-            sheet,
-            first,
-            count,
-            distance,
-            work,
-            state_order_queue::take(queue),
-        );
+        queue.flags[v] = false;
+        let next = state_order_queue::next_front(front, back, &queue.flags);
+        queue = state_order_queue::dequeue_cleared(queue, next);
+        let mut i = 0u32;
+        while i < count {
+            let k = sheet::tr::link_at(sheet, (first as usize) + (i as usize));
+            if relax_link(k, distance, work) {
+                let w = k.nextstate;
+                queue.flags[w as usize] = true;
+                queue = state_order_queue::enqueue_flagged(queue, w);
+            }
+            i += 1;
+        }
         turn += 1;
     }
 }

@@ -70,6 +70,11 @@ backWith front (At back) v = cond (ltb back front || ltb back v) v back
 abbrev pub enqueued : Queue → ℕ → Queue
 enqueued q v = record { front = frontWith (q .front) (q .back) v; back = At (backWith (q .front) (q .back) v); flags = set (q .flags) v true }
 
+-- the first node with a flag from front to back, or the one past back
+abbrev pub nextFront : ℕ → Back → List Bool → ℕ
+nextFront front None flags = front
+nextFront front (At back) flags = firstSet (back + 1 - front) front flags
+
 -- front taken out of a queue not empty: front moves up to the next flag, or past back
 abbrev pub withoutFront : ℕ → Back → List Bool → Queue
 withoutFront front None flags = record { front = front; back = None; flags = flags }

@@ -1,12 +1,14 @@
 // The queue of nodes in their order (state_order_queue.rs, queue.rs of rustfst), as one record.
 //
 // Each call takes the record by value, tests it and hands it back: with refusal 22 it is unchanged.
-// `put`, `take` and `holds_none` make no test: they are for a caller that keeps the record valid.
+// The calls without a test are for a caller that keeps the record valid. Where it stores a flag in
+// its own record first, the record goes by value through `enqueue_flagged` and `dequeue_cleared`,
+// which move its ends alone: that compiles to no copy of the flags.
 ghost use mathlib.Core.Path.{_≡_};
-ghost use mathlib.Core.Bool.{true, _&&_};
+ghost use mathlib.Core.Bool.{true, false, _&&_};
 ghost use Prim.Native.Nat.{_-_, _≤_, _<_};
 ghost use Rattle.tropical_weight.specs.Limits.{nodeLimit};
-ghost use Rattle.state_order_queue.specs.Queues.{firstSet, emptyFrom, endsFit, endsSet, isInside, flagsInside, isValid, emptied, frontWith, backWith, enqueued, dequeued};
+ghost use Rattle.state_order_queue.specs.Queues.{firstSet, nextFront, holds, emptyFrom, endsFit, endsSet, isInside, flagsInside, isValid, emptied, frontWith, backWith, enqueued, dequeued};
 ghost use Rattle.state_order_queue.specs.Answers.{enqueueAnswer, updateAnswer, clearAnswer, dequeueAnswer, headAnswer, isEmptyAnswer};
 
 // One flag a node: the limits of the record follow the limit on nodes.
@@ -192,20 +194,29 @@ fn back_with(front: u32, back: Back, v: u32) -> u32
     }
 }
 
-// The queue with a node put in.
-pub fn put(q: Queue, state: u32) -> Queue
-    requires { ⌜ state < nodeLimit ⌝ }
+// The queue with a node put in whose flag is set already: only the ends move.
+pub fn enqueue_flagged(q: Queue, state: u32) -> Queue
+    requires { ⌜ holds q state ≡ true ⌝ }
     ensures { λ r. ⌜ r ≡ enqueued q state ⌝ }
 {
     let front = q.front;
     let back = q.back;
-    let mut flags = q.flags;
-    flags[state as usize] = true;
+    let flags = q.flags;
     Queue {
         front: front_with(front, back, state),
         back: Back::At(back_with(front, back, state)),
         flags,
     }
+}
+
+// The queue with a node put in.
+pub fn put(q: Queue, state: u32) -> Queue
+    requires { ⌜ state < nodeLimit ⌝ }
+    ensures { λ r. ⌜ r ≡ enqueued q state ⌝ }
+{
+    let mut queue = q;
+    queue.flags[state as usize] = true;
+    enqueue_flagged(queue, state)
 }
 
 // The first node with a flag, or the end.
@@ -223,26 +234,45 @@ fn first_set(flags: &[bool; FLAGS], from: u32, end: u32) -> u32
     v
 }
 
+// The first node with a flag from front to back, or the one past back.
+pub fn next_front(front: u32, back: Back, flags: &[bool; FLAGS]) -> u32
+    requires { ⌜ (endsFit front back ≡ true) × (emptyFrom front back ≡ false) ⌝ }
+    ensures { λ r. ⌜ r ≡ nextFront front back (now (flags .entry)) ⌝ }
+{
+    match back {
+        Back::None => front,
+        Back::At(b) => first_set(flags, front, b + 1),
+    }
+}
+
+// The queue without its front, whose flag is cleared already: only front moves.
+pub fn dequeue_cleared(q: Queue, next: u32) -> Queue
+    requires { ⌜ (holds q (q .front) ≡ false) × (next ≡ nextFront (q .front) (q .back) (q .flags)) ⌝ }
+    ensures { λ r. ⌜ r ≡ dequeued q ⌝ }
+{
+    let back = q.back;
+    let flags = q.flags;
+    Queue {
+        front: next,
+        back,
+        flags,
+    }
+}
+
 // The queue without its front, where it has one.
-pub fn take(q: Queue) -> Queue
+fn take(q: Queue) -> Queue
     requires { ⌜ isValid q ≡ true ⌝ }
     ensures { λ r. ⌜ r ≡ dequeued q ⌝ }
 {
     let front = q.front;
     let back = q.back;
-    let Back::At(b) = back else {
-        return q;
-    };
-    if b < front {
+    if holds_none(front, back) {
         return q;
     }
-    let mut flags = q.flags;
-    flags[front as usize] = false;
-    Queue {
-        front: first_set(&flags, front, b + 1),
-        back,
-        flags,
-    }
+    let mut queue = q;
+    queue.flags[front as usize] = false;
+    let next = next_front(front, back, &queue.flags);
+    dequeue_cleared(queue, next)
 }
 
 // ---- the calls
