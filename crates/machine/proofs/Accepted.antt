@@ -5,23 +5,24 @@ use mathlib.Core.Logic.{_⊎_, inl, inr}
 use mathlib.Core.Bool.{Bool, true, false, not, _&&_, _||_, cond, or-false}
 use mathlib.Core.Option.{none, some}
 use mathlib.Core.List.{List}
-use Prim.Native.Nat.{ℕ, _≤_, _<_}
+use Prim.Native.Nat.{ℕ, _≤_, _<_, _^_}
 use native.Mathlib.Omega.{arith}
 use lib.Dec.{T, leb, ltb, eqb, leb→le, ltb→lt, lit≤}
 use lib.ListN.{length, getD, List·getD-eq-default}
-use lib.Ieee.{binary32, ofBits}
-use lib.Ieee.Bits.{ofBits-fits}
+use lib.Ieee.{binary32, ofBits, toBits, isNan}
+use lib.Ieee.Bits.{ofBits-fits, toBits-ofBits}
 use lib.Ieee.Fits.{and-l, and-r}
 use borrow.Author.Tests.{eqb-true, eqb-false}
-use Rattle.tropical_weight.specs.Limits.{unit, weightLimit, nodeLimit, linkLimit}
+use Rattle.tropical_weight.specs.Limits.{unit, weightLimit, sumLimit, nodeLimit, linkLimit}
 use Rattle.tropical_weight.specs.Tropical.{Tropical, Within}
 use Rattle.tropical_weight.specs.Grid.{ofT, gridBits, unitsOf}
+use Rattle.tropical_weight.proofs.Exact.{ofT-no-nan}
+use Rattle.tropical_weight.proofs.Sums.{within-mono}
 use Rattle.tropical_weight.proofs.Grid.{onGrid-whole}
 use Rattle.sheet.specs.Below.{allBelow}
 use Rattle.sheet.specs.Sheet.{Parts, noStart, linkCount, nodeCount, mark, finalBits, linkBits, next, startFits, onGridBits, nodesFit, nextsFit, weightsFit, verdict, partsOf, sizesFit, readNumber}
-use Rattle.sheet.specs.Machine.{machineOf, sourcesBelow, weightOf, linkOf}
-use Rattle.sheet.proofs.Below.{allBelow-at}
-use Rattle.sheet.proofs.Below.{split-at}
+use Rattle.sheet.specs.Machine.{machineOf, sourcesBelow, weightOf, bitsOf, linkOf}
+use Rattle.sheet.proofs.Below.{allBelow-at, split-at}
 use Rattle.sheet.proofs.Sources.{sources-rise, length-sources, counts-sum, machine-link, machine-links, machine-final, machine-nodes}
 use Rattle.machine.specs.Readings.{link, final, noLink}
 use Rattle.machine.specs.Climbs.{Climbs, Finite, Small}
@@ -36,6 +37,14 @@ weight-within bits e = onGrid-whole unit (lit≤ tt) weightLimit (lit≤ tt) (of
 pub weight-value : (bits : ℕ) → onGridBits bits ≡ true → ofBits binary32 bits ≡ ofT unit (weightOf bits)
 unfolding gridBits
 weight-value bits e = onGrid-whole unit (lit≤ tt) weightLimit (lit≤ tt) (ofBits binary32 bits) (ofBits-fits binary32 bits) e .is
+
+-- the field of its weight is the field again
+pub bits-again : (bits : ℕ) → bits < 2 ^ 32 → onGridBits bits ≡ true → bitsOf (weightOf bits) ≡ bits
+bits-again bits h e =
+    let few = within-mono weightLimit sumLimit (weightOf bits) (let z : weightLimit ≤ sumLimit = omega arith in z) (weight-within bits e) in
+    let value = weight-value bits e in
+    ap (toBits binary32) (sym value)
+    ∙ toBits-ofBits binary32 bits h (subst (λ (b : Bool). T (not b)) (sym (ap isNan value ∙ ofT-no-nan unit (lit≤ tt) (weightOf bits) few)) tt)
 
 -- ---- what the tests say, taken apart
 pub record Passes (p : Parts) : Type 0 where

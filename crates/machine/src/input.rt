@@ -7,6 +7,7 @@ ghost use Rattle.sheet.specs.Below.{allBelow, sumBelow};
 ghost use Rattle.sheet.specs.Words.{word as wordAt};
 ghost use Rattle.machine.specs.Answers.{nodesClimb, inputAnswer};
 use sheet::read::Tested;
+use sheet::refusal;
 use sheet::words::word;
 
 // Whether the links from one number on, so many of them, lead above node v.
@@ -53,13 +54,13 @@ pub fn input(sheet: &[u8]) -> Tested
     let links = t.links;
     let nodes = t.nodes;
     if tropical_weight::NODE_LIMIT < (nodes as usize) {
-        return Tested::Refused(5);
+        return Tested::Refused(refusal::LIMITS);
     }
     if tropical_weight::LINK_LIMIT < (links as usize) {
-        return Tested::Refused(5);
+        return Tested::Refused(refusal::LIMITS);
     }
     if !links_climb(sheet, links, nodes) {
-        return Tested::Refused(6);
+        return Tested::Refused(refusal::CLIMB);
     }
     Tested::Accepted(t)
 }

@@ -26,9 +26,15 @@ nodeAt bytes links v = record {
   weight = ofBits binary32 (word bytes (16 * links + 12 * v + 8));
 }
 
--- its link count
+-- its link count, its mark, and its final weight's field
 abbrev pub countAt : List ℕ → ℕ → ℕ → ℕ
 countAt bytes links v = word bytes (16 * links + 12 * v)
+
+abbrev pub markAt : List ℕ → ℕ → ℕ → ℕ
+markAt bytes links v = word bytes (16 * links + 12 * v + 4)
+
+abbrev pub finalAt : List ℕ → ℕ → ℕ → ℕ
+finalAt bytes links v = word bytes (16 * links + 12 * v + 8)
 
 -- the number of its first link
 abbrev pub firstLink : List ℕ → ℕ → ℕ → ℕ

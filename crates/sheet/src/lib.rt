@@ -2,6 +2,7 @@
 // that points back; every field is 32-bit and little-endian.
 pub mod read;
 pub mod reader;
+pub mod refusal;
 mod tests;
 pub mod tr;
 pub mod words;

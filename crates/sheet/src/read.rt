@@ -4,6 +4,7 @@ ghost use mathlib.Core.Bool.{_&&_};
 ghost use Prim.Native.Nat.{_+_, _*_};
 ghost use lib.Dec.{eqb};
 ghost use Rattle.sheet.specs.Answers.{tested};
+use crate::refusal;
 use crate::tests::judge;
 use crate::tests::test_links;
 use crate::tests::test_nodes;
@@ -37,11 +38,11 @@ pub fn read(sheet: &[u8]) -> Tested
     ensures { λ r. ⌜ r ≡ tested (now (sheet .entry)) ⌝ }
 {
     if sheet.len() < TRAILER {
-        return Tested::Refused(1);
+        return Tested::Refused(refusal::LAYOUT);
     }
     let t = trailer_of(sheet);
     if !sizes_fit(t, sheet.len()) {
-        return Tested::Refused(1);
+        return Tested::Refused(refusal::LAYOUT);
     }
     let links = t.links;
     let nodes = t.nodes;

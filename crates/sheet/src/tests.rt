@@ -8,6 +8,7 @@ ghost use lib.ListN.{length, getD};
 ghost use Rattle.sheet.specs.Words.{word as wordAt};
 ghost use Rattle.sheet.specs.Sheet.{wellMarked, startFits, onGridBits};
 ghost use Rattle.sheet.specs.Tests.{withNode, withLink, nodeTests, linkTests, judged};
+use crate::refusal;
 use crate::words::word;
 
 // What the nodes so far pass: the marks and the weights of absent finals (test 1), the links that
@@ -160,16 +161,16 @@ pub fn judge(n: NodeTests, l: LinkTests, links: u32, nodes: u32, start: u32) -> 
     ensures { λ r. ⌜ r ≡ judged n l links nodes start ⌝ }
 {
     if !both(n.marked, n.links == (links as u64)) {
-        return 1;
+        return refusal::LAYOUT;
     }
     if !start_fits(start, nodes) {
-        return 2;
+        return refusal::START;
     }
     if !l.nexts {
-        return 3;
+        return refusal::NEXT;
     }
     if !both(l.weights, n.weights) {
-        return 4;
+        return refusal::WEIGHT;
     }
     0
 }

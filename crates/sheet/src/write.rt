@@ -7,6 +7,7 @@ ghost use lib.ListN.{length};
 ghost use lib.Seq.{sets};
 ghost use Rattle.sheet.specs.Sheet.{sheetOf};
 ghost use Rattle.sheet.specs.Answers.{parts, written, writtenOver};
+use crate::refusal;
 use crate::tests::judge;
 use crate::tests::test_link_words;
 use crate::tests::test_node_words;
@@ -55,7 +56,7 @@ pub fn write(links: &[u32], nodes: &[u32], start: u32, result: &mut [u8]) -> Wri
     ensures { λ _. ⌜ now (result .exit) ≡ writtenOver (parts (now (links .entry)) (now (nodes .entry)) start) (now (result .entry)) ⌝ }
 {
     if !records_fit(links.len(), nodes.len()) {
-        return Written::Refused(1);
+        return Written::Refused(refusal::LAYOUT);
     }
     let t = (links.len() / 4) as u32;
     let n = (nodes.len() / 3) as u32;
@@ -71,7 +72,7 @@ pub fn write(links: &[u32], nodes: &[u32], start: u32, result: &mut [u8]) -> Wri
     }
     let length = 16 * (t as usize) + 12 * (n as usize) + TRAILER;
     if result.len() < length {
-        return Written::Refused(21);
+        return Written::Refused(refusal::RESULT);
     }
     put_sheet(result, links, nodes, start);
     Written::Length(length)
