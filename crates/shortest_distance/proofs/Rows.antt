@@ -8,7 +8,7 @@ use Prim.Native.Nat.{ℕ, zero, suc, _+_, _-_, _*_, _≤_, _<_}
 use native.Mathlib.Nat.{add-zero}
 use native.Mathlib.Decide.{ℕ-discrete}
 use native.Mathlib.Omega.{arith}
-use lib.Dec.{T, leb, ltb, eqb, leb→le, ltb→lt, lit≤}
+use lib.Dec.{T, leb, ltb, eqb, leb→le, ltb→lt}
 use lib.Ieee.Fits.{and-l, and-r}
 use lib.ListN.{length, getD, set, drop, length-set}
 use lib.Seq.{getD-set-same, getD-set-other, set-getD, drop-set-lt}
@@ -17,7 +17,7 @@ use borrow.Author.Tests.{le-leb, lt-leb, lt-ltb, eq-eqb, ne-eqb}
 use Rattle.tropical_weight.specs.Limits.{unit, weightLimit, nodeLimit, sumLimit}
 use Rattle.tropical_weight.specs.Tropical.{Tropical, inf, _⊕_, _⊗_, Within}
 use Rattle.tropical_weight.specs.Grid.{ofT}
-use Rattle.tropical_weight.proofs.Exact.{bits-back}
+use Rattle.tropical_weight.proofs.Exact.{covered, bits-back}
 use Rattle.tropical_weight.proofs.Semiring.{isFinite, finite-⊕, not-finite, ⊕-comm, zero-⊕}
 use Rattle.tropical_weight.proofs.Sums.{within-mono, terms-within, limits}
 use Rattle.sheet.specs.Below.{sumBelow}
@@ -45,16 +45,17 @@ pub record Reads (bytes : List ℕ) (links : ℕ) (m : Machine) : Type 0 where
   pub next-at : (l : ℕ) → l < length (m .links) → linkAt bytes l .nextstate ≡ link m l .next
   pub weight-at : (l : ℕ) → l < length (m .links) → linkAt bytes l .weight ≡ ofT unit (link m l .weight)
 
+-- the first link of the next node, and those of all nodes among the machine's
+pub next-first : (bytes : List ℕ) (links v : ℕ) → sumBelow (suc v) (countAt bytes links) ≡ sumBelow v (countAt bytes links) + countAt bytes links v
+next-first bytes links v = unfold sumBelow in refl
+
+pub first-in : (bytes : List ℕ) (links : ℕ) (m : Machine) → Reads bytes links m → (v : ℕ) → v ≤ length (m .finals) → sumBelow v (countAt bytes links) ≤ length (m .links)
+first-in bytes links m r v h = omega (arith, sum-mono (countAt bytes links) (length (m .finals)) v h, r .total)
+
 module _ (bytes : List ℕ) (links : ℕ) (m : Machine) (r : Reads bytes links m) (old : List ℕ) where
   -- the first link of node v
   abbrev first : ℕ → ℕ
   first v = sumBelow v (countAt bytes links)
-
-  next-first : (v : ℕ) → first (suc v) ≡ first v + countAt bytes links v
-  next-first v = unfold sumBelow in refl
-
-  first-in : (v : ℕ) → v ≤ length (m .finals) → first v ≤ length (m .links)
-  first-in v h = omega (arith, sum-mono (countAt bytes links) (length (m .finals)) v h, r .total)
 
   -- ---- rows
   row-limit : (l v : ℕ) → l ≤ length (m .links) → v < length (m .finals) → Within sumLimit (getD (relax m l) v inf)
@@ -83,8 +84,8 @@ module _ (bytes : List ℕ) (links : ℕ) (m : Machine) (r : Reads bytes links m
   skip-links v (suc n) h k e =
       let l = first v + n in
       let same = skip-links v n h (omega arith) e in
-      let in-links : l < length (m .links) = omega (arith, next-first v, first-in (suc v) h) in
-      let source : link m l .source ≡ v = r .source-at v l h (omega arith) (omega (arith, next-first v)) in
+      let in-links : l < length (m .links) = omega (arith, next-first bytes links v, first-in bytes links m r (suc v) h) in
+      let source : link m l .source ≡ v = r .source-at v l h (omega arith) (omega (arith, next-first bytes links v)) in
       ap (relax m) (let z : first v + suc n ≡ suc l = omega arith in z) ∙ row-same l in-links (ap (λ (x : List Tropical). getD x (link m l .source) inf) same ∙ ap (λ (x : ℕ). getD (relax m (first v)) x inf) source ∙ e) ∙ same
 
   skip-nodes : (n k : ℕ) → k + n ≤ length (m .finals) → ((v : ℕ) → k ≤ v → v < k + n → getD (relax m (first k)) v inf ≡ inf) → relax m (first (k + n)) ≡ relax m (first k)
@@ -93,7 +94,7 @@ module _ (bytes : List ℕ) (links : ℕ) (m : Machine) (r : Reads bytes links m
       let v = k + n in
       let same = skip-nodes n k (omega arith) (λ u a b. e u a (omega arith)) in
       ap (λ (x : ℕ). relax m (first x)) (let z : k + suc n ≡ suc v = omega arith in z)
-      ∙ ap (relax m) (next-first v)
+      ∙ ap (relax m) (next-first bytes links v)
       ∙ skip-links v (countAt bytes links v) (omega arith) (omega arith) (ap (λ (x : List Tropical). getD x v inf) same ∙ e v (omega arith) (omega arith)) ∙ same
 
   -- ---- what the slots and the queue hold: the row after l links, and the nodes from k on that it reaches; beyond the slots the area is as it was
@@ -110,7 +111,7 @@ module _ (bytes : List ℕ) (links : ℕ) (m : Machine) (r : Reads bytes links m
   -- ---- one link of node u
   module _ (u l : ℕ) (hu : u < length (m .finals)) (lo : first u ≤ l) (hi : l < first (suc u)) where
     in-links : l < length (m .links)
-    in-links = omega (arith, first-in (suc u) hu)
+    in-links = omega (arith, first-in bytes links m r (suc u) hu)
 
     source : link m l .source ≡ u
     source = r .source-at u l hu lo hi
@@ -236,7 +237,7 @@ module _ (bytes : List ℕ) (links : ℕ) (m : Machine) (r : Reads bytes links m
       let before = links-step u hu n (omega arith) s h in
       let l = first u + n in
       let lo : first u ≤ l = omega arith in
-      let hi : l < first (suc u) = omega (arith, next-first u) in
+      let hi : l < first (suc u) = omega (arith, next-first bytes links u) in
       let at : suc l ≡ first u + suc n = omega arith in
       let step = link-step u l hu lo hi (relaxLinks bytes (first u) (ofT unit (getD (relax m (first u)) u inf)) n s) (before .0) in
       let same : ofT unit (getD (relax m l) u inf) ≡ ofT unit (getD (relax m (first u)) u inf) = ap (ofT unit) (before .1) in
@@ -308,11 +309,11 @@ module _ (bytes : List ℕ) (links : ℕ) (m : Machine) (r : Reads bytes links m
 
       pub head-step : Holds (first (suc u)) (suc u) (relaxHead bytes links s)
       head-step =
-          let distance : ofBits binary32 (distanceWord (s .work) u) ≡ ofT unit (getD (relax m (first u)) u inf) = ap (ofBits binary32) (held .distances u (head .1)) ∙ bits-back unit (lit≤ tt) (getD (relax m (first u)) u inf) in
+          let distance : ofBits binary32 (distanceWord (s .work) u) ≡ ofT unit (getD (relax m (first u)) u inf) = ap (ofBits binary32) (held .distances u (head .1)) ∙ bits-back unit covered (getD (relax m (first u)) u inf) in
           let all = links-step u (head .1) (countAt bytes links u) (omega arith) (record { work = s .work; queue = dequeued (s .queue) }) held .0 in
           subst (λ (y : Float). Holds (first (suc u)) (suc u) (relaxLinks bytes (firstWord (s .work) u) y (countAt bytes links u) (record { work = s .work; queue = dequeued (s .queue) }))) (sym distance)
           (subst (λ (j : ℕ). Holds (first (suc u)) (suc u) (relaxLinks bytes j (ofT unit (getD (relax m (first u)) u inf)) (countAt bytes links u) (record { work = s .work; queue = dequeued (s .queue) }))) (sym (h .firsts u (head .1)))
-          (subst (λ (j : ℕ). Holds j (suc u) (relaxLinks bytes (first u) (ofT unit (getD (relax m (first u)) u inf)) (countAt bytes links u) (record { work = s .work; queue = dequeued (s .queue) }))) (sym (next-first u)) all))
+          (subst (λ (j : ℕ). Holds j (suc u) (relaxLinks bytes (first u) (ofT unit (getD (relax m (first u)) u inf)) (countAt bytes links u) (record { work = s .work; queue = dequeued (s .queue) }))) (sym (next-first bytes links u)) all))
 
   -- ---- all heads: the slots hold Mohri's distances
   pub record Final (s : State) : Type 0 where

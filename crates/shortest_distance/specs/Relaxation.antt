@@ -1,32 +1,23 @@
 -- Relaxation on the slots, through the queue: what the code does, link by link. Definitions only.
 use Prim.Native.Nat.{ℕ, zero, suc, _+_, _*_}
-use mathlib.Core.Bool.{Bool, not, _&&_, cond}
+use mathlib.Core.Bool.{Bool, _&&_, cond}
 use mathlib.Core.List.{List}
 use lib.Dec.{eqb}
 use lib.ListN.{set}
-use lib.Ieee.{Float, binary32, add, ofBits, toBits}
-use Rattle.tropical_weight.specs.Single.{lesser, approxEqual}
+use lib.Ieee.{Float, binary32, add, lt, ofBits, toBits}
 use Rattle.sheet.specs.declared.tr.Link.{Link}
 use Rattle.sheet.specs.Records.{linkAt, countAt}
 use Rattle.state_order_queue.specs.declared.Queue.{Queue}
 use Rattle.state_order_queue.specs.Queues.{isEmpty, enqueued, dequeued}
 use Rattle.shortest_distance.specs.Slots.{infinite, distanceWord, firstWord}
 
--- 1e-6 in single precision
-abbrev pub delta : Float
-delta = ofBits binary32 0x3586_37bd
-
--- the lesser of a node's distance and the one offered
-abbrev pub offered : ℕ → Float → Float → Float
-offered old distance weight = lesser (ofBits binary32 old) (add binary32 distance weight)
-
--- whether the offer improves on it
+-- whether the distance offered is less than a node's own
 abbrev pub improves : ℕ → Float → Float → Bool
-improves old distance weight = not (approxEqual (ofBits binary32 old) (offered old distance weight) delta)
+improves old distance weight = lt (add binary32 distance weight) (ofBits binary32 old)
 
 -- the distance word after the offer
 abbrev pub relaxedWord : ℕ → Float → Float → ℕ
-relaxedWord old distance weight = cond (improves old distance weight) (toBits binary32 (offered old distance weight)) old
+relaxedWord old distance weight = cond (improves old distance weight) (toBits binary32 (add binary32 distance weight)) old
 
 -- whether the offer is the first
 abbrev pub reaches : ℕ → Float → Float → Bool

@@ -11,10 +11,8 @@ use sheet::tr::Link;
 use sheet::words::word;
 use state_order_queue::Queue;
 
-// Distances closer than this count as equal.
-const DELTA: f32 = 1e-6;
-
-// Offers a link's next node the distance by that link. Answers whether it is the node's first.
+// Offers a link's next node the distance by that link, which it takes where it is strictly less. A
+// strict comparison of exact sums is right in every rounding mode. Answers whether it is its first.
 fn relax_link(k: Link, distance: f32, work: &mut [u32]) -> bool
     requires { ⌜ 8 * k .nextstate < length (now work) ⌝ }
     ensures { λ r. ⌜ (r ≡ reaches (distanceWord (now (work .entry)) (k .nextstate)) distance (k .weight)) × (now (work .exit) ≡ relaxedWords k distance (now (work .entry))) ⌝ }
@@ -22,11 +20,11 @@ fn relax_link(k: Link, distance: f32, work: &mut [u32]) -> bool
     let at = SLOT * (k.nextstate as usize);
     let word = work[at];
     let old = tropical_weight::from_bits(word);
-    let new = tropical_weight::plus(old, tropical_weight::times(distance, k.weight));
-    if tropical_weight::approx_equal(old, new, DELTA) {
+    let offer = tropical_weight::times(distance, k.weight);
+    if !tropical_weight::natural_less(offer, old) {
         return false;
     }
-    work[at] = tropical_weight::to_bits(new);
+    work[at] = tropical_weight::to_bits(offer);
     word == INFINITE
 }
 

@@ -14,12 +14,16 @@ use lib.Ieee as Ieee
 use lib.Ieee.Bits.{is-true, is-false, ofBits-toBits}
 use lib.Ieee.Exact.{HasValue, round-exact}
 use lib.Ieee.Fits.{round-fits, inf-fits, and-i, and-l, and-r, eq→eqb}
-use Rattle.tropical_weight.specs.Limits.{finest, sumLimit}
+use Rattle.tropical_weight.specs.Limits.{unit, finest, sumLimit}
 use Rattle.tropical_weight.specs.Tropical.{Tropical, fin, inf, ltT, eqT, one, _⊕_, _⊗_, Within}
 use Rattle.tropical_weight.specs.Grid.{ofK, ofT}
 use Rattle.tropical_weight.specs.Single.{lesser, Computes, Decides}
 use Rattle.tropical_weight.proofs.Semiring.{eqT-eq, eq-eqT}
 use Rattle.tropical_weight.proofs.Values.{value-unique, add-values, lt-values, eq-values, same-test}
+
+-- the unit of document 01 is one that the laws cover
+pub covered : unit ≤ finest
+covered = lit≤ tt
 
 -- ---- the value
 -- 2 ^ 149 of single precision's smallest values are 1

@@ -25,7 +25,7 @@ use Rattle.tropical_weight.specs.Grid.{ofK, ofT}
 use Rattle.tropical_weight.specs.Single.{lesser, approxEqual, small, Approx}
 use Rattle.tropical_weight.proofs.Values.{same-test, add-values, le-values, rescale}
 use Rattle.tropical_weight.proofs.Exact.{negative, ofK-value, lt-ofT, lesser-ofT}
-use Rattle.tropical_weight.proofs.Semiring.{natural-ltT}
+use Rattle.tropical_weight.proofs.Semiring.{natural-ltT, improve-ltT}
 use Rattle.tropical_weight.proofs.Sums.{within-⊕}
 
 -- ---- to the nearest whole number
@@ -444,3 +444,12 @@ natural-less-ofT j h v w p q =
     ap (λ (x : Float). approxEqual x (ofT j v) kdelta && not (approxEqual (ofT j v) (ofT j w) kdelta)) (lesser-ofT j h v w p q)
     ∙ (λ i. approx-ofT j h kdelta t (v ⊕ w) v (within-⊕ sumLimit v w p q) p i && not (approx-ofT j h kdelta t v w p q i))
     ∙ natural-ltT v w ∙ sym (lt-ofT j h v w p q)
+
+-- ---- the Rust's test of an offer w to a node at v, that v and the lesser of the two are not equal within KSHORTESTDELTA, is `<` on the grid
+pub offer-improves-ofT : (j : ℕ) → j ≤ finest → (v w : Tropical) → Within sumLimit v → Within sumLimit w
+    → not (approxEqual (ofT j v) (lesser (ofT j v) (ofT j w)) (ofBits binary32 897988541)) ≡ lt (ofT j w) (ofT j v)
+offer-improves-ofT j h v w p q =
+    let delta = ofBits binary32 897988541 in
+    ap (λ (x : Float). not (approxEqual (ofT j v) x delta)) (lesser-ofT j h v w p q)
+    ∙ ap not (approx-ofT j h delta (shortest-delta-small j h) v (v ⊕ w) p (within-⊕ sumLimit v w p q))
+    ∙ improve-ltT v w ∙ sym (lt-ofT j h w v q p)

@@ -115,6 +115,18 @@ natural-ltT a b = go (leT a b) (leT b a) refl refl
         let up : leT b a ≡ true = is-true (leT b a) (not-le a b (subst (λ (t : Bool). T (not t)) (sym p) tt)) in
         ap (λ (t : Bool). eqT (cond t b a) a && not (leT a b && leT b a)) s ∙ (λ i. up i && p i && not (p i && up i)) ∙ sym (ltT-not a b ∙ ap not up)
 
+-- the sum of the two differs from a just where b is strictly less
+pub improve-ltT : (a b : Tropical) → not (eqT a (a ⊕ b)) ≡ ltT b a
+improve-ltT a b = go (leT a b) refl
+  where
+    go : (x : Bool) → leT a b ≡ x → not (eqT a (a ⊕ b)) ≡ ltT b a
+    go true p =
+        let s : ltT b a ≡ false = ltT-not b a ∙ ap not p in
+        ap (λ (t : Bool). not (eqT a (cond t b a))) s ∙ ap not (eq-eqT a a refl) ∙ sym s
+    go false p =
+        let s : ltT b a ≡ true = ltT-not b a ∙ ap not p in
+        ap (λ (t : Bool). not (eqT a (cond t b a))) s ∙ ap (λ (t : Bool). not (t && leT b a)) p ∙ sym s
+
 -- ---- the semiring's laws, by those of the order
 pub ⊕-comm : (a b : Tropical) → a ⊕ b ≡ b ⊕ a
 ⊕-comm a b = ≼-antisym (⊕-greatest (⊕-right a b) (⊕-left a b)) (⊕-greatest (⊕-right b a) (⊕-left b a))

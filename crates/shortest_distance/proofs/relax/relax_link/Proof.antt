@@ -1,20 +1,20 @@
 use mathlib.Core.Path.{_≡_, ap, _∙_}
-use mathlib.Core.Bool.{not}
 use denote.Ref.{now}
+use borrow.Author.Tests.{not-true, not-false}
 use lib.Ieee.{binary32, toBits}
 use Rattle.shortest_distance.specs.Slots.{distanceWord}
-use Rattle.shortest_distance.specs.Relaxation.{offered, improves}
+use Rattle.shortest_distance.specs.Relaxation.{improves}
 use Rattle.shortest_distance.proofs.Turns.{offer-test, offer-left, offer-taken}
 use borrow.Author.Needs.{needs}
 use Rattle.shortest_distance.proofs.relax.relax_link.Statement.{statement}
 use Rattle.shortest_distance.proofs.relax.relax_link.Tie as tie
 
--- the new distance, and whether it improves on the old one
-judged : (c : tie.After-approx-equal) → let args = c .before .before .before .before .before .before .before .args in let word = distanceWord (now (args .work)) (args .k .nextstate) in
-    (c .before .plus .result ≡ offered word (args .distance) (args .k .weight)) × (improves word (args .distance) (args .k .weight) ≡ not (c .approx-equal .result))
+-- whether the offer is less than the old distance
+judged : (c : tie.After-natural-less) → let args = c .before .before .before .before .before .before .args in
+    improves (distanceWord (now (args .work)) (args .k .nextstate)) (args .distance) (args .k .weight) ≡ c .natural-less .result
 judged c =
-    let args = c .before .before .before .before .before .before .before .args in
-    offer-test (distanceWord (now (args .work)) (args .k .nextstate)) (args .distance) (args .k .weight) _ _ _ _ (c .before .before .before .from-bits .ensures) (c .before .before .times .ensures .same) (c .before .plus .ensures .same) (c .approx-equal .ensures .same)
+    let args = c .before .before .before .before .before .before .args in
+    offer-test (distanceWord (now (args .work)) (args .k .nextstate)) (args .distance) (args .k .weight) _ _ _ (c .before .before .from-bits .ensures) (c .before .times .ensures .same) (c .natural-less .ensures .same)
 
 cast-at : tie.Need-cast-at
 cast-at c = search needs
@@ -34,16 +34,13 @@ from-bits-requires c κs = search needs
 times-requires : tie.Need-times-requires
 times-requires c κs = search needs
 
-plus-requires : tie.Need-plus-requires
-plus-requires c κs = search needs
-
-approx-equal-requires : tie.Need-approx-equal-requires
-approx-equal-requires c κs = search needs
+natural-less-requires : tie.Need-natural-less-requires
+natural-less-requires c κs = search needs
 
 returns : tie.Need-returns
 returns c =
-    let args = c .before .before .before .before .before .before .before .before .args in
-    offer-left (args .k) (args .distance) (now (args .work)) (judged (c .before) .1 ∙ ap not (c .if1 .taken))
+    let args = c .before .before .before .before .before .before .before .args in
+    offer-left (args .k) (args .distance) (now (args .work)) (judged (c .before) ∙ not-true (c .before .natural-less .result) (c .if1 .taken))
 
 to-bits-requires : tie.Need-to-bits-requires
 to-bits-requires c κs = search needs
@@ -59,9 +56,8 @@ same-length c = search needs
 
 returns-2 : tie.Need-returns-2
 returns-2 c =
-    let args = c .before .before .before .before .before .before .before .before .before .args in
-    let offer = judged (c .before .before) in
-    offer-taken (args .k) (args .distance) (now (args .work)) (offer .1 ∙ ap not (c .before .if1 .left)) (c .to-bits .result) (c .to-bits .ensures ∙ ap (toBits binary32) (offer .0))
+    let args = c .before .before .before .before .before .before .before .before .args in
+    offer-taken (args .k) (args .distance) (now (args .work)) (judged (c .before .before) ∙ not-false (c .before .before .natural-less .result) (c .before .if1 .left)) (c .to-bits .result) (c .to-bits .ensures ∙ ap (toBits binary32) (c .before .before .before .times .ensures .same))
 
 pub relax-link-spec : {M : Type 1} → statement M
 relax-link-spec =
@@ -73,8 +69,7 @@ relax-link-spec =
     slice-read-word
     from-bits-requires
     times-requires
-    plus-requires
-    approx-equal-requires
+    natural-less-requires
     returns
     to-bits-requires
     mul-work
