@@ -1,4 +1,5 @@
--- The list machine of a search, trimmed, numbered and written: what the code does, word by word. Definitions only.
+-- Mirrors the code: a list machine marked, numbered and written. A reader need not believe it: laws tie it to ListMachine of crate search (proofs/Writings).
+-- Definitions only.
 use mathlib.Core.Path.{_≡_}
 use mathlib.Core.Bool.{cond}
 use mathlib.Core.Option.{none, some}

@@ -1,4 +1,5 @@
--- What the result area holds once a list is made. Definitions only.
+-- Mirrors the code: what the result area holds once a list is made. A reader need not believe it: its fields tie it to Outcome of crate shortest_path.
+-- Definitions only.
 use mathlib.Core.Path.{_≡_}
 use mathlib.Core.List.{List, _++_}
 use Prim.Native.Nat.{ℕ, _≤_}

@@ -1,4 +1,5 @@
--- The readings that a result holds, read word by word, and the cost of a run in single precision: what the code does. Definitions only.
+-- Mirrors the code: the readings of a result, read word by word, and costs in f32. A reader need not believe it: laws tie it to Listed of crate search (proofs/Walks).
+-- Definitions only.
 use mathlib.Core.Path.{_≡_}
 use mathlib.Core.Bool.{cond}
 use mathlib.Core.List.{List, [], _∷_, _++_, map}

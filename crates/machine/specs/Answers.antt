@@ -1,4 +1,4 @@
--- What testing the input answers, by document 01's numbers and values. Definitions only.
+-- What testing the input answers, by document 01's numbers and values. `nodesClimb` mirrors the code: a reader need not believe that part. Definitions only.
 use Prim.Native.Nat.{ℕ, _+_, _*_}
 use mathlib.Core.Bool.{Bool}
 use mathlib.Core.List.{List}

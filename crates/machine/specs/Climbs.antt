@@ -1,4 +1,5 @@
--- What the laws ask of a machine: that its links climb, and how large its weights are. Definitions only.
+-- Serves the proofs: what the laws ask of a machine. A reader need not believe it: the machine of an accepted sheet is such a one (proofs/Accepted).
+-- That its links climb, and how large its weights are. Definitions only.
 use mathlib.Core.Path.{_≡_}
 use mathlib.Core.Bool.{Bool, true, _&&_}
 use mathlib.Core.Option.{some}

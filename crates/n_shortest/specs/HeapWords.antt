@@ -1,4 +1,5 @@
--- The heap on the words of the part, as the code moves it: place i is word 8 * i + 5 and holds the number of an entry. Definitions only.
+-- Mirrors the code: the heap on the words of the part. A reader need not believe it: laws tie it to Heap of crate search (proofs/HeapPlaces).
+-- Place i is word 8 * i + 5 and holds the number of an entry. Definitions only.
 use mathlib.Core.Bool.{Bool, not, _&&_, _||_, cond}
 use mathlib.Core.List.{List}
 use Prim.Native.Nat.{ℕ, zero, suc, _+_, _-_, _*_, _/_, _≤_, _<_}

@@ -1,4 +1,4 @@
--- The search on the words of its part, as the code goes: entries put in, one removal, and the whole. Definitions only.
+-- Mirrors the code: the search on the words of its part. A reader need not believe it: laws tie it to Search of crate search (proofs/Running). Definitions only.
 use mathlib.Core.Path.{_≡_}
 use mathlib.Core.Bool.{Bool, _||_, cond}
 use mathlib.Core.List.{List}

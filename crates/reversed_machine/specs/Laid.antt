@@ -1,4 +1,5 @@
--- A reversed machine laid out in the slots: what a search reads there. Definitions only.
+-- Mirrors the code: a reversed machine laid out in the slots, as a search reads it. A reader need not believe it: its fields tie it to Reversed of crate search.
+-- Definitions only.
 use mathlib.Core.Path.{_≡_}
 use mathlib.Core.Logic.{_⊎_}
 use mathlib.Core.List.{List, map}

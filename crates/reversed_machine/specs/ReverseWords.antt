@@ -1,4 +1,5 @@
--- The reversed machine in the slots: what the code does, word by word, and what the slots hold then. Definitions only.
+-- Mirrors the code: the reversed machine in the slots, word by word. A reader need not believe it: laws tie it to Reversed of crate search (proofs/Reversals).
+-- Definitions only.
 use mathlib.Core.Bool.{false, cond}
 use mathlib.Core.Option.{Option, none, some}
 use mathlib.Core.List.{List, [], _∷_}

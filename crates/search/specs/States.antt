@@ -1,4 +1,5 @@
--- The trimmed list machine state by state: the entries on a way, their states and their links. Definitions only.
+-- Mirrors the code: the trimmed list machine state by state. A reader need not believe it: a law ties it to ListMachine (proofs/Trims).
+-- The entries on a way, their states and their links. Definitions only.
 use mathlib.Core.Bool.{cond}
 use mathlib.Core.Option.{none, some}
 use mathlib.Core.List.{List, [], _∷_, _++_, map}

@@ -1,4 +1,4 @@
--- What the passes over nodes and links find, and the number that follows from it. Definitions only.
+-- Mirrors the code: what the passes over nodes and links find. A reader need not believe it: laws tie it to Sheet (proofs/Fields). Definitions only.
 use Prim.Native.Nat.{ℕ, _+_}
 use mathlib.Core.Bool.{not, _&&_, _||_, cond}
 use lib.Dec.{ltb, eqb}

@@ -1,4 +1,5 @@
--- Handing words over to a result area, where it has room. Definitions only.
+-- Mirrors the code: handing words over to a result area, where it has room. A reader need not believe it: laws tie it to Outcome (proofs/Outcomes).
+-- Definitions only.
 use Prim.Native.Nat.{ℕ, _*_}
 use mathlib.Core.Bool.{Bool, true, false, cond}
 use mathlib.Core.List.{List, _++_}

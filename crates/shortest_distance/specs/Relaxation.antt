@@ -1,4 +1,5 @@
--- Relaxation on the slots, through the queue: what the code does, link by link. Definitions only.
+-- Mirrors the code: relaxation on the slots, through the queue, link by link. A reader need not believe it: laws tie it to Distance of crate machine (proofs/Rows).
+-- Definitions only.
 use Prim.Native.Nat.{ℕ, zero, suc, _+_, _*_}
 use mathlib.Core.Bool.{Bool, _&&_, cond}
 use mathlib.Core.List.{List}

@@ -1,5 +1,5 @@
--- The work area while distances are made: a slot of eight words a node. Word 0 holds the bits of its distance, word 1 the number of its first link.
--- Definitions only.
+-- Mirrors the code, but for `cleared`: the work area while distances are made. A reader need not believe the rest: laws tie it to Distance of crate machine (proofs/Rows).
+-- A slot of eight words a node. Word 0 holds the bits of its distance, word 1 the number of its first link. Definitions only.
 use Prim.Native.Nat.{ℕ, zero, suc, _+_, _*_}
 use mathlib.Core.Bool.{cond}
 use mathlib.Core.List.{List, _++_}

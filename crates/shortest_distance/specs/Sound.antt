@@ -1,4 +1,5 @@
--- What holds of a sheet, the work area and the queue while heads are relaxed, and of the work area afterwards. Definitions only.
+-- Mirrors the code: what holds while heads are relaxed, and afterwards. A reader need not believe it: laws tie it to Distance of crate machine (proofs/Making).
+-- Definitions only.
 use Prim.Native.Nat.{ℕ, _+_, _*_, _≤_, _<_}
 use mathlib.Core.Path.{_≡_}
 use mathlib.Core.Bool.{true}

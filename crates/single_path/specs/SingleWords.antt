@@ -1,5 +1,5 @@
--- The one best reading in the slots of the nodes: what the code does, word by word. Words 2 and 3 of a node's slot hold its parent, a link's
--- number, and that link's source. Definitions only.
+-- Mirrors the code: the one best reading in the slots of the nodes, word by word. A reader need not believe it: laws tie it to Parents of crate machine (proofs/WayBytes).
+-- Words 2 and 3 of a node's slot hold its parent, a link's number, and that link's source. Definitions only.
 use mathlib.Core.Path.{_≡_}
 use mathlib.Core.Bool.{Bool, false, cond}
 use mathlib.Core.List.{List, [], _∷_, _++_}

@@ -1,4 +1,4 @@
--- What a call for a list answers, and the result area afterwards. Definitions only.
+-- What a call for a list answers and needs. But for `slotsOf` and `slotsFor` it mirrors the code: a reader need not believe that part. Definitions only.
 use mathlib.Core.Bool.{Bool, true, false, cond}
 use mathlib.Core.List.{List, _++_}
 use Prim.Native.Nat.{ℕ, zero, suc, _+_, _*_}

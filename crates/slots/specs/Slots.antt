@@ -1,5 +1,5 @@
--- The part of the work area that a search runs on: a slot of eight words an entry, then one a node of the reversed machine, then one a
--- link of it. Definitions only.
+-- Mirrors the code: the part of the work area that a search runs on. A reader need not believe it: laws tie it to the entries of crate search (n_shortest/proofs/Storing).
+-- A slot of eight words an entry, then one a node of the reversed machine, then one a link of it. Definitions only.
 use mathlib.Core.Path.{_≡_}
 use mathlib.Core.Option.{Option, none, some}
 use mathlib.Core.List.{List}
