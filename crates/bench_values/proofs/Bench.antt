@@ -8,10 +8,9 @@ use Rattle.sheet.specs.Below.{listBelow}
 use Rattle.sheet.specs.Words.{words, bytesOfAll}
 use Rattle.sheet.specs.Sheet.{partsOf}
 use Rattle.sheet.specs.Machine.{machineOf}
-use Rattle.machine.specs.Readings.{runCost}
+use Rattle.machine.specs.Readings.{runCost, marked}
 use Rattle.shortest_distance.specs.Outcome.{distanceNumber}
 use Rattle.search.specs.Reversed.{outOfZero, linksInto}
-use Rattle.search.specs.Search.{marked}
 use Rattle.search.specs.Listed.{listOf}
 use Rattle.shortest_path.specs.Outcome.{listNumber}
 use Rattle.bench_values.specs.Table.{sheetA, sheetE, oneLink, Case, table, P1, P2, P3, P4, P5, P6, P7, P8, P9}

@@ -6,15 +6,15 @@ use lib.ListN.{length, take, replicate}
 use Rattle.tropical_weight.specs.Tropical.{Tropical, fin}
 use Rattle.sheet.specs.Below.{listBelow}
 use Rattle.sheet.specs.Words.{words, bytesOfAll}
-use Rattle.sheet.specs.Machine.{weightOf}
+use Rattle.sheet.specs.Machine.{weightOf, machine}
 use Rattle.machine.specs.Readings.{link, readingOf, readingCost}
 use Rattle.shortest_distance.specs.declared.Distances.{Distances}
 use Rattle.shortest_distance.specs.declared.Distances.the-variants as Distances
 use Rattle.shortest_distance.specs.Outcome as Distance
-use Rattle.shortest_distance.specs.Outcome.{machine, distanceAnswer}
+use Rattle.shortest_distance.specs.Outcome.{distanceAnswer}
 use Rattle.search.specs.Listed.{listOf}
-use Rattle.slots.specs.declared.Listed.{Listed}
-use Rattle.slots.specs.declared.Listed.the-variants as Listed
+use Rattle.list_answer.specs.declared.Listed.{Listed}
+use Rattle.list_answer.specs.declared.Listed.the-variants as Listed
 use Rattle.shortest_path.specs.Outcome.{listAnswer, resultAfter}
 
 -- What a call tells: the refusal, or the distances, or the list: the counts of its machine's nodes and links, the input labels of its readings, their costs, and the entries taken.

@@ -9,9 +9,9 @@ use lib.ListN.{length, drop}
 use lib.Seq.{sets, sets-eq}
 use borrow.Author.Tests.{lt-ltb, le-ltb}
 use Rattle.sheet.specs.Words.{bytesOfAll}
-use Rattle.slots.specs.declared.Listed.the-variants.{Made, Refused}
-use Rattle.slots.specs.ListAnswer.{listedBy}
-use Rattle.list_machine.specs.ListingWords.{stated, keptCount, listLength, listWords, listAnswer, listAfter, Listable}
+use Rattle.list_answer.specs.declared.Listed.the-variants.{Made, Refused}
+use Rattle.list_answer.specs.ListAnswer.{listedBy}
+use Rattle.list_machine.specs.TrimWords.{stated, keptCount, listLength, listWords, listAnswer, listAfter, Listable}
 use Rattle.list_machine.proofs.Marks.{new-kept}
 use Rattle.list_machine.proofs.Placing.{length-list}
 

@@ -10,8 +10,8 @@ use lib.Dec.{eqb}
 use lib.ListN.{length, getD, set, length-set}
 use lib.Seq.{getD-set-same, getD-set-other}
 use borrow.Author.Tests.{eqb-true, ne-eqb}
-use Rattle.slots.specs.Slots.{nodeWord, fromWord, listedWord, stateWord}
-use Rattle.list_machine.specs.ListingWords.{unmarked, markListed, markFrom, markBack, marks, markOf, markCount, numberOne, numbered, states, stated, keptCount, listLength, Readable, Linked, Listable, Writable}
+use Rattle.search_slots.specs.Slots.{nodeWord, fromWord, listedWord, stateWord}
+use Rattle.list_machine.specs.TrimWords.{unmarked, markListed, markFrom, markBack, marks, markOf, markCount, numberOne, numbered, states, stated, keptCount, listLength, Readable, Linked, Listable, Writable}
 
 -- no state's word of the entries below n
 abbrev pub Other : ℕ → ℕ → Type 0

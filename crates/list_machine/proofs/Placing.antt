@@ -13,8 +13,9 @@ use lib.Seq.{sets}
 use borrow.Author.Tests.{eq-eqb, ne-eqb}
 use Rattle.sheet.specs.Words.{word, bytesOf, bytesOfAll}
 use Rattle.sheet.proofs.Bytes.{sets-append, bytesOfAll-append, length-bytesOfAll, bytesOfAll-one}
-use Rattle.slots.specs.Slots.{nothing, nodeWord, fromWord, inputWord, listedWord, stateWord}
-use Rattle.list_machine.specs.ListingWords.{markOf, markCount, startWords, blankBits, entryWords, statedWords, linkWords, nodeWords, repeatWords, inputWords, linksPart, nodesPart, wordsPart, listWords, listLength, headWords, trailerWords}
+use Rattle.slots.specs.Slots.{nothing}
+use Rattle.search_slots.specs.Slots.{nodeWord, fromWord, inputWord, listedWord, stateWord}
+use Rattle.list_machine.specs.TrimWords.{markOf, markCount, startWords, blankBits, entryWords, statedWords, linkWords, nodeWords, repeatWords, inputWords, linksPart, nodesPart, wordsPart, listWords, listLength, headWords, trailerWords}
 
 -- ---- stores one after the other
 pub sets-words : (l : List ℕ) (at : ℕ) (xs ys : List ℕ) (k : ℕ) → k ≡ at + 4 * length xs → sets (sets l at (bytesOfAll xs)) k (bytesOfAll ys) ≡ sets l at (bytesOfAll (xs ++ ys))

@@ -18,7 +18,7 @@ use Rattle.search.proofs.Backwards.{out-final, out-link}
 use Rattle.search.proofs.Mirror.{at, lastInput, half-site}
 use Rattle.search.proofs.Complete.{holds}
 use Rattle.search.proofs.Entries.{entry-made, inputs-in}
-use Rattle.list_machine.specs.ListingWords.{Sourced}
+use Rattle.list_machine.specs.TrimWords.{Sourced}
 
 -- only the first trail has no move
 moved : (ts : List Trail) (i : ℕ) → NoDup ts → at ts 0 ≡ [] → 0 < i → i < length ts → at ts i ≡ [] → ⊥

@@ -19,8 +19,8 @@ use Rattle.search.specs.ListMachine.{isBehind, onWay}
 use Rattle.search.specs.States.{kept, stateOf, later}
 use Rattle.search.proofs.Numbered.{Numbered}
 use Rattle.search.proofs.OnWays.{OnWay, cameFrom, way-listed, way-from, way-inside}
-use Rattle.slots.specs.Slots.{fromWord, listedWord, stateWord}
-use Rattle.list_machine.specs.ListingWords.{unmarked, markListed, markFrom, markBack, marks, markCount, stated, keptCount, Holding}
+use Rattle.search_slots.specs.Slots.{fromWord, listedWord, stateWord}
+use Rattle.list_machine.specs.TrimWords.{unmarked, markListed, markFrom, markBack, marks, markCount, stated, keptCount, Holding}
 use Rattle.list_machine.proofs.Marks.{unmarked-other, length-unmarked, from-other, listed-other, states-first, states-at}
 
 -- ---- an entry on a way is listed, or one on a way came from it

@@ -30,9 +30,10 @@ use Rattle.search.specs.States.{kept, stateOf, later, startLink, entryLink, lis
 use Rattle.search.proofs.Numbered.{Numbered}
 use Rattle.search.proofs.OnWays.{OnWay, cameFrom, way-listed, way-from, way-inside}
 use Rattle.shortest_distance.proofs.Starts.{bits-one}
-use Rattle.slots.specs.Slots.{nothing, nodeWord, fromWord, inputWord, listedWord, stateWord, nodeField, inputField}
-use Rattle.list_machine.specs.ListingWords.{stated, keptCount, startWords, blankBits, entryWords, statedWords, linkWords, headWords, nodeWords, trailerWords, repeatWords, inputWords, linksPart, nodesPart, wordsPart, listWords, listLength, listAnswer, listAfter, Readable, Linked, Listable, Holding, Sourced}
-use Rattle.slots.specs.ListAnswer.{listedBy, listedIn, listedOver}
+use Rattle.slots.specs.Slots.{nothing}
+use Rattle.search_slots.specs.Slots.{nodeWord, fromWord, inputWord, listedWord, stateWord, nodeField, inputField}
+use Rattle.list_machine.specs.TrimWords.{stated, keptCount, startWords, blankBits, entryWords, statedWords, linkWords, headWords, nodeWords, trailerWords, repeatWords, inputWords, linksPart, nodesPart, wordsPart, listWords, listLength, listAnswer, listAfter, Readable, Linked, Listable, Holding, Sourced}
+use Rattle.list_answer.specs.ListAnswer.{listedBy, listedIn, listedOver}
 use Rattle.list_machine.proofs.Marks.{stated-other, from-other, listed-other, new-kept}
 use Rattle.list_machine.proofs.Placing.{length-list, stated-off, stated-on, repeat-off, repeat-on, entry-blank, entry-copied}
 use Rattle.list_machine.proofs.Trimming.{kept-count, state-on, state-off}

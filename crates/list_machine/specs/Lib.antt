@@ -1,1 +1,1 @@
-pub mod ListingWords
+pub mod TrimWords

@@ -1,2 +1,2 @@
 // The list machine, trimmed and written to the result area.
-pub mod listing;
+pub mod trim;

@@ -9,12 +9,11 @@ use lib.ListN.{length, getD, take, drop, length-map}
 use lib.Seq.{sets, take-all}
 use Rattle.tropical_weight.specs.Tropical.{fin}
 use Rattle.sheet.specs.declared.tr.Trailer.{Trailer}
-use Rattle.sheet.specs.Machine.{Machine}
+use Rattle.sheet.specs.Machine.{Machine, machine}
 use Rattle.sheet.proofs.Round.{Below}
 use Rattle.machine.specs.Readings.{link, readings, readingOf, readingCost, IsReading}
 use Rattle.machine.proofs.Lists.{map-same}
 use Rattle.machine.proofs.Runs.{run-in}
-use Rattle.shortest_distance.specs.Outcome.{machine}
 use Rattle.search.specs.ListMachine.{resultFor, resultBytes}
 use Rattle.search.specs.Listed.{listOf}
 use Rattle.search.proofs.Lists.{Accepted, accepted, listIn, demand-result}

@@ -10,21 +10,20 @@ use lib.ListN.{length, getD, take, drop}
 use lib.Seq.{drop-append-seam, take-all}
 use borrow.Author.Tests.{lt-ltb, le-ltb, ne-eqb, eqb-true, eqb-false}
 use Rattle.sheet.specs.declared.tr.Trailer.{Trailer}
-use Rattle.sheet.specs.Machine.{Machine}
+use Rattle.sheet.specs.Machine.{Machine, machine}
 use Rattle.sheet.specs.Records.{trailerAt}
 use Rattle.sheet.proofs.Fields.{length-read, read-fits}
 use Rattle.sheet.proofs.Round.{Below}
 use Rattle.machine.specs.Input.{inputNumber}
 use Rattle.machine.proofs.Accepted.{input-read}
-use Rattle.shortest_distance.specs.Outcome.{machine}
 use Rattle.shortest_distance.proofs.Accepted as Stated
-use Rattle.search.specs.Search.{marked}
+use Rattle.machine.specs.Readings.{marked}
 use Rattle.search.specs.ListMachine.{resultFor}
 use Rattle.search.proofs.Lists.{Accepted, accepted, marked-few}
 use Rattle.search.proofs.Sizes.{result-length, zero-holds, one-holds, many-holds}
-use Rattle.slots.specs.declared.Listed.the-variants.{Made, Refused}
+use Rattle.list_answer.specs.declared.Listed.the-variants.{Made, Refused}
 use Rattle.shortest_path.specs.Outcome.{resultOf, answerOf, slotsNeeded, testedNumber, listNumber, listBy, listAnswer, resultAfter}
-use Rattle.shortest_path.proofs.Joining.{slots-many}
+use Rattle.list_answer.proofs.SlotsNeeded.{slots-many}
 use Rattle.shortest_path.proofs.Outcomes.{tested-input, tested-last, tested-zero, number-input, number-areas}
 use Rattle.listing.specs.Text.{refusedLine}
 use Rattle.listing.specs.Held.{Held}

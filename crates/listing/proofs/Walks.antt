@@ -33,7 +33,7 @@ use Rattle.search.proofs.BackOne.{OneFits, words-are, best-storable, best-back}
 use Rattle.search.proofs.BackOne as One
 use Rattle.search.proofs.Lists.{listIn, Accepted, fits, one-fits, some-listed, demand-result}
 use Rattle.slots.specs.Slots.{nothing}
-use Rattle.list_machine.specs.ListingWords.{nodeWords}
+use Rattle.list_machine.specs.TrimWords.{nodeWords}
 use Rattle.list_machine.proofs.Writings.{nodes-is}
 use Rattle.listing.specs.Ways.{nextAt, numberAt, startLinks, readingCount, numbersBack, onlyLink, told, numbersFrom, readingNumbers, Falls, Readable}
 use Rattle.listing.proofs.Turns.{told-none, told-some, from-end, from-next}

@@ -6,9 +6,8 @@ use lib.Dec.{ltb, eqb}
 use lib.IntN.{ℤ, pos}
 use lib.ListN.{length}
 use Rattle.tropical_weight.specs.Tropical.{Tropical, fin, inf}
-use Rattle.sheet.specs.Machine.{Machine}
+use Rattle.sheet.specs.Machine.{Machine, machine}
 use Rattle.machine.specs.Readings.{link, readingOf, readingCost}
-use Rattle.shortest_distance.specs.Outcome.{machine}
 use Rattle.search.specs.ListMachine.{resultFor, resultBytes}
 use Rattle.search.specs.Listed.{listOf}
 use Rattle.shortest_path.specs.Outcome.{testedNumber}

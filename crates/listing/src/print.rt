@@ -5,17 +5,17 @@ ghost use mathlib.Core.List.{[], _++_};
 ghost use Prim.Native.Nat.{_+_, _*_, _≤_, _<_};
 ghost use lib.ListN.{length, getD};
 ghost use Rattle.io.specs.Counts.{Counts};
-ghost use Rattle.shortest_distance.specs.Outcome.{machine as machineFor};
+ghost use Rattle.sheet.specs.Machine.{machine as machineFor};
 ghost use Rattle.shortest_path.specs.Outcome.{testedNumber};
 ghost use Rattle.listing.specs.Text.{Puts, firstLine};
 ghost use Rattle.listing.specs.Held.{Held};
 ghost use Rattle.listing.specs.Printed.{sheetMost, listMost, runMost, lineMost, textMost, listFor, readingLine, readingLines, printedFor, printed};
 use crate::text;
 use crate::ways;
+use list_answer::Listed;
 use machine::input::input;
 use sheet::read::Tested;
 use sheet::tr::Trailer;
-use slots::Listed;
 use tropical_weight::LIST_LIMIT;
 
 // The most bytes of a sheet, and the largest n, that the areas are long enough for.

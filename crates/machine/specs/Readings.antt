@@ -98,3 +98,9 @@ readingsBelow m (suc v) = readingsBelow m v ++ endsAt (final m v) v (waysTo m v)
 -- all readings of the machine
 abbrev pub readings : Machine → List Reading
 readings m = readingsBelow m (length (m .finals))
+
+-- F: the nodes with mark 1, reached or not
+unfoldable pub marked : List (Option Tropical) → ℕ
+marked [] = 0
+marked (none ∷ fs) = marked fs
+marked (some w ∷ fs) = suc (marked fs)

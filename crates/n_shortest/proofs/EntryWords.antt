@@ -8,7 +8,8 @@ use lib.ListN.{length}
 use borrow.Author.Tests.{eq-eqb, ne-eqb}
 use Rattle.n_shortest.specs.declared.n_best.Entry.{Entry}
 use Rattle.n_shortest.specs.declared.n_best.Entry.the-variants.{Half, Finished}
-use Rattle.slots.specs.Slots.{nothing, nodeWord, costWord, distanceWord}
+use Rattle.slots.specs.Slots.{nothing}
+use Rattle.search_slots.specs.Slots.{nodeWord, costWord, distanceWord}
 use Rattle.n_shortest.specs.SearchWords.{rankW, Inside, entryW}
 
 module _ (part : List ℕ) (nodes : ℕ) where

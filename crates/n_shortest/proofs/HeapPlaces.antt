@@ -20,7 +20,8 @@ use Rattle.sheet.proofs.Below.{length-listBelow, getD-listBelow}
 use Rattle.search.specs.Heap.{swapped, siftUp, child, siftDown, pushed, popped}
 use Rattle.search.specs.Reversed.{Reversed}
 use Rattle.search.specs.Search.{Entry, half, finished, isHalf, rank, precedes}
-use Rattle.slots.specs.Slots.{nothing, nodeWord, rankWord, heapWord, heapOf, nodeField}
+use Rattle.slots.specs.Slots.{nothing}
+use Rattle.search_slots.specs.Slots.{nodeWord, rankWord, heapWord, heapOf, nodeField}
 use Rattle.n_shortest.specs.HeapWords.{HeapFits, isDone, lessW, storeW, swapW, placeLess, parentOf, siftUpW, childW, siftDownW, pushW, popW}
 use Rattle.n_shortest.proofs.HeapSteps.{place-same, place-other, Each, store-each, swap-each, fits-swap, fits-more, fits-fewer, child-in}
 

@@ -10,7 +10,8 @@ use lib.Ieee.{Float, lt}
 use lib.ListN.{length, length-set}
 use lib.Seq.{getD-set-same, getD-set-other}
 use borrow.Author.Tests.{eq-eqb, ne-eqb, le-leb, lt-leb}
-use Rattle.slots.specs.Slots.{nothing, nodeWord, heapWord}
+use Rattle.slots.specs.Slots.{nothing}
+use Rattle.search_slots.specs.Slots.{nodeWord, heapWord}
 use Rattle.n_shortest.specs.HeapWords.{HeapFits, rankOf, isDone, lessW, storeW, swapW, placeLess, parentOf, siftUpW, childW, siftDownW, popW}
 
 -- ---- the order, by the way that its tests go

@@ -11,7 +11,8 @@ use borrow.Author.Tests.{eq-eqb, ne-eqb}
 use Rattle.n_shortest.specs.declared.n_best.Places.{Places}
 use Rattle.n_shortest.specs.declared.n_best.Entry.{Entry}
 use Rattle.n_shortest.specs.declared.n_best.Entry.the-variants.{Half, Finished}
-use Rattle.slots.specs.Slots.{nothing, headWord, nextWord, weightWord, chainWord}
+use Rattle.slots.specs.Slots.{nothing}
+use Rattle.search_slots.specs.Slots.{headWord, nextWord, weightWord, chainWord}
 use Rattle.n_shortest.specs.SearchWords.{Words, repeated, putW, linkW, linksW, expandW, Sized, Chain}
 use Rattle.n_shortest.proofs.Putting.{put-entries, put-beyond, sized-put, length-put}
 

@@ -8,7 +8,7 @@ use lib.ListN.{length, getD, set, length-set}
 use lib.Seq.{getD-set-same, getD-set-other}
 use Rattle.n_shortest.specs.declared.n_best.Places.{Places}
 use Rattle.n_shortest.specs.declared.n_best.Entry.{Entry}
-use Rattle.slots.specs.Slots.{heapWord}
+use Rattle.search_slots.specs.Slots.{heapWord}
 use Rattle.n_shortest.specs.HeapWords.{HeapFits}
 use Rattle.n_shortest.proofs.HeapPlaces.{push-length, push-beyond, push-each}
 use Rattle.n_shortest.specs.SearchWords.{nodeOf, costOf, rankW, stored, Words, putW, Sized}

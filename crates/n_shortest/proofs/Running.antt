@@ -23,7 +23,8 @@ use Rattle.search.proofs.Tallies.{visits-few, listed-few, step-listed, after-st
 use Rattle.search.proofs.Ran.{stopped-not}
 use Rattle.n_shortest.specs.declared.n_best.Places.{Places}
 use Rattle.n_shortest.specs.declared.n_best.Entry.the-variants.{Half}
-use Rattle.slots.specs.Slots.{nothing, visitsWord}
+use Rattle.slots.specs.Slots.{nothing}
+use Rattle.search_slots.specs.Slots.{visitsWord}
 use Rattle.n_shortest.specs.SearchWords.{Words, putW, stepW, stoppedW, afterW, noneW, begunW, Sized, Ready}
 use Rattle.n_shortest.proofs.Taking as W
 use Rattle.n_shortest.proofs.Storing.{Laid, Fine, Stores, stores-put}

@@ -27,7 +27,7 @@ use Rattle.search.proofs.Contents.{popped-keeps}
 use Rattle.n_shortest.specs.declared.n_best.Places.{Places}
 use Rattle.n_shortest.specs.declared.n_best.Entry.{Entry}
 use Rattle.n_shortest.specs.declared.n_best.Entry.the-variants.{Half, Finished}
-use Rattle.slots.specs.Slots.{nodeWord, costWord, heapWord, listedWord, heapOf, listedOf, headWord, visitsWord, nextWord, weightWord, chainWord, nodeField, inputField}
+use Rattle.search_slots.specs.Slots.{nodeWord, costWord, heapWord, listedWord, heapOf, listedOf, headWord, visitsWord, nextWord, weightWord, chainWord, nodeField, inputField}
 use Rattle.n_shortest.specs.SearchWords.{Words, entryW, putW, repeated, linkW, linksW, expandW, takenW, without, stepW, Sized, Chain, Expands, Takes, Ready}
 use Rattle.n_shortest.proofs.EntryWords.{entry-finished, entry-half}
 use Rattle.n_shortest.proofs.Linking.{links-end, links-step, expand-end, expand-on}

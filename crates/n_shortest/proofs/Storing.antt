@@ -23,7 +23,8 @@ use Rattle.search.proofs.Contents.{pushed-keeps}
 use Rattle.n_shortest.specs.declared.n_best.Places.{Places}
 use Rattle.n_shortest.specs.declared.n_best.Entry.{Entry}
 use Rattle.n_shortest.specs.declared.n_best.Entry.the-variants.{Half, Finished}
-use Rattle.slots.specs.Slots.{nothing, nodeWord, rankWord, listedWord, heapOf, listedOf, distanceWord, headWord, visitsWord, nextWord, weightWord, chainWord, nodeField, inputField, Slot, Entries}
+use Rattle.slots.specs.Slots.{nothing}
+use Rattle.search_slots.specs.Slots.{nodeWord, rankWord, listedWord, heapOf, listedOf, distanceWord, headWord, visitsWord, nextWord, weightWord, chainWord, nodeField, inputField, Slot, Entries}
 use Rattle.n_shortest.specs.HeapWords.{pushW}
 use Rattle.n_shortest.specs.SearchWords.{nodeOf, costOf, rankW, stored, Words, putW, repeated, Sized}
 use Rattle.n_shortest.proofs.HeapPlaces.{Named, Ranked, less-precedes, push-is, push-other, heap-same}

@@ -12,7 +12,7 @@ use Rattle.sheet.proofs.Apart.{not-both, or-right}
 use Rattle.n_shortest.specs.declared.n_best.Places.{Places}
 use Rattle.n_shortest.specs.declared.n_best.Entry.{Entry}
 use Rattle.n_shortest.specs.declared.n_best.Entry.the-variants.{Half, Finished}
-use Rattle.slots.specs.Slots.{heapWord, headWord, visitsWord}
+use Rattle.search_slots.specs.Slots.{heapWord, headWord, visitsWord}
 use Rattle.n_shortest.specs.SearchWords.{Words, entryW, expandW, takenW, without, stepW, stoppedW, afterW, Sized, Chain, Expands, Takes}
 use Rattle.n_shortest.proofs.HeapPlaces.{pop-length, pop-beyond, pop-each}
 use Rattle.n_shortest.proofs.Linking.{chain-same}

@@ -6,7 +6,8 @@ use Prim.Native.Nat.{ℕ, zero, suc, _+_, _-_, _*_, _/_, _≤_, _<_}
 use lib.Dec.{eqb, leb, ltb}
 use lib.Ieee.{Float, binary32, lt, ofBits}
 use lib.ListN.{length, set}
-use Rattle.slots.specs.Slots.{nothing, nodeWord, rankWord, heapWord}
+use Rattle.slots.specs.Slots.{nothing}
+use Rattle.search_slots.specs.Slots.{nodeWord, rankWord, heapWord}
 
 -- the heap lies in the part, and so do the slots of the entries that it holds
 pub record HeapFits (part : List ℕ) (len : ℕ) : Type 0 where

@@ -10,7 +10,8 @@ use Rattle.n_shortest.specs.declared.n_best.Counts.{Counts}
 use Rattle.n_shortest.specs.declared.n_best.Places.{Places}
 use Rattle.n_shortest.specs.declared.n_best.Entry.{Entry}
 use Rattle.n_shortest.specs.declared.n_best.Entry.the-variants.{Half, Finished}
-use Rattle.slots.specs.Slots.{nothing, nodeWord, costWord, heapWord, distanceWord, headWord, visitsWord, nextWord, weightWord, chainWord}
+use Rattle.slots.specs.Slots.{nothing}
+use Rattle.search_slots.specs.Slots.{nodeWord, costWord, heapWord, distanceWord, headWord, visitsWord, nextWord, weightWord, chainWord}
 use Rattle.n_shortest.specs.HeapWords.{pushW, popW}
 
 -- ---- an entry

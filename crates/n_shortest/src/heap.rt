@@ -3,9 +3,9 @@ ghost use mathlib.Core.Path.{_≡_};
 ghost use Prim.Native.Nat.{_+_, _-_, _*_, _≤_, _<_};
 ghost use lib.ListN.{length};
 ghost use Rattle.n_shortest.specs.HeapWords.{HeapFits, rankOf, lessW, swapW, siftUpW, childW, siftDownW, pushW, popW};
+use search_slots::PLACE;
+use search_slots::RANK;
 use slots::NOTHING;
-use slots::PLACE;
-use slots::RANK;
 use slots::SLOT;
 
 // The rank of entry a.

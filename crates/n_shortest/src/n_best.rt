@@ -7,18 +7,18 @@ ghost use lib.ListN.{length};
 ghost use Rattle.n_shortest.specs.HeapWords.{HeapFits};
 ghost use Rattle.n_shortest.specs.SearchWords.{nodeOf, costOf, rankW, Inside, entryW, stored, putW, repeated, linksW, expandW, takenW, stepW, stoppedW, afterW, begunW, Sized, Chain, Expands, Takes, Ready, Begins};
 use crate::heap;
-use slots::CHAIN;
-use slots::COST;
-use slots::FROM;
-use slots::HEAD;
-use slots::INPUT;
-use slots::LISTED;
+use search_slots::CHAIN;
+use search_slots::COST;
+use search_slots::FROM;
+use search_slots::HEAD;
+use search_slots::INPUT;
+use search_slots::LISTED;
+use search_slots::PLACE;
+use search_slots::RANK;
+use search_slots::VISITS;
+use search_slots::WEIGHT;
 use slots::NOTHING;
-use slots::PLACE;
-use slots::RANK;
 use slots::SLOT;
-use slots::VISITS;
-use slots::WEIGHT;
 
 // An entry is half-built, with a node and a cost, or finished, with a cost.
 pub enum Entry {

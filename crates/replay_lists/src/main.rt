@@ -7,7 +7,7 @@
 ghost use mathlib.Core.Path.{_≡_};
 ghost use Prim.Native.Nat.{_+_, _*_};
 use libc::STDIN_FILENO;
-use slots::Listed;
+use list_answer::Listed;
 use stored_cases::areas;
 use stored_cases::areas::RESULT_MARK;
 use stored_cases::areas::WORK_MARK;

@@ -19,7 +19,8 @@ use Rattle.sheet.specs.Machine.{Machine, weightOf}
 use Rattle.sheet.proofs.Below.{sum-mono}
 use Rattle.machine.specs.Readings.{noLink, link, final}
 use Rattle.search.specs.Reversed.{outOfZero, linksInto}
-use Rattle.slots.specs.Slots.{nothing, headWord, nextWord, weightWord, chainWord}
+use Rattle.slots.specs.Slots.{nothing}
+use Rattle.search_slots.specs.Slots.{headWord, nextWord, weightWord, chainWord}
 use Rattle.reversed_machine.specs.ReverseWords.{markAt, finalAt, finalCount, linkPut, linksPut, linksReversed, finalPut, finalsReversed, chained, backOf}
 use Rattle.reversed_machine.proofs.Passing.{count-plain, count-final, count-mono}
 use Rattle.reversed_machine.proofs.Granted.{Tells}

@@ -13,7 +13,8 @@ use Rattle.tropical_weight.specs.Limits.{unit}
 use Rattle.tropical_weight.specs.Grid.{ofT}
 use Rattle.sheet.specs.Machine.{weightOf}
 use Rattle.search.specs.Reversed.{Back}
-use Rattle.slots.specs.Slots.{nothing, headWord, nextWord, weightWord, chainWord}
+use Rattle.slots.specs.Slots.{nothing}
+use Rattle.search_slots.specs.Slots.{headWord, nextWord, weightWord, chainWord}
 use Rattle.reversed_machine.specs.ReverseWords.{chained, chainOf, backOf}
 
 -- ---- link k in front of the chain of node q, where the slots of links lie above those of nodes

@@ -20,7 +20,8 @@ use Rattle.sheet.proofs.Sources.{machine-nodes}
 use Rattle.machine.specs.Distance.{dist}
 use Rattle.shortest_distance.specs.Outcome.{slotsNeeded}
 use Rattle.shortest_distance.specs.Sound.{Made}
-use Rattle.slots.specs.Slots.{nothing, distanceWord, headWord, nextWord, weightWord, chainWord}
+use Rattle.slots.specs.Slots.{nothing}
+use Rattle.search_slots.specs.Slots.{distanceWord, headWord, nextWord, weightWord, chainWord}
 use Rattle.reversed_machine.specs.ReverseWords.{chainOf, backOf}
 use Rattle.reversed_machine.specs.Laid.{backCount, MeasuredIn, Laid}
 

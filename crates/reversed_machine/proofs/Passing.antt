@@ -18,8 +18,9 @@ use Rattle.sheet.specs.Below.{sumBelow, listBelow}
 use Rattle.sheet.specs.Words.{word}
 use Rattle.sheet.specs.Machine.{weightOf, finalOf}
 use Rattle.sheet.specs.Records.{countAt, firstLink}
-use Rattle.search.specs.Search.{marked}
-use Rattle.slots.specs.Slots.{nothing, distanceWord}
+use Rattle.machine.specs.Readings.{marked}
+use Rattle.slots.specs.Slots.{nothing}
+use Rattle.search_slots.specs.Slots.{distanceWord}
 use Rattle.reversed_machine.specs.ReverseWords.{markAt, finalAt, finalsAt, finalCount, headsCleared, chained, linksPut, linksReversed, finalsReversed, leastTotal, chainsPut, reversedWords}
 
 -- ---- heads

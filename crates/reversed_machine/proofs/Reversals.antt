@@ -16,9 +16,10 @@ use Rattle.sheet.proofs.Below.{split-at}
 use Rattle.machine.specs.Distance.{dist}
 use Rattle.machine.specs.Input.{inputNumber}
 use Rattle.search.specs.Reversed.{outOf, distanceTo}
-use Rattle.search.specs.Search.{marked}
+use Rattle.machine.specs.Readings.{marked}
 use Rattle.shortest_distance.proofs.Accepted.{reads, nodes-are, links-are}
-use Rattle.slots.specs.Slots.{nothing, distanceWord, headWord, visitsWord, chainWord}
+use Rattle.slots.specs.Slots.{nothing}
+use Rattle.search_slots.specs.Slots.{distanceWord, headWord, visitsWord, chainWord}
 use Rattle.reversed_machine.specs.ReverseWords.{finalCount, headsCleared, linksReversed, finalsReversed, leastTotal, chainsPut, reversedWords, chainOf, backOf}
 use Rattle.reversed_machine.specs.Laid.{backCount, Measured, Laid, Reversal}
 use Rattle.reversed_machine.proofs.Passing.{count-none, count-most}

@@ -15,7 +15,8 @@ use Rattle.sheet.specs.Words.{word}
 use Rattle.sheet.specs.Records.{countAt, firstLink}
 use Rattle.sheet.specs.Machine.{Machine}
 use Rattle.sheet.proofs.Below.{sum-mono}
-use Rattle.slots.specs.Slots.{nothing, headWord, visitsWord}
+use Rattle.slots.specs.Slots.{nothing}
+use Rattle.search_slots.specs.Slots.{headWord, visitsWord}
 use Rattle.reversed_machine.specs.ReverseWords.{markAt, finalAt, finalCount, headsCleared, chained, linkPut, linksPut, linksReversed, finalPut, finalsReversed}
 use Rattle.reversed_machine.proofs.Passing.{count-final, count-mono}
 use Rattle.reversed_machine.proofs.Granted.{Tells}

@@ -25,7 +25,7 @@ use Rattle.machine.specs.Distance.{plusAll, dist, totalAt, total}
 use Rattle.machine.proofs.Lists.{mem-below}
 use Rattle.machine.proofs.Sums.{plusAll-append, plusAll-within}
 use Rattle.machine.proofs.Bounds.{dist-within, dist-limit}
-use Rattle.slots.specs.Slots.{distanceWord}
+use Rattle.search_slots.specs.Slots.{distanceWord}
 use Rattle.reversed_machine.specs.ReverseWords.{markAt, finalAt, totalWith, leastTotal}
 use Rattle.reversed_machine.proofs.Granted.{Tells}
 

@@ -12,8 +12,9 @@ use Rattle.sheet.specs.Sheet.{partsOf}
 use Rattle.sheet.specs.Machine.{Machine, machineOf, weightOf, bitsOf}
 use Rattle.machine.specs.Distance.{dist}
 use Rattle.search.specs.Reversed.{outOf, distanceTo}
-use Rattle.search.specs.Search.{marked}
-use Rattle.slots.specs.Slots.{nothing, distanceWord, headWord, visitsWord, nextWord, weightWord, chainWord}
+use Rattle.machine.specs.Readings.{marked}
+use Rattle.slots.specs.Slots.{nothing}
+use Rattle.search_slots.specs.Slots.{distanceWord, headWord, visitsWord, nextWord, weightWord, chainWord}
 use Rattle.reversed_machine.specs.ReverseWords.{chainOf, backOf}
 
 -- the links of the reversed machine: those of the input, and one to each final node

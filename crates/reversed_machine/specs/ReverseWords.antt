@@ -15,8 +15,9 @@ use Rattle.sheet.specs.Words.{word}
 use Rattle.sheet.specs.Records.{countAt, firstLink}
 use Rattle.sheet.specs.Machine.{weightOf, finalOf}
 use Rattle.search.specs.Reversed.{Back}
-use Rattle.search.specs.Search.{marked}
-use Rattle.slots.specs.Slots.{nothing, distanceWord, nextWord, weightWord, chainWord}
+use Rattle.machine.specs.Readings.{marked}
+use Rattle.slots.specs.Slots.{nothing}
+use Rattle.search_slots.specs.Slots.{distanceWord, nextWord, weightWord, chainWord}
 
 -- ---- the nodes of a sheet with so many links
 abbrev pub markAt : List ℕ → ℕ → ℕ → ℕ

@@ -9,14 +9,14 @@ ghost use Rattle.sheet.specs.Records.{countAt, trailerAt};
 ghost use Rattle.machine.specs.Input.{inputNumber};
 ghost use Rattle.reversed_machine.specs.Laid.{MeasuredIn};
 ghost use Rattle.reversed_machine.specs.ReverseWords.{finalCount, headsCleared, chained, linksPut, linksReversed, finalsReversed, leastTotal, reversedWords};
+use search_slots::CHAIN;
+use search_slots::HEAD;
+use search_slots::VISITS;
+use search_slots::WEIGHT;
 use sheet::tr::Trailer;
 use sheet::words::word;
-use slots::CHAIN;
-use slots::HEAD;
 use slots::NOTHING;
 use slots::SLOT;
-use slots::VISITS;
-use slots::WEIGHT;
 
 // The chains of so many nodes are empty, and none of these has been taken.
 fn clear_heads(part: &mut [u32], heads: usize, count: u32)

@@ -9,12 +9,12 @@ use Rattle.tropical_weight.specs.Tropical.{Tropical, fin, one}
 use Rattle.sheet.specs.Sheet.{partsOf}
 use Rattle.sheet.specs.Machine.{Link, Machine, machineOf}
 use Rattle.sheet.proofs.Bench.{sheetA}
-use Rattle.machine.specs.Readings.{link, readingOf, readingCost, runCost}
+use Rattle.machine.specs.Readings.{link, readingOf, readingCost, runCost, marked}
 use Rattle.machine.specs.Distance.{dist, total, distances}
 use Rattle.machine.specs.Parents.{best}
 use Rattle.machine.proofs.Bench.{arc, machineA, machineB, machineC}
 use Rattle.search.specs.Reversed.{outOfZero, linksInto}
-use Rattle.search.specs.Search.{marked, search}
+use Rattle.search.specs.Search.{search}
 use Rattle.search.specs.ListMachine.{empty, resultFor, resultBytes}
 use Rattle.search.specs.Listed.{listOf}
 

@@ -12,10 +12,10 @@ use Rattle.sheet.specs.Below.{sumBelow}
 use Rattle.sheet.specs.Machine.{Link, Machine}
 use Rattle.sheet.proofs.Below.{sumBelow-same, sumBelow-le, sumBelow-add, sumBelow-times, sumBelow-first, sumBelow-none, sumBelow-only, sumBelow-most}
 use Rattle.machine.specs.Demand.{_∈_}
-use Rattle.machine.specs.Readings.{isAt}
+use Rattle.machine.specs.Readings.{isAt, marked}
 use Rattle.machine.proofs.Lists.{here}
 use Rattle.search.specs.Reversed.{Reversed, outOfZero, linksInto, outOf, isEnd, reversed}
-use Rattle.search.specs.Search.{marked, mostTaken}
+use Rattle.search.specs.Search.{mostTaken}
 use Rattle.search.proofs.Counts.{occurs, occurs-append, occurs-here, occurs-other, occurs-one}
 use Rattle.search.proofs.Trails.{back, stop, movesFrom}
 

@@ -12,7 +12,7 @@ use Rattle.sheet.specs.Sheet.{Parts, partsOf, statedLinks}
 use Rattle.sheet.specs.Machine.{Link, Machine, machineOf}
 use Rattle.sheet.proofs.Round.{Below, words-below}
 use Rattle.sheet.proofs.Sources.{machine-links, machine-nodes}
-use Rattle.machine.specs.Readings.{Reading, IsReading, readingOf, readings}
+use Rattle.machine.specs.Readings.{Reading, IsReading, readingOf, readings, marked}
 use Rattle.machine.specs.Climbs.{Climbs, Finite}
 use Rattle.machine.specs.Parents.{best}
 use Rattle.machine.specs.Demand.{Demand}
@@ -23,7 +23,7 @@ use Rattle.machine.proofs.Readings.{final-in, reading-is, readings-are}
 use Rattle.machine.proofs.Parents.{best-is, best-some}
 use Rattle.machine.proofs.Accepted.{Passes, passes, few-nodes, few-links, link-at, climbs-machine, finite-machine}
 use Rattle.machine.proofs.Demand.{demand-best, demand-none}
-use Rattle.search.specs.Search.{marked, mostTaken, search, runs, runOf}
+use Rattle.search.specs.Search.{mostTaken, search, runs, runOf}
 use Rattle.search.specs.ListMachine.{Result, bestResult, trimmed, resultBy, resultFor, resultBytes}
 use Rattle.search.specs.Listed.{listOf}
 use Rattle.search.proofs.Complete.{holds, put-in, few-listed, taken-bound, demand-search}

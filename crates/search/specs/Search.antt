@@ -7,6 +7,7 @@ use lib.Dec.{eqb, leb}
 use lib.ListN.{length, getD, set, replicate}
 use Rattle.tropical_weight.specs.Tropical.{Tropical, one, eqT, ltT, _⊗_}
 use Rattle.sheet.specs.Machine.{Machine}
+use Rattle.machine.specs.Readings.{marked}
 use Rattle.search.specs.Heap.{pushed, popped}
 use Rattle.search.specs.Reversed.{Reversed, reversed}
 
@@ -99,12 +100,6 @@ abbrev pub begun : ℕ → Search
 begun nodes = record { entries = first ∷ []; heap = 0 ∷ []; visits = replicate nodes 0; listed = []; taken = 0 }
 
 -- ---- of a machine
--- F: the nodes with mark 1, reached or not
-unfoldable pub marked : List (Option Tropical) → ℕ
-marked [] = 0
-marked (none ∷ fs) = marked fs
-marked (some w ∷ fs) = suc (marked fs)
-
 -- 1 + F + n × (T + 1)
 abbrev pub mostTaken : Machine → ℕ → ℕ
 mostTaken m n = 1 + marked (m .finals) + n * (length (m .links) + 1)

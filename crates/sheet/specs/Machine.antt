@@ -10,7 +10,7 @@ use Rattle.tropical_weight.specs.Limits.{unit}
 use Rattle.tropical_weight.specs.Tropical.{Tropical, fin}
 use Rattle.tropical_weight.specs.Grid.{unitsOf, ofT}
 use Rattle.sheet.specs.Below.{listBelow}
-use Rattle.sheet.specs.Sheet.{Parts, noStart, linkCount, nodeCount, ilabel, olabel, linkBits, next, count, mark, finalBits}
+use Rattle.sheet.specs.Sheet.{Parts, noStart, linkCount, nodeCount, ilabel, olabel, linkBits, next, count, mark, finalBits, partsOf}
 
 -- A link leaves its source for its next node.
 pub record Link : Type 0 where
@@ -59,6 +59,10 @@ machineOf p = record {
   finals = listBelow (nodeCount p) (λ v. finalOf (mark p v) (finalBits p v));
   start = startOf (p .start);
 }
+
+-- the machine of a sheet's bytes
+abbrev pub machine : List ℕ → Machine
+machine bytes = machineOf (partsOf bytes)
 
 -- ---- as a sheet
 -- the field of a weight

@@ -15,7 +15,8 @@ use Rattle.sheet.specs.Words.{bytesOf, bytesOfAll}
 use Rattle.sheet.proofs.Below.{length-listBelow}
 use Rattle.sheet.proofs.Bytes.{sets-append, bytesOfAll-append, length-bytesOfAll, bytesOfAll-one}
 use Rattle.sheet.specs.Records.{countAt}
-use Rattle.shortest_distance.specs.Slots.{infinite, distanceWord, firstWord, prepared, cleared, heightIn, distanceWords}
+use Rattle.slots.specs.Slots.{infinite, cleared}
+use Rattle.shortest_distance.specs.NodeSlots.{distanceWord, firstWord, prepared, heightIn, distanceWords}
 
 -- ---- slots set up
 pub length-prepared : (bytes : List ℕ) (links n : ℕ) (work : List ℕ) → length (prepared bytes links n work) ≡ length work
@@ -82,18 +83,6 @@ beyond bytes links (suc v) work k h =
 
 pub prepared-beyond : (bytes : List ℕ) (links n : ℕ) (work : List ℕ) → drop (8 * n) (prepared bytes links n work) ≡ drop (8 * n) work
 prepared-beyond bytes links n work = beyond bytes links n work (8 * n) (omega arith)
-
--- areas that agree beyond the slots are alike once the slots are left zero
-pub cleared-same : (n : ℕ) (a b : List ℕ) → drop (8 * n) a ≡ drop (8 * n) b → cleared n a ≡ cleared n b
-cleared-same n a b e = ap (λ (r : List ℕ). replicate (8 * n) 0 ++ r) e
-
--- ---- one word more left zero
-pub zero-next : (l : List ℕ) (i : ℕ) → i < length l → set (replicate i 0 ++ drop i l) i 0 ≡ replicate (i + 1) 0 ++ drop (i + 1) l
-zero-next l i h =
-    ap (λ (r : List ℕ). set (replicate i 0 ++ r) i 0) (drop-cons l i 0 h)
-    ∙ set-at (replicate i 0) (getD l i 0) (drop (suc i) l) 0 i (length-replicate i 0)
-    ∙ sym (append-snoc (replicate i 0) 0 (drop (suc i) l))
-    ∙ λ j. replicate-append-replicate i 1 0 j ++ drop (sym (add-one i) j) l
 
 -- ---- the scan from the top
 height-next : (work : List ℕ) (n : ℕ) (b : Bool) → 0 < n → eqb (distanceWord work (n - 1)) infinite ≡ b → heightIn work n ≡ cond b (heightIn work (n - 1)) n

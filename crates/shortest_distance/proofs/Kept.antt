@@ -20,7 +20,7 @@ use Rattle.state_order_queue.specs.declared.Queue.{Queue}
 use Rattle.state_order_queue.specs.Queues.{holds, isEmpty, enqueued, dequeued}
 use Rattle.sheet.proofs.Apart.{both, or-either}
 use Rattle.state_order_queue.proofs.Sets.{enqueued-full, enqueued-holds, enqueued-valid, dequeued-full, dequeued-valid, dequeued-holds, front-held}
-use Rattle.shortest_distance.specs.Slots.{distanceWord, firstWord}
+use Rattle.shortest_distance.specs.NodeSlots.{distanceWord, firstWord}
 use Rattle.shortest_distance.specs.Relaxation.{State, reaches, relaxLink, relaxLinks, relaxHead, relaxHeads}
 use Rattle.shortest_distance.specs.Sound.{Sound}
 

@@ -17,7 +17,7 @@ use Rattle.sheet.specs.Words.{word}
 use Rattle.sheet.specs.declared.tr.Trailer.{Trailer}
 use Rattle.sheet.specs.Records.{trailerAt, countAt}
 use Rattle.sheet.specs.Sheet.{partsOf, noStart, nodeCount, trailerField, statedLinks, statedNodes}
-use Rattle.sheet.specs.Machine.{machineOf, bitsOf}
+use Rattle.sheet.specs.Machine.{machineOf, bitsOf, machine}
 use Rattle.sheet.proofs.Fields.{read-fields}
 use Rattle.sheet.proofs.Sources.{machine-nodes}
 use Rattle.machine.specs.Distance.{relax, reached}
@@ -27,10 +27,9 @@ use Rattle.machine.proofs.Testing.{in-sheet, counts-total}
 use Rattle.machine.proofs.Reached.{reached-none, unreached-inf}
 use Rattle.state_order_queue.specs.declared.Queue.{Queue}
 use Rattle.state_order_queue.specs.Queues.{emptied, enqueued}
-use Rattle.shortest_distance.specs.Slots.{prepared}
+use Rattle.shortest_distance.specs.NodeSlots.{prepared}
 use Rattle.shortest_distance.specs.Relaxation.{State, relaxHeads}
 use Rattle.shortest_distance.specs.Sound.{Sound, Made}
-use Rattle.shortest_distance.specs.Outcome.{machine}
 use Rattle.shortest_distance.proofs.Areas.{length-prepared, prepared-distance, prepared-beyond}
 use Rattle.tropical_weight.proofs.Semiring.{isFinite}
 use Rattle.shortest_distance.proofs.Offers.{bits-inf}

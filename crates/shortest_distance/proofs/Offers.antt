@@ -12,7 +12,7 @@ use Rattle.tropical_weight.specs.Grid.{ofT}
 use Rattle.tropical_weight.proofs.Semiring.{isFinite}
 use Rattle.tropical_weight.proofs.Exact.{covered, times-ofT, lt-ofT, ofT-injective, bits-back}
 use Rattle.sheet.specs.Machine.{bitsOf}
-use Rattle.shortest_distance.specs.Slots.{infinite}
+use Rattle.slots.specs.Slots.{infinite}
 use Rattle.shortest_distance.specs.Relaxation.{improves, relaxedWord, reaches}
 
 -- ---- the bits

@@ -16,7 +16,7 @@ use Rattle.sheet.proofs.Below.{length-listBelow}
 use Rattle.sheet.proofs.Bytes.{length-bytesOfAll}
 use Rattle.sheet.proofs.Apart.{not-zero, neither}
 use Rattle.sheet.proofs.Sources.{machine-nodes}
-use Rattle.sheet.specs.Machine.{bitsOf}
+use Rattle.sheet.specs.Machine.{bitsOf, machine}
 use Rattle.machine.specs.Distance.{dist, distances, height}
 use Rattle.machine.specs.Input.{inputNumber}
 use Rattle.machine.proofs.Lists.{below-map}
@@ -25,11 +25,12 @@ use Rattle.machine.proofs.Reached.{height-le}
 use Rattle.state_order_queue.specs.Queues.{emptied}
 use Rattle.shortest_distance.specs.declared.Distances.{Distances}
 use Rattle.shortest_distance.specs.declared.Distances.the-variants.{Count, Refused}
-use Rattle.shortest_distance.specs.Slots.{infinite, distanceWord, distanceWords, heightIn, cleared}
+use Rattle.slots.specs.Slots.{infinite, cleared}
+use Rattle.shortest_distance.specs.NodeSlots.{distanceWord, distanceWords, heightIn}
 use Rattle.shortest_distance.specs.Handed.{handed, handedBy, handedOver}
-use Rattle.shortest_distance.specs.Outcome.{machine, answerOf, slotsNeeded, distanceNumber, distancesBy, distanceAnswer, workAfter, resultAfter}
+use Rattle.shortest_distance.specs.Outcome.{answerOf, slotsNeeded, distanceNumber, distancesBy, distanceAnswer, workAfter, resultAfter}
 use Rattle.shortest_distance.specs.Sound.{Made}
-use Rattle.shortest_distance.proofs.Areas.{cleared-same}
+use Rattle.slots.proofs.Clearing.{cleared-same}
 use Rattle.shortest_distance.proofs.Rows.{Final}
 use Rattle.shortest_distance.proofs.Accepted.{reads}
 use Rattle.shortest_distance.proofs.Starts.{height-is}

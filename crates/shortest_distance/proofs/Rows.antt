@@ -31,7 +31,7 @@ use Rattle.machine.proofs.Relax.{row-size, relax-is}
 use Rattle.machine.proofs.Bounds.{row-within, step-within}
 use Rattle.state_order_queue.specs.Queues.{holds, isValid, isEmpty, enqueued, dequeued}
 use Rattle.state_order_queue.proofs.Sets.{enqueued-full, enqueued-holds, enqueued-valid, dequeued-full, dequeued-valid, empty-exactly, front-held, front-least, dequeued-holds}
-use Rattle.shortest_distance.specs.Slots.{distanceWord, firstWord}
+use Rattle.shortest_distance.specs.NodeSlots.{distanceWord, firstWord}
 use Rattle.shortest_distance.specs.Relaxation.{State, relaxedWord, reaches, relaxLink, relaxLinks, relaxHead, relaxHeads}
 use Rattle.shortest_distance.proofs.Offers.{relaxed-is, reaches-is}
 

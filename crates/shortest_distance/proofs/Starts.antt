@@ -24,7 +24,8 @@ use Rattle.machine.proofs.Reached.{reached-finite, unreached-inf}
 use Rattle.machine.proofs.Bounds.{dist-limit}
 use Rattle.state_order_queue.specs.Queues.{holds, emptied, enqueued}
 use Rattle.state_order_queue.proofs.Sets.{emptied-full, emptied-valid, enqueued-full, enqueued-holds, enqueued-valid}
-use Rattle.shortest_distance.specs.Slots.{infinite, distanceWord, prepared, heightIn}
+use Rattle.slots.specs.Slots.{infinite}
+use Rattle.shortest_distance.specs.NodeSlots.{distanceWord, prepared, heightIn}
 use Rattle.shortest_distance.specs.Relaxation.{State}
 use Rattle.shortest_distance.proofs.Areas.{length-prepared, prepared-distance, prepared-first, prepared-beyond}
 use Rattle.tropical_weight.proofs.Semiring.{isFinite}

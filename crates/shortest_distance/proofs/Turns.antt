@@ -8,7 +8,8 @@ use lib.ListN.{set}
 use lib.Seq.{set-getD}
 use lib.Ieee.{Float, binary32, add, lt, ofBits, toBits}
 use Rattle.sheet.specs.declared.tr.Link.{Link}
-use Rattle.shortest_distance.specs.Slots.{infinite, distanceWord}
+use Rattle.slots.specs.Slots.{infinite}
+use Rattle.shortest_distance.specs.NodeSlots.{distanceWord}
 use Rattle.shortest_distance.specs.Relaxation.{improves, reaches, relaxedWords}
 
 -- the test, by what the calls answer

@@ -1,4 +1,4 @@
-pub mod Slots
+pub mod NodeSlots
 pub mod Relaxation
 pub mod Handed
 pub mod Outcome

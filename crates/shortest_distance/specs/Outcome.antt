@@ -6,16 +6,12 @@ use lib.Dec.{ltb, eqb}
 use lib.ListN.{length, drop}
 use Rattle.sheet.specs.Words.{bytesOfAll}
 use Rattle.sheet.specs.Sheet.{nodeCount, partsOf}
-use Rattle.sheet.specs.Machine.{Machine, machineOf, bitsOf}
+use Rattle.sheet.specs.Machine.{machine, bitsOf}
 use Rattle.machine.specs.Distance.{distances}
 use Rattle.machine.specs.Input.{inputNumber}
 use Rattle.shortest_distance.specs.declared.Distances.{Distances}
 use Rattle.shortest_distance.specs.declared.Distances.the-variants as Distances
-use Rattle.shortest_distance.specs.Slots.{cleared}
-
--- the machine of a sheet
-abbrev pub machine : List ℕ → Machine
-machine bytes = machineOf (partsOf bytes)
+use Rattle.slots.specs.Slots.{cleared}
 
 -- one value per node up to the highest reached, infinity for an unreached one, as 32 weight bits each
 abbrev pub answerOf : List ℕ → List ℕ

@@ -10,7 +10,8 @@ use Rattle.sheet.specs.declared.tr.Link.{Link}
 use Rattle.sheet.specs.Records.{linkAt, countAt}
 use Rattle.state_order_queue.specs.declared.Queue.{Queue}
 use Rattle.state_order_queue.specs.Queues.{isEmpty, enqueued, dequeued}
-use Rattle.shortest_distance.specs.Slots.{infinite, distanceWord, firstWord}
+use Rattle.slots.specs.Slots.{infinite}
+use Rattle.shortest_distance.specs.NodeSlots.{distanceWord, firstWord}
 
 -- whether the distance offered is less than a node's own
 abbrev pub improves : ℕ → Float → Float → Bool

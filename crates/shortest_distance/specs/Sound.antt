@@ -12,9 +12,9 @@ use Rattle.machine.specs.Distance.{dist}
 use Rattle.state_order_queue.specs.declared.Queue.{Queue}
 use Rattle.state_order_queue.specs.Queues.{holds, isValid}
 use Rattle.sheet.specs.Records.{countAt}
-use Rattle.sheet.specs.Machine.{bitsOf}
-use Rattle.shortest_distance.specs.Slots.{distanceWord, firstWord}
-use Rattle.shortest_distance.specs.Outcome.{machine, slotsNeeded}
+use Rattle.sheet.specs.Machine.{bitsOf, machine}
+use Rattle.shortest_distance.specs.NodeSlots.{distanceWord, firstWord}
+use Rattle.shortest_distance.specs.Outcome.{slotsNeeded}
 
 pub record Sound (bytes : List ℕ) (links nodes : ℕ) (work : List ℕ) (queue : Queue) : Type 0 where
   -- the sheet has the links and the nodes, and the area a slot a node

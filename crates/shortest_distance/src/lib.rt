@@ -5,15 +5,16 @@ ghost use Prim.Native.Nat.{_*_, _≤_};
 ghost use lib.ListN.{length};
 ghost use Rattle.sheet.specs.Records.{trailerAt};
 ghost use Rattle.machine.specs.Input.{inputNumber};
-ghost use Rattle.shortest_distance.specs.Slots.{distanceWords};
+ghost use Rattle.shortest_distance.specs.NodeSlots.{distanceWords};
 ghost use Rattle.shortest_distance.specs.Handed.{handed, handedOver};
 ghost use Rattle.shortest_distance.specs.Outcome.{distanceAnswer, workAfter, resultAfter};
 ghost use Rattle.shortest_distance.specs.Sound.{Made};
 use sheet::read::Tested;
 use sheet::tr::Trailer;
+use slots::SLOT;
 
+mod node_slots;
 mod relax;
-pub mod slots;
 
 // What the call for distances answers: how many values it wrote, or the number of the refusal.
 pub enum Distances {
@@ -29,7 +30,7 @@ fn hand_over(work: &[u32], count: u32, result: &mut [u8]) -> Distances
     if result.len() < 4 * (count as usize) {
         return Distances::Refused(21);
     }
-    slots::put_distances(work, count, result);
+    node_slots::put_distances(work, count, result);
     Distances::Count(count)
 }
 
@@ -41,9 +42,9 @@ pub fn make(sheet: &[u8], t: Trailer, work: &mut [u32])
     let nodes = t.nodes;
     let links = t.links;
     let start = t.start;
-    slots::prepare(sheet, links, nodes, work);
+    node_slots::prepare(sheet, links, nodes, work);
     if start < nodes {
-        work[slots::SLOT * (start as usize)] = 0;
+        work[SLOT * (start as usize)] = 0;
         let q = state_order_queue::put(state_order_queue::new(), start);
         relax::relax_heads(sheet, links, nodes, work, q);
     }
@@ -55,11 +56,11 @@ fn distances_of(sheet: &[u8], t: Trailer, work: &mut [u32], result: &mut [u8]) -
     ensures { λ r. ⌜ (r ≡ distanceAnswer (now (sheet .entry)) (length (now (work .entry))) (length (now (result .entry)))) × (now (work .exit) ≡ workAfter (now (sheet .entry)) (now (work .entry)) (length (now (result .entry)))) × (now (result .exit) ≡ resultAfter (now (sheet .entry)) (length (now (work .entry))) (now (result .entry))) ⌝ }
 {
     let nodes = t.nodes;
-    if work.len() / slots::SLOT < (nodes as usize) {
+    if work.len() / SLOT < (nodes as usize) {
         return Distances::Refused(20);
     }
     make(sheet, t, work);
-    let answer = hand_over(work, slots::height(work, nodes), result);
+    let answer = hand_over(work, node_slots::height(work, nodes), result);
     slots::clear(work, nodes);
     answer
 }

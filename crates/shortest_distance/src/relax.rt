@@ -2,13 +2,13 @@
 ghost use mathlib.Core.Path.{_≡_};
 ghost use Prim.Native.Nat.{_*_, _<_};
 ghost use lib.ListN.{length};
-ghost use Rattle.shortest_distance.specs.Slots.{distanceWord};
+ghost use Rattle.shortest_distance.specs.NodeSlots.{distanceWord};
 ghost use Rattle.shortest_distance.specs.Relaxation.{reaches, relaxedWords, relaxHeads};
 ghost use Rattle.shortest_distance.specs.Sound.{Sound};
-use crate::slots::INFINITE;
-use crate::slots::SLOT;
 use sheet::tr::Link;
 use sheet::words::word;
+use slots::INFINITE;
+use slots::SLOT;
 use state_order_queue::Queue;
 
 // Offers a link's next node the distance by that link, which it takes where it is strictly less. A

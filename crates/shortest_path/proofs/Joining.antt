@@ -23,11 +23,11 @@ use Rattle.machine.specs.Input.{inputNumber}
 use Rattle.machine.specs.Climbs.{Small}
 use Rattle.machine.specs.Distance.{total}
 use Rattle.machine.specs.Parents.{best}
-use Rattle.machine.specs.Readings.{Reading}
+use Rattle.machine.specs.Readings.{Reading, marked}
 use Rattle.machine.proofs.Accepted.{passes, small-machine}
 use Rattle.machine.proofs.Parents.{best-infinite, best-finite}
 use Rattle.search.specs.Reversed.{reversed}
-use Rattle.search.specs.Search.{marked, mostTaken, search, after}
+use Rattle.search.specs.Search.{mostTaken, search, after}
 use Rattle.search.specs.ListMachine.{empty, resultBy, resultFor, trimmed}
 use Rattle.search.specs.States.{listResult}
 use Rattle.search.proofs.Lists.{Accepted, accepted, marked-few, some-listed}
@@ -35,8 +35,10 @@ use Rattle.search.proofs.Entries.{numbered}
 use Rattle.search.proofs.Complete.{few-listed}
 use Rattle.search.proofs.Within.{holds-after, put-room, total-within}
 use Rattle.search.proofs.Trims.{trimmed-is}
-use Rattle.slots.specs.Slots.{nothing, listedWord, distanceWord, visitsWord}
-use Rattle.slots.specs.ListAnswer.{endWord, slotsOf, slotsFor, listedIn, listedOver}
+use Rattle.slots.specs.Slots.{nothing, infinite}
+use Rattle.search_slots.specs.Slots.{listedWord, distanceWord, visitsWord}
+use Rattle.list_answer.proofs.SlotsNeeded.{slots-many}
+use Rattle.list_answer.specs.ListAnswer.{endWord, slotsOf, slotsFor, listedIn, listedOver}
 use Rattle.reversed_machine.specs.ReverseWords.{finalsAt, finalCount}
 use Rattle.reversed_machine.specs.Laid.{Reversal}
 use Rattle.shortest_distance.proofs.Accepted.{links-are, nodes-are}
@@ -46,19 +48,12 @@ use Rattle.n_shortest.specs.SearchWords.{Words, afterW, begunW, noneW, stoppedW
 use Rattle.n_shortest.proofs.Storing as Storing
 use Rattle.n_shortest.proofs.Storing.{Stores}
 use Rattle.n_shortest.proofs.Running.{stores-after, readies}
-use Rattle.list_machine.specs.ListingWords.{keptCount, listAnswer, listAfter, Listable, Holding, Sourced}
+use Rattle.list_machine.specs.TrimWords.{keptCount, listAnswer, listAfter, Listable, Holding, Sourced}
 use Rattle.list_machine.proofs.Writings.{listable, list-answers, list-leaves}
 use Rattle.list_machine.proofs.Sources.{sourced}
-use Rattle.shortest_distance.specs.Slots.{infinite}
 use Rattle.tropical_weight.proofs.Semiring.{isFinite, not-finite}
 use Rattle.shortest_distance.proofs.Offers.{bits-finite}
 use Rattle.shortest_path.proofs.Lying.{endField, lies, fan-few}
-
--- ---- numbers
-pub slots-many : (nodes links finals n : ℕ) → 2 ≤ n → slotsOf nodes links finals n ≡ nodes + links + 2 * finals + 2 + n * (links + 1)
-slots-many nodes links finals zero h = absurd (omega arith)
-slots-many nodes links finals (suc zero) h = absurd (omega arith)
-slots-many nodes links finals (suc (suc k)) h = refl
 
 -- n = 0 gives the empty machine
 pub zero-empty : (m : Machine) → resultFor m 0 ≡ empty

@@ -22,7 +22,8 @@ use Rattle.search.specs.Reversed.{Back, outOf, isEnd, reversed}
 use Rattle.search.proofs.Backwards.{out-final, out-link, leads-in}
 use Rattle.search.proofs.Within.{togo-within}
 use Rattle.n_shortest.specs.declared.n_best.Places.{Places}
-use Rattle.slots.specs.Slots.{nothing, headWord, chainWord, inputField}
+use Rattle.slots.specs.Slots.{nothing}
+use Rattle.search_slots.specs.Slots.{headWord, chainWord, inputField}
 use Rattle.reversed_machine.specs.ReverseWords.{chainOf, backOf}
 use Rattle.n_shortest.specs.SearchWords.{repeated}
 use Rattle.reversed_machine.specs.Laid.{backCount, Laid}

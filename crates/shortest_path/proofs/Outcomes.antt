@@ -11,11 +11,11 @@ use borrow.Author.Tests.{lt-ltb, le-ltb, ne-eqb, ltb-false, eqb-true, eqb-false}
 use Rattle.tropical_weight.specs.Limits.{listLimit}
 use Rattle.sheet.proofs.Apart.{not-zero, neither}
 use Rattle.machine.specs.Input.{inputNumber}
-use Rattle.shortest_distance.specs.Slots.{cleared}
-use Rattle.shortest_distance.proofs.Areas.{cleared-same}
-use Rattle.slots.specs.declared.Listed.{Listed}
-use Rattle.slots.specs.declared.Listed.the-variants.{Refused}
-use Rattle.slots.specs.ListAnswer.{listedBy, listedIn, listedOver}
+use Rattle.slots.specs.Slots.{cleared}
+use Rattle.slots.proofs.Clearing.{cleared-same}
+use Rattle.list_answer.specs.declared.Listed.{Listed}
+use Rattle.list_answer.specs.declared.Listed.the-variants.{Refused}
+use Rattle.list_answer.specs.ListAnswer.{listedBy, listedIn, listedOver}
 use Rattle.shortest_path.specs.Outcome.{resultOf, answerOf, slotsNeeded, testedNumber, areasNumber, listNumber, listBy, listAnswer, workAfter, resultAfter}
 
 -- a part of so many slots put back leaves what is beyond it

@@ -9,14 +9,13 @@ use lib.Dec.{eqb}
 use lib.ListN.{length, drop}
 use borrow.Author.Tests.{eqb-true}
 use Rattle.tropical_weight.specs.Limits.{listLimit}
-use Rattle.sheet.specs.Machine.{Machine}
+use Rattle.sheet.specs.Machine.{Machine, machine}
 use Rattle.sheet.proofs.Round.{Below}
 use Rattle.machine.specs.Readings.{Reading, IsReading, readingOf}
 use Rattle.machine.specs.Parents.{best}
 use Rattle.machine.specs.Demand.{Demand}
 use Rattle.machine.proofs.Readings.{reading-is}
 use Rattle.machine.proofs.Parents.{best-is}
-use Rattle.shortest_distance.specs.Outcome.{machine}
 use Rattle.search.specs.ListMachine.{resultFor, resultBy, resultBytes}
 use Rattle.search.proofs.Results.{empty-back}
 use Rattle.search.proofs.Lists.{Accepted, accepted, listIn, demand-result, result-one, result-many, result-taken}

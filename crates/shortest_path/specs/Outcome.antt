@@ -6,12 +6,12 @@ use lib.Dec.{ltb, eqb}
 use lib.ListN.{length, drop}
 use Rattle.tropical_weight.specs.Limits.{listLimit}
 use Rattle.machine.specs.Input.{inputNumber}
-use Rattle.shortest_distance.specs.Outcome.{machine}
-use Rattle.shortest_distance.specs.Slots.{cleared}
+use Rattle.sheet.specs.Machine.{machine}
+use Rattle.slots.specs.Slots.{cleared}
 use Rattle.search.specs.ListMachine.{Result, resultFor, resultBytes}
-use Rattle.slots.specs.declared.Listed.{Listed}
-use Rattle.slots.specs.declared.Listed.the-variants as Listed
-use Rattle.slots.specs.ListAnswer.{slotsFor}
+use Rattle.list_answer.specs.declared.Listed.{Listed}
+use Rattle.list_answer.specs.declared.Listed.the-variants as Listed
+use Rattle.list_answer.specs.ListAnswer.{slotsFor}
 
 -- the result for n of a sheet's machine
 abbrev pub resultOf : List ℕ → ℕ → Result

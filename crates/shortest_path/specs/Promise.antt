@@ -3,15 +3,14 @@ use mathlib.Core.Path.{_≡_}
 use mathlib.Core.Option.{Option, none, some}
 use mathlib.Core.List.{List, [], _∷_, map}
 use Prim.Native.Nat.{ℕ, _≤_, _<_}
-use Rattle.sheet.specs.Machine.{Machine}
+use Rattle.sheet.specs.Machine.{Machine, machine}
 use Rattle.machine.specs.Readings.{Reading, IsReading, readingOf}
 use Rattle.machine.specs.Parents.{best}
 use Rattle.machine.specs.Demand.{Demand}
-use Rattle.shortest_distance.specs.Outcome.{machine}
 use Rattle.search.specs.Search.{mostTaken, search, runs}
 use Rattle.search.specs.Listed.{listOf}
-use Rattle.slots.specs.declared.Listed.{Listed}
-use Rattle.slots.specs.declared.Listed.the-variants as Listed
+use Rattle.list_answer.specs.declared.Listed.{Listed}
+use Rattle.list_answer.specs.declared.Listed.the-variants as Listed
 
 -- the one reading, if there is one
 abbrev pub ifAny : Option Reading → List Reading

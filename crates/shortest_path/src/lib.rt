@@ -5,16 +5,14 @@ ghost use Rattle.sheet.specs.Records.{trailerAt};
 ghost use Rattle.machine.specs.Input.{inputNumber};
 ghost use Rattle.shortest_path.specs.Outcome.{listAnswer, workAfter, resultAfter};
 ghost use Rattle.shortest_path.specs.Promise.{Promised};
+use list_answer::Listed;
 use reversed_machine::reverse;
 use sheet::read::Tested;
 use sheet::tr::Trailer;
-use slots::Listed;
 use slots::SLOT;
 use tropical_weight::LIST_LIMIT;
 
 mod lists;
-
-pub use lists::slots_needed;
 
 // Lists of an accepted sheet: tests 7, 20 and 21, and the answer.
 fn lists_of(sheet: &[u8], t: Trailer, n: u32, work: &mut [u32], result: &mut [u8]) -> Listed
@@ -25,13 +23,13 @@ fn lists_of(sheet: &[u8], t: Trailer, n: u32, work: &mut [u32], result: &mut [u8
         return Listed::Refused(7);
     }
     let finals = reverse::count_finals(sheet, t.links, t.nodes);
-    let needed = lists::slots_needed(t.nodes, t.links, finals, n);
+    let needed = list_answer::slots_needed(t.nodes, t.links, finals, n);
     if work.len() / SLOT < (needed as usize) {
         return Listed::Refused(20);
     }
     let words = SLOT * (needed as usize);
     let answer = lists::list_in(sheet, t, n, finals, &mut work[..words], result);
-    shortest_distance::slots::clear(work, needed);
+    slots::clear(work, needed);
     answer
 }
 

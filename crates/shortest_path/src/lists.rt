@@ -2,21 +2,21 @@
 ghost use mathlib.Core.Path.{_≡_};
 ghost use Prim.Native.Nat.{_*_, _≤_};
 ghost use lib.ListN.{length};
-ghost use Rattle.tropical_weight.specs.Limits.{nodeLimit, linkLimit, listLimit};
+ghost use Rattle.tropical_weight.specs.Limits.{listLimit};
 ghost use Rattle.sheet.specs.Sheet.{partsOf};
 ghost use Rattle.sheet.specs.Machine.{machineOf};
 ghost use Rattle.sheet.specs.Records.{trailerAt};
 ghost use Rattle.machine.specs.Input.{inputNumber};
 ghost use Rattle.search.specs.ListMachine.{resultFor};
 ghost use Rattle.reversed_machine.specs.ReverseWords.{finalCount};
-ghost use Rattle.slots.specs.ListAnswer.{endWord, slotsOf, slotsFor, listedIn, listedOver};
-use list_machine::listing;
+ghost use Rattle.list_answer.specs.ListAnswer.{endWord, slotsFor, listedIn, listedOver};
+use list_answer::Listed;
+use list_machine::trim;
 use n_shortest::n_best;
 use reversed_machine::reverse;
 use sheet::tr::Trailer;
 use single_path::single;
 use slots::INFINITE;
-use slots::Listed;
 use slots::NOTHING;
 use slots::SLOT;
 
@@ -50,7 +50,7 @@ pub fn list_many(
     reverse::measure(sheet, t, part, heads);
     reverse::reverse(sheet, t, finals, part, heads, chains);
     if part[heads] == INFINITE {
-        return single::put_none(result);
+        return list_answer::put_none(result);
     }
     let p = n_best::Places {
         nodes: heads,
@@ -59,7 +59,7 @@ pub fn list_many(
         end: end_of(t.start),
     };
     let c = n_best::n_shortest_path(part, p, n, links + finals, allowed);
-    listing::write_list(
+    trim::write_list(
         sheet,
         t,
         part,
@@ -68,20 +68,6 @@ pub fn list_many(
         c.taken,
         result,
     )
-}
-
-// The work slots that a list for n needs.
-pub fn slots_needed(nodes: u32, links: u32, finals: u32, n: u32) -> u32
-    requires { ⌜ (nodes ≤ nodeLimit) × (links ≤ linkLimit) × (finals ≤ nodes) × (n ≤ listLimit) ⌝ }
-    ensures { λ r. ⌜ r ≡ slotsOf nodes links finals n ⌝ }
-{
-    if n == 0 {
-        return 0;
-    }
-    if n == 1 {
-        return nodes;
-    }
-    nodes + links + 2 * finals + 2 + n * (links + 1)
 }
 
 // The n cheapest readings of an accepted sheet with so many final nodes.
@@ -98,7 +84,7 @@ pub fn list_in(
     ensures { λ r. ⌜ (r ≡ listedIn (resultFor (machineOf (partsOf (now (sheet .entry)))) n) (length (now (result .entry)))) × (now (result .exit) ≡ listedOver (resultFor (machineOf (partsOf (now (sheet .entry)))) n) (now (result .entry))) ⌝ }
 {
     if n == 0 {
-        return single::put_none(result);
+        return list_answer::put_none(result);
     }
     if n == 1 {
         return single::single_shortest_path(sheet, t, part, result);

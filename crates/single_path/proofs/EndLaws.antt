@@ -29,10 +29,10 @@ use Rattle.machine.proofs.Sums.{plusAll-le, plusAll-append}
 use Rattle.machine.proofs.Bounds.{dist-within}
 use Rattle.machine.proofs.Parents.{Lowest, attains-eq}
 use Rattle.machine.proofs.Accepted.{weight-value, weight-within}
-use Rattle.shortest_distance.specs.Slots.{distanceWord}
+use Rattle.shortest_distance.specs.NodeSlots.{distanceWord}
 use Rattle.shortest_distance.proofs.Rows.{Reads}
 use Rattle.shortest_distance.proofs.Accepted.{reads}
-use Rattle.slots.specs.Slots.{inputField}
+use Rattle.search_slots.specs.Slots.{inputField}
 use Rattle.single_path.specs.SingleWords.{markAt, finalAt, totalValue, Best, bestBelow}
 use Rattle.single_path.proofs.ParentLaws.{covered, lowest-only}
 use Rattle.single_path.proofs.SheetFields.{final-some, final-none}

@@ -33,10 +33,10 @@ use Rattle.machine.specs.Parents.{lowest, attains, parent}
 use Rattle.machine.proofs.Parents.{Lowest, lowest-is}
 use Rattle.machine.proofs.Relax.{relax-is}
 use Rattle.machine.proofs.Bounds.{dist-limit, step-within}
-use Rattle.shortest_distance.specs.Slots.{infinite, distanceWord}
+use Rattle.slots.specs.Slots.{infinite, nothing}
+use Rattle.shortest_distance.specs.NodeSlots.{distanceWord}
 use Rattle.shortest_distance.proofs.Offers.{bits-finite}
 use Rattle.shortest_distance.proofs.Rows.{Reads}
-use Rattle.slots.specs.Slots.{nothing}
 use Rattle.single_path.specs.SingleWords.{orphaned, parentWord, sourceWord, attainsBits, parentLink, parentLinks, parentNode, parentNodes}
 use Rattle.single_path.proofs.ParentTurns.{length-orphaned}
 

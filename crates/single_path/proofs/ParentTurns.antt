@@ -11,8 +11,8 @@ use lib.Ieee.{Float, binary32, ofBits}
 use Rattle.sheet.specs.Below.{sumBelow}
 use Rattle.sheet.specs.declared.tr.Link.{Link}
 use Rattle.sheet.specs.Records.{linkAt, countAt, firstLink}
-use Rattle.shortest_distance.specs.Slots.{infinite, distanceWord}
-use Rattle.slots.specs.Slots.{nothing}
+use Rattle.slots.specs.Slots.{infinite, nothing}
+use Rattle.shortest_distance.specs.NodeSlots.{distanceWord}
 use Rattle.single_path.specs.SingleWords.{orphaned, attainsBits, parentLink, parentLinks, parentNode, parentNodes}
 
 pub length-orphaned : (n : ℕ) (work : List ℕ) → length (orphaned n work) ≡ length work

@@ -31,16 +31,17 @@ use Rattle.shortest_distance.specs.Handed.{handedOver}
 use Rattle.shortest_distance.specs.Sound.{Made}
 use Rattle.shortest_distance.proofs.Rows.{Reads}
 use Rattle.shortest_distance.proofs.Accepted.{reads, nodes-are, links-are}
-use Rattle.slots.specs.declared.Listed.{Listed}
-use Rattle.slots.specs.Slots.{nothing, inputField}
-use Rattle.single_path.specs.SingleWords.{LaidOut, parentWord, sourceWord, orphaned, parentNodes, markAt, finalAt, bestBelow, Falls, wayBack, wayWords, noWords}
-use Rattle.slots.specs.ListAnswer.{listedBy, listedIn, listedOver, wayListed, noneListed}
+use Rattle.list_answer.specs.declared.Listed.{Listed}
+use Rattle.slots.specs.Slots.{nothing}
+use Rattle.search_slots.specs.Slots.{inputField}
+use Rattle.single_path.specs.SingleWords.{LaidOut, parentWord, sourceWord, orphaned, parentNodes, markAt, finalAt, bestBelow, Falls, wayBack, wayWords, wayListed}
+use Rattle.list_answer.specs.ListAnswer.{listedBy, listedIn, listedOver}
 use Rattle.single_path.proofs.ParentTurns.{length-orphaned, length-parentNodes}
 use Rattle.single_path.proofs.ParentLaws.{Words, Held, all-held, parent-words}
 use Rattle.single_path.proofs.SheetFields.{bits-same, final-some, final-none}
 use Rattle.single_path.proofs.EndLaws.{end-is}
 use Rattle.single_path.proofs.WayLaws.{way-is, falls-from}
-use Rattle.single_path.proofs.WayBytes.{length-wayWords, links-count, nodes-count, way-bytes, none-bytes, listed-as}
+use Rattle.single_path.proofs.WayBytes.{length-wayWords, links-count, nodes-count, way-bytes, listed-as}
 
 -- the area with the parents of all nodes, and the best end in it
 abbrev pub areaOf : List ℕ → List ℕ → ℕ → ℕ → List ℕ
@@ -59,7 +60,7 @@ pub record Run (bytes old made : List ℕ) (links nodes : ℕ) : Type 0 where
   pub beyond : drop (8 * nodes) (areaOf bytes made links nodes) ≡ drop (8 * nodes) old
   -- no end
   pub none-listed : endOf bytes made links nodes ≡ nothing → (result : List ℕ)
-      → (noneListed (length result) ≡ listedIn (oneOf bytes) (length result)) × (handedOver noWords result ≡ listedOver (oneOf bytes) result)
+      → (listedIn empty (length result) ≡ listedIn (oneOf bytes) (length result)) × (listedOver empty result ≡ listedOver (oneOf bytes) result)
   -- an end
   pub falls : (endOf bytes made links nodes ≡ nothing → ⊥) → Falls bytes (areaOf bytes made links nodes) (endOf bytes made links nodes) × (endOf bytes made links nodes < nodes)
   pub way-listed : (endOf bytes made links nodes ≡ nothing → ⊥) → Below 256 bytes → (result : List ℕ)
@@ -212,11 +213,8 @@ module _ (bytes old made : List ℕ) (accepted : inputNumber bytes ≡ 0) (slots
     size = held .size;
     beyond = held .beyond;
     none-listed = λ e result.
-        let made-of = result-none m (no-end e) in
-        let listed = listed-as empty noWords 0 0 none-bytes refl refl refl result in (
-          ap (λ (k : ℕ). listedBy (ltb (length result) k) 0 0 0) (sym (length-bytesOfAll noWords)) ∙ listed .0 ∙ ap (λ (y : Result). listedIn y (length result)) (sym made-of),
-          listed .1 ∙ ap (λ (y : Result). listedOver y result) (sym made-of),
-        );
+        let made-of = sym (result-none m (no-end e)) in
+        (ap (λ (y : Result). listedIn y (length result)) made-of, ap (λ (y : Result). listedOver y result) made-of);
     falls = λ n. (falls-from m (r .climbs) area words few bytes end (end-in n) (held .room) (omega (arith, in-sheet bytes (input-read bytes accepted .0), links-are bytes accepted)), end-in n);
     way-listed = answered;
   }
@@ -246,7 +244,7 @@ module _ (bytes old made : List ℕ) (links nodes : ℕ) (run : Run bytes old ma
       both : (area ≡ areaOf bytes made links nodes) × (end ≡ endOf bytes made links nodes)
       both = (area-is, found ∙ ap (λ (w : List ℕ). bestBelow bytes links w nodes .node) area-is)
 
-      pub none-for : end ≡ nothing → (result new : List ℕ) (r : Listed) → (r ≡ noneListed (length result)) × (new ≡ handedOver noWords result) → (r ≡ listedIn (oneOf bytes) (length result)) × (new ≡ listedOver (oneOf bytes) result)
+      pub none-for : end ≡ nothing → (result new : List ℕ) (r : Listed) → (r ≡ listedIn empty (length result)) × (new ≡ listedOver empty result) → (r ≡ listedIn (oneOf bytes) (length result)) × (new ≡ listedOver (oneOf bytes) result)
       none-for n result new r h = let a = run .none-listed (sym (both .1) ∙ n) result in (h .0 ∙ a .0, h .1 ∙ a .1)
 
       module _ (n : end ≡ nothing → ⊥) where

@@ -23,10 +23,10 @@ use Rattle.machine.specs.Demand.{_∈_}
 use Rattle.machine.proofs.Lists.{here}
 use Rattle.search.specs.ListMachine.{Result, empty, backLinks, bestResult, wordFor, resultBytes}
 use Rattle.shortest_distance.specs.Handed.{handedOver}
-use Rattle.slots.specs.declared.Listed.{Listed}
-use Rattle.slots.specs.declared.Listed.the-variants as Listed
-use Rattle.single_path.specs.SingleWords.{wayLinks, wayStates, wayNodes, wayTrailer, wayWords, noWords}
-use Rattle.slots.specs.ListAnswer.{listedBy, listedIn, listedOver, wayListed, noneListed}
+use Rattle.list_answer.specs.declared.Listed.{Listed}
+use Rattle.list_answer.specs.declared.Listed.the-variants as Listed
+use Rattle.single_path.specs.SingleWords.{wayLinks, wayStates, wayNodes, wayTrailer, wayWords, wayListed}
+use Rattle.list_answer.specs.ListAnswer.{listedBy, listedIn, listedOver}
 use Rattle.single_path.proofs.WriteTurns.{sets-words}
 use Rattle.single_path.proofs.SheetFields.{ilabel-at, olabel-at, bits-at}
 
@@ -153,11 +153,6 @@ module _ (bytes : List ℕ) (accepted : inputNumber bytes ≡ 0) (whole : Below 
         (λ i. bytesOfAll (links-part i ++ nodes-part i ++ trailer-part i) ++ bytesOfAll ((map-map wordFor some back ∙ map-id back ∙ sym way-is) i))
         ∙ sym (bytesOfAll-append (wayLinks bytes 0 way ++ wayNodes bits (length way) ++ wayTrailer (length way)) way)
 
--- no reading: the empty sheet
-pub none-bytes : resultBytes empty ≡ bytesOfAll noWords
-unfolding resultBytes sheetOf partsFor flatMap nodeFields bytesOfAll
-none-bytes = refl
-
 -- ---- what is answered, by the words
 pub listed-as : (r : Result) (ws : List ℕ) (nodes links : ℕ) → resultBytes r ≡ bytesOfAll ws → length (r .machine .finals) ≡ nodes → length (r .machine .links) ≡ links → r .taken ≡ 0 → (old : List ℕ)
     → (listedBy (ltb (length old) (length (bytesOfAll ws))) nodes links 0 ≡ listedIn r (length old)) × (handedOver ws old ≡ listedOver r old)
@@ -180,13 +175,7 @@ long-enough ws old size nodes links e h = (
       ∙ sym (ap (λ (b : Bool). cond b old (bytesOfAll ws ++ drop (length (bytesOfAll ws)) old)) (le-ltb (length old) (length (bytesOfAll ws)) (omega arith))),
 )
 
--- the empty machine, and a way of so many links
-pub none-short : (old : List ℕ) → length old < 20 → (Listed.Refused 21 ≡ noneListed (length old)) × (old ≡ handedOver noWords old)
-none-short old h = too-short noWords old 20 0 0 (length-bytesOfAll noWords) h
-
-pub none-long : (old new : List ℕ) → 20 ≤ length old → new ≡ sets old 0 (bytesOfAll noWords) → (Listed.Made 0 0 0 ≡ noneListed (length old)) × (new ≡ handedOver noWords old)
-none-long old new h e = let a = long-enough noWords old 20 0 0 (length-bytesOfAll noWords) h in (a .0, e ∙ a .1)
-
+-- a way of so many links
 module _ (bytes : List ℕ) (bits : ℕ) (way : List ℕ) (count : ℕ) (counted : count ≡ length way) (old : List ℕ) where
   pub way-short : length old < 32 * count + 32 → (Listed.Refused 21 ≡ wayListed way (length old)) × (old ≡ handedOver (wayWords bytes bits way) old)
   way-short h = too-short (wayWords bytes bits way) old (32 * length way + 32) (length way + 1) (length way) (length-wayWords bytes bits way) (omega arith)

@@ -10,7 +10,7 @@ use lib.ListN.{length}
 use lib.Ieee.{binary32, add, lt, ofBits}
 use lib.Ieee as Ieee
 use borrow.Author.Tests.{eqb-false, eq-eqb, ne-eqb}
-use Rattle.shortest_distance.specs.Slots.{distanceWord}
+use Rattle.shortest_distance.specs.NodeSlots.{distanceWord}
 use Rattle.slots.specs.Slots.{nothing}
 use Rattle.single_path.specs.SingleWords.{parentWord, sourceWord, markAt, finalAt, totalValue, Best, bestBelow, wayBack}
 

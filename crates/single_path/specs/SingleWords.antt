@@ -4,7 +4,7 @@ use mathlib.Core.Path.{_≡_}
 use mathlib.Core.Bool.{Bool, false, cond}
 use mathlib.Core.List.{List, [], _∷_, _++_}
 use Prim.Native.Nat.{ℕ, zero, suc, _+_, _*_, _≤_, _<_}
-use lib.Dec.{eqb}
+use lib.Dec.{eqb, ltb}
 use lib.ListN.{length, getD, set}
 use lib.Ieee.{Float, binary32, add, lt, ofBits, toBits}
 use lib.Ieee as Ieee
@@ -13,8 +13,10 @@ use Rattle.sheet.specs.Below.{sumBelow}
 use Rattle.sheet.specs.Words.{word}
 use Rattle.sheet.specs.declared.tr.Link.{Link}
 use Rattle.sheet.specs.Records.{linkAt, countAt, firstLink}
-use Rattle.shortest_distance.specs.Slots.{infinite, distanceWord}
-use Rattle.slots.specs.Slots.{nothing}
+use Rattle.slots.specs.Slots.{infinite, nothing}
+use Rattle.shortest_distance.specs.NodeSlots.{distanceWord}
+use Rattle.list_answer.specs.declared.Listed.{Listed}
+use Rattle.list_answer.specs.ListAnswer.{listedBy}
 
 -- The sheet has the links and the nodes, the links are those of the nodes and lead to nodes, and the area has a slot a node.
 pub record LaidOut (bytes : List ℕ) (links nodes : ℕ) (work : List ℕ) : Type 0 where
@@ -123,6 +125,6 @@ wayTrailer k = 0 ∷ 16 * k ∷ (k + 1) ∷ k ∷ k ∷ []
 abbrev pub wayWords : List ℕ → ℕ → List ℕ → List ℕ
 wayWords bytes bits way = wayLinks bytes 0 way ++ wayNodes bits (length way) ++ wayTrailer (length way) ++ way
 
--- no nodes and no start
-abbrev pub noWords : List ℕ
-noWords = 0 ∷ 0 ∷ 0 ∷ 0 ∷ nothing ∷ []
+-- what is answered to an area of so many bytes: a way takes 32 bytes a link and 32 more
+abbrev pub wayListed : List ℕ → ℕ → Listed
+wayListed way room = listedBy (ltb room (32 * length way + 32)) (length way + 1) (length way) 0

@@ -10,10 +10,11 @@ ghost use Rattle.sheet.specs.Records.{trailerAt};
 ghost use Rattle.machine.specs.Input.{inputNumber};
 ghost use Rattle.search.specs.ListMachine.{resultFor};
 ghost use Rattle.shortest_distance.specs.Handed.{handedOver};
-ghost use Rattle.shortest_distance.specs.Outcome.{machine};
+ghost use Rattle.sheet.specs.Machine.{machine};
 ghost use Rattle.slots.specs.Slots.{nothing};
-ghost use Rattle.single_path.specs.SingleWords.{LaidOut, orphaned, parentLink, parentNode, parentNodes, totalValue, bestBelow, parentWord, sourceWord, Falls, wayBack, linkTo, wayLinks, wayNodes, finalAt, wayWords, noWords};
-ghost use Rattle.slots.specs.ListAnswer.{listedIn, listedOver, wayListed, noneListed};
+ghost use Rattle.single_path.specs.SingleWords.{LaidOut, orphaned, parentLink, parentNode, parentNodes, totalValue, bestBelow, parentWord, sourceWord, Falls, wayBack, linkTo, wayLinks, wayNodes, finalAt, wayWords, wayListed};
+ghost use Rattle.list_answer.specs.ListAnswer.{listedIn, listedOver};
+use list_answer::Listed;
 use sheet::tr::Link;
 use sheet::tr::TRAILER;
 use sheet::tr::Trailer;
@@ -21,7 +22,6 @@ use sheet::words::put_word;
 use sheet::words::put_words;
 use sheet::words::word;
 use slots::INFINITE;
-use slots::Listed;
 use slots::NOTHING;
 use slots::SLOT;
 
@@ -230,18 +230,6 @@ fn single_shortest_path_backtrace(
     Listed::Made(count + 1, count, 0)
 }
 
-// The empty machine, where there is room for its sheet.
-pub fn put_none(result: &mut [u8]) -> Listed
-    ensures { λ r. ⌜ (r ≡ noneListed (length (now (result .entry)))) × (now (result .exit) ≡ handedOver noWords (now (result .entry))) ⌝ }
-{
-    if result.len() < TRAILER {
-        return Listed::Refused(21);
-    }
-    let trailer = [0, 0, 0, 0, NOTHING];
-    put_words(result, 0, &trailer);
-    Listed::Made(0, 0, 0)
-}
-
 // The best reading of an accepted sheet, in the slots of its nodes: distances, parents, the best
 // end, and the way back from it.
 pub fn single_shortest_path(sheet: &[u8], t: Trailer, work: &mut [u32], result: &mut [u8]) -> Listed
@@ -256,7 +244,7 @@ pub fn single_shortest_path(sheet: &[u8], t: Trailer, work: &mut [u32], result: 
     parents(sheet, links, nodes, work);
     let end = best_end(sheet, links, nodes, work);
     if end == NOTHING {
-        return put_none(result);
+        return list_answer::put_none(result);
     }
     single_shortest_path_backtrace(sheet, links, end, work, result)
 }

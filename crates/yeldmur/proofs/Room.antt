@@ -10,10 +10,9 @@ use borrow.Author.Tests.{le-ltb}
 use Rattle.tropical_weight.specs.Limits.{listLimit}
 use Rattle.sheet.specs.declared.tr.Trailer.{Trailer}
 use Rattle.sheet.specs.Records.{trailerAt}
-use Rattle.sheet.specs.Machine.{Machine}
+use Rattle.sheet.specs.Machine.{Machine, machine}
 use Rattle.sheet.proofs.Round.{Below}
 use Rattle.machine.specs.Input.{inputNumber}
-use Rattle.shortest_distance.specs.Outcome.{machine}
 use Rattle.search.specs.ListMachine.{resultFor, resultBytes}
 use Rattle.search.proofs.Lists.{Accepted, accepted}
 use Rattle.search.proofs.Sizes.{result-length, zero-holds, one-holds, many-holds}

@@ -9,7 +9,7 @@ use Rattle.sheet.specs.Sheet.{Parts}
 use Rattle.sheet.specs.Answers.{writtenBy}
 use Rattle.shortest_distance.specs.Outcome.{distancesBy}
 use Rattle.search.specs.ListMachine.{Result}
-use Rattle.slots.specs.declared.Listed.the-variants as Listed
+use Rattle.list_answer.specs.declared.Listed.the-variants as Listed
 use Rattle.shortest_path.specs.Outcome.{listBy}
 use Rattle.yeldmur.specs.Told.{writtenTold, distancesTold, listedTold}
 

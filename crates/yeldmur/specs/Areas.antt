@@ -3,9 +3,8 @@ use mathlib.Core.Path.{_≡_}
 use mathlib.Core.List.{List}
 use Prim.Native.Nat.{ℕ, zero, suc, _+_, _*_, _≤_}
 use lib.ListN.{length}
-use Rattle.sheet.specs.Machine.{Machine}
-use Rattle.shortest_distance.specs.Outcome.{machine}
-use Rattle.search.specs.Search.{marked}
+use Rattle.sheet.specs.Machine.{Machine, machine}
+use Rattle.machine.specs.Readings.{marked}
 use Rattle.shortest_path.specs.Outcome.{listNumber}
 
 -- the bytes of a result with so many states and links: 12 a state, 16 and a word a link, and the trailer

@@ -4,8 +4,8 @@ use Rattle.sheet.specs.declared.write.Written.{Written}
 use Rattle.sheet.specs.declared.write.Written.the-variants as Written
 use Rattle.shortest_distance.specs.declared.Distances.{Distances}
 use Rattle.shortest_distance.specs.declared.Distances.the-variants as Distances
-use Rattle.slots.specs.declared.Listed.{Listed}
-use Rattle.slots.specs.declared.Listed.the-variants as Listed
+use Rattle.list_answer.specs.declared.Listed.{Listed}
+use Rattle.list_answer.specs.declared.Listed.the-variants as Listed
 
 -- of a sheet written, its bytes
 abbrev pub writtenTold : Written → ℕ → ℕ × ℕ

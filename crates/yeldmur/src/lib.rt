@@ -9,16 +9,17 @@ ghost use lib.ListN.{length};
 ghost use Rattle.tropical_weight.specs.Limits.{nodeLimit, linkLimit, listLimit};
 ghost use Rattle.sheet.specs.Sheet.{readNumber, writeNumber};
 ghost use Rattle.sheet.specs.Answers.{parts, written, writtenOver};
-ghost use Rattle.shortest_distance.specs.Outcome.{machine as machineFor, distanceNumber, distanceAnswer, workAfter as distanceWork, resultAfter as distanceResult};
+ghost use Rattle.sheet.specs.Machine.{machine as machineFor};
+ghost use Rattle.shortest_distance.specs.Outcome.{distanceNumber, distanceAnswer, workAfter as distanceWork, resultAfter as distanceResult};
 ghost use Rattle.shortest_path.specs.Outcome.{slotsNeeded, testedNumber, listNumber, listAnswer, workAfter, resultAfter};
 ghost use Rattle.shortest_path.specs.Promise.{Keeps};
 ghost use Rattle.yeldmur.specs.Told.{writtenTold, distancesTold, listedTold};
 ghost use Rattle.yeldmur.specs.Areas.{bytesOf, bytesEnough, Enough};
+use list_answer::Listed;
 use reversed_machine::reverse;
 use sheet::read::Tested;
 use sheet::write::Written;
 use shortest_distance::Distances;
-use slots::Listed;
 use tropical_weight::LIST_LIMIT;
 
 // Tests 1 to 4 of a byte string as a sheet.
@@ -129,7 +130,7 @@ pub extern "C" fn yeldmur_areas(sheet: &[u8], n: u32, slots: &mut u64, bytes: &m
                 return 7;
             }
             let finals = reverse::count_finals(sheet, t.links, t.nodes);
-            *slots = shortest_path::slots_needed(t.nodes, t.links, finals, n) as u64;
+            *slots = list_answer::slots_needed(t.nodes, t.links, finals, n) as u64;
             *bytes = bytes_enough(t.nodes, t.links, finals, n) as u64;
             0
         }

@@ -3,7 +3,7 @@ use Prim.Native.Nat.{ℕ}
 use native.Mathlib.Omega.{arith}
 use lib.ListN.{length}
 use denote.Ref.{now}
-use Rattle.shortest_distance.specs.Slots.{distanceWords}
+use Rattle.shortest_distance.specs.NodeSlots.{distanceWords}
 use Rattle.shortest_distance.specs.Handed.{handed, handedOver}
 use Rattle.shortest_distance.proofs.Outcomes.{height-low, few-slots, handed-over}
 use borrow.Author.Needs.{needs}

@@ -11,7 +11,7 @@ use borrow.Author.Tests.{lt-ltb, le-ltb}
 use Rattle.sheet.specs.Words.{bytesOfAll}
 use Rattle.sheet.proofs.Bytes.{length-bytesOfAll}
 use Rattle.sheet.proofs.Below.{length-listBelow}
-use Rattle.shortest_distance.specs.Slots.{distanceWord, distanceWords}
+use Rattle.shortest_distance.specs.NodeSlots.{distanceWord, distanceWords}
 use Rattle.shortest_distance.specs.Handed.{handedBy}
 use borrow.Author.Needs.{needs}
 use Rattle.shortest_distance.proofs.hand_over.Statement.{statement}

@@ -9,7 +9,7 @@ use Rattle.sheet.specs.declared.tr.Trailer.{Trailer}
 use Rattle.sheet.proofs.Round.{Below}
 use Rattle.machine.proofs.Testing.{in-sheet}
 use Rattle.machine.proofs.Accepted.{input-read}
-use Rattle.shortest_distance.specs.Slots.{cleared}
+use Rattle.slots.specs.Slots.{cleared}
 use Rattle.shortest_path.specs.Outcome.{slotsNeeded}
 use Rattle.shortest_path.proofs.Joining.{few-nodes, few-links, slots-same}
 use Rattle.shortest_path.proofs.Outcomes.{outcome-7, outcome-20, outcome-made, beyond-part}

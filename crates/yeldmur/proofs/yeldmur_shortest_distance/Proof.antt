@@ -1,7 +1,8 @@
 use lib.ListN.{length}
 use denote.Ref.{now}
 use Rattle.machine.specs.Distance.{distances}
-use Rattle.shortest_distance.specs.Outcome.{machine, distanceNumber}
+use Rattle.sheet.specs.Machine.{machine}
+use Rattle.shortest_distance.specs.Outcome.{distanceNumber}
 use Rattle.yeldmur.specs.Told.{distancesTold}
 use Rattle.yeldmur.proofs.Telling.{told, distances-number}
 use borrow.Author.Needs.{needs}

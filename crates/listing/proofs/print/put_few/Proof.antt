@@ -4,7 +4,7 @@ use Prim.Native.Nat.{ℕ}
 use native.Mathlib.Omega.{arith}
 use lib.ListN.{length, replicate, length-replicate}
 use denote.Ref.{now}
-use Rattle.shortest_distance.specs.Outcome.{machine}
+use Rattle.sheet.specs.Machine.{machine}
 use Rattle.listing.specs.Text.{firstLine}
 use Rattle.listing.specs.Printed.{listFor, readingLines}
 use Rattle.listing.proofs.Storing.{puts-same}

@@ -7,7 +7,7 @@ use Rattle.listing.proofs.Listings.{lines-none, lines-next, lines-all}
 use Prim.Native.Nat.{_+_, _-_, _*_, _≤_}
 use mathlib.Core.Path.{_≡_}
 use lib.ListN.{length, take}
-use Rattle.shortest_distance.specs.Outcome.{machine}
+use Rattle.sheet.specs.Machine.{machine}
 use Rattle.listing.specs.Text.{Puts}
 use Rattle.listing.specs.Printed.{lineMost, listFor, readingLines}
 use borrow.Author.Needs.{needs}

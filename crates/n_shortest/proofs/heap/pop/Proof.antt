@@ -2,7 +2,7 @@ use mathlib.Core.Path.{_∙_}
 use Prim.Native.Nat.{_-_}
 use denote.Ref.{now}
 use lib.ListN.{length-set}
-use Rattle.slots.specs.Slots.{heapWord}
+use Rattle.search_slots.specs.Slots.{heapWord}
 use Rattle.n_shortest.proofs.HeapSteps.{fits-fewer, pop-made}
 use borrow.Author.Needs.{needs}
 use Rattle.n_shortest.proofs.heap.pop.Statement.{statement}

@@ -1,7 +1,7 @@
 use mathlib.Core.Path.{sym, ap, _∙_}
 use denote.Ref.{now}
 use Rattle.n_shortest.specs.declared.n_best.Entry.the-variants.{Half, Finished}
-use Rattle.slots.specs.Slots.{nodeWord}
+use Rattle.search_slots.specs.Slots.{nodeWord}
 use Rattle.n_shortest.proofs.EntryWords.{entry-finished, entry-half}
 use borrow.Author.Needs.{needs}
 use Rattle.n_shortest.proofs.n_best.entry_at.Statement.{statement}

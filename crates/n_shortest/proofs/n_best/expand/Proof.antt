@@ -5,7 +5,8 @@ use native.Mathlib.Omega.{arith}
 use borrow.Author.Tests.{eq-eqb}
 use denote.Ref.{now}
 use Rattle.n_shortest.specs.declared.n_best.Entry.the-variants.{Finished}
-use Rattle.slots.specs.Slots.{nothing, headWord}
+use Rattle.slots.specs.Slots.{nothing}
+use Rattle.search_slots.specs.Slots.{headWord}
 use Rattle.n_shortest.specs.SearchWords.{Words, putW, linksW}
 use Rattle.n_shortest.proofs.Linking.{Linked, linked, expand-end, expand-on}
 use borrow.Author.Needs.{needs}

@@ -3,7 +3,7 @@ use Prim.Native.Nat.{_+_, _*_, _≤_, _<_}
 use native.Mathlib.Omega.{arith}
 use lib.ListN.{getD, length-set}
 use denote.Ref.{now}
-use Rattle.slots.specs.Slots.{visitsWord}
+use Rattle.search_slots.specs.Slots.{visitsWord}
 use Rattle.n_shortest.specs.SearchWords.{Words, Expands, Takes}
 use Rattle.n_shortest.proofs.Taking.{sized-visited, expands-visited, taken-over, taken-expanded, taken-listed}
 use borrow.Author.Needs.{needs}

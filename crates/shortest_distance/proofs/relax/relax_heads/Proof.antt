@@ -10,7 +10,7 @@ use Rattle.sheet.specs.declared.tr.Link.{Link}
 use Rattle.state_order_queue.specs.declared.Queue.{Queue}
 use Rattle.state_order_queue.specs.Queues.{isEmpty, enqueued, dequeued}
 use Rattle.state_order_queue.proofs.Records.{valid-ends, flagged-enqueued, cleared-dequeued}
-use Rattle.shortest_distance.specs.Slots.{firstWord}
+use Rattle.shortest_distance.specs.NodeSlots.{firstWord}
 use Rattle.shortest_distance.specs.Relaxation.{State, relaxLink, relaxLinks, relaxHeads}
 use Rattle.shortest_distance.specs.Sound.{Sound}
 use Rattle.shortest_distance.proofs.Kept.{link-again, front-below, head-taken, head-links, head-made, heads-none, heads-end, heads-again}

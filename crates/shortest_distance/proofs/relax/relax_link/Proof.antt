@@ -2,7 +2,7 @@ use mathlib.Core.Path.{_≡_, ap, _∙_}
 use denote.Ref.{now}
 use borrow.Author.Tests.{not-true, not-false}
 use lib.Ieee.{binary32, toBits}
-use Rattle.shortest_distance.specs.Slots.{distanceWord}
+use Rattle.shortest_distance.specs.NodeSlots.{distanceWord}
 use Rattle.shortest_distance.specs.Relaxation.{improves}
 use Rattle.shortest_distance.proofs.Turns.{offer-test, offer-left, offer-taken}
 use borrow.Author.Needs.{needs}

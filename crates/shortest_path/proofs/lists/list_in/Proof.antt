@@ -7,9 +7,7 @@ use Rattle.sheet.specs.Words.{bytesOf, bytesOfAll}
 use Rattle.sheet.specs.Sheet.{partsOf}
 use Rattle.sheet.specs.Machine.{machineOf}
 use Rattle.search.specs.ListMachine.{empty, resultFor}
-use Rattle.slots.specs.ListAnswer.{slotsFor, listedIn, listedOver}
-use Rattle.single_path.specs.SingleWords.{noWords}
-use Rattle.single_path.proofs.WayBytes.{listed-as, none-bytes}
+use Rattle.list_answer.specs.ListAnswer.{slotsFor, listedIn, listedOver}
 use Rattle.shortest_path.proofs.Joining.{zero-empty, nodes-is}
 use borrow.Author.Needs.{needs}
 use Rattle.shortest_path.proofs.lists.list_in.Statement.{statement}
@@ -22,13 +20,11 @@ same-length : tie.Need-same-length
 same-length c = search needs
 
 returns : tie.Need-returns
-unfolding bytesOfAll bytesOf
 returns c =
     let args = c .before .before .before .before .before .before .before .before .args in
     let m = machineOf (partsOf (now (args .sheet))) in
     let e : resultFor m (args .n) ≡ empty = ap (resultFor m) (c .before .before .before .before .if1 .taken) ∙ zero-empty m in
-    let x = listed-as empty noWords 0 0 none-bytes refl refl refl (now (args .result)) in
-    (c .before .before .put-none .ensures .0 ∙ x .0 ∙ ap (λ r. listedIn r (length (now (args .result)))) (sym e), c .before .before .put-none .ensures .1 ∙ x .1 ∙ ap (λ r. listedOver r (now (args .result))) (sym e))
+    (c .before .before .put-none .ensures .0 ∙ ap (λ r. listedIn r (length (now (args .result)))) (sym e), c .before .before .put-none .ensures .1 ∙ ap (λ r. listedOver r (now (args .result))) (sym e))
 
 single-shortest-path-requires : tie.Need-single-shortest-path-requires
 single-shortest-path-requires c κs =

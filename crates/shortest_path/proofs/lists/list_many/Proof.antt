@@ -11,12 +11,10 @@ use Rattle.reversed_machine.specs.Laid.{Reversal}
 use Rattle.reversed_machine.proofs.Reversals.{reversal}
 use Rattle.shortest_path.proofs.Joining.{few-finals, few-links, few-nodes, product, slots-are, begins, going, none-there, listed-done, answers, leaves}
 use Rattle.search.specs.ListMachine.{empty}
-use Rattle.slots.specs.ListAnswer.{endWord, listedIn, listedOver}
+use Rattle.list_answer.specs.ListAnswer.{endWord, listedIn, listedOver}
 use Rattle.n_shortest.specs.declared.n_best.Places.{Places}
 use Rattle.n_shortest.specs.SearchWords.{Words, afterW, begunW, stoppedW, Ready, Begins}
-use Rattle.list_machine.specs.ListingWords.{keptCount, listAnswer, listAfter, Listable}
-use Rattle.single_path.specs.SingleWords.{noWords}
-use Rattle.single_path.proofs.WayBytes.{listed-as, none-bytes}
+use Rattle.list_machine.specs.TrimWords.{keptCount, listAnswer, listAfter, Listable}
 use borrow.Author.Needs.{needs}
 use Rattle.shortest_path.proofs.lists.list_many.Statement.{statement}
 use Rattle.shortest_path.proofs.lists.list_many.Tie as tie
@@ -96,15 +94,13 @@ same-length-2 : tie.Need-same-length-2
 same-length-2 c = search needs
 
 returns : tie.Need-returns
-unfolding bytesOfAll bytesOf
 returns c =
     let root = c .before .before .before .before .before .before .before .before .before .before .before .before .before .before .before .before .before .before in
     let args = root .args in
     let old = c .before .before .before .before .before .before .before .before .before .before .before .before .measure .last .1 .1 .0 in
     let part = c .before .before .before .before .before .before .before .before .reverse .last .1 .1 .1 .0 in
     let e = none-there (now (args .sheet)) (λ i. omega (arith, c .before .before .before .before .before .before .before .before .before .before .before .before .before .before .before .before .before .shared-slice-known .given i)) (root .pre .0 .0) (args .t) (root .pre .0 .1) (args .finals) (root .pre .0 .2) (args .n) (root .pre .1 .0) (root .pre .1 .1) old part (omega (arith, root .pre .1 .2, c .before .before .before .before .before .before .before .before .before .before .before .before .measure .kept .1 .1 .0)) (turned (c .before .before .before .before .before .before .before .before)) (c .before .before .before .before .if1 .taken) in
-    let x = listed-as empty noWords 0 0 none-bytes refl refl refl (now (args .result)) in
-    (c .before .before .put-none .ensures .0 ∙ x .0 ∙ ap (λ r. listedIn r (length (now (args .result)))) (sym e), c .before .before .put-none .ensures .1 ∙ x .1 ∙ ap (λ r. listedOver r (now (args .result))) (sym e))
+    (c .before .before .put-none .ensures .0 ∙ ap (λ r. listedIn r (length (now (args .result)))) (sym e), c .before .before .put-none .ensures .1 ∙ ap (λ r. listedOver r (now (args .result))) (sym e))
 
 end-of-requires : tie.Need-end-of-requires
 end-of-requires c κs = search needs

@@ -4,7 +4,7 @@ use lib.Dec.{eqb}
 use lib.Ieee.{binary32, toBits}
 use denote.Ref.{now}
 use borrow.Author.Tests.{eq-eqb, ne-eqb}
-use Rattle.shortest_distance.specs.Slots.{distanceWord}
+use Rattle.shortest_distance.specs.NodeSlots.{distanceWord}
 use Rattle.single_path.proofs.ParentTurns.{link-left, link-taken}
 use borrow.Author.Needs.{needs}
 use Rattle.single_path.proofs.single.parent_link.Statement.{statement}

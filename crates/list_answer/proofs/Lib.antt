@@ -1,0 +1,2 @@
+pub mod NoneListed
+pub mod SlotsNeeded
