@@ -1,4 +1,4 @@
--- Mirrors the code, but for `cleared`: the work area while distances are made. A reader need not believe the rest: laws tie it to Distance of crate machine (proofs/Rows).
+-- Mirrors the code: the work area while distances are made. A reader need not believe it: laws tie it to Distance of crate machine (proofs/Rows).
 -- A slot of eight words a node. Word 0 holds the bits of its distance, word 1 the number of its first link. Definitions only.
 use Prim.Native.Nat.{ℕ, zero, suc, _+_, _*_}
 use mathlib.Core.Bool.{cond}
