@@ -1,7 +1,7 @@
 #!/usr/bin/env python3
 """Writes the cases that crates/replay_sheets replays: a line a case, the number that reading must answer (0: accepted), the bytes in
-hexadecimal, and what the case is. The numbers come from `read_number` of sheets.py, which follows the text of the requirements with exact
-fractions and shares nothing with the library.
+hexadecimal, the fields of the links that a link reader must give (-: none), and what the case is. The numbers come from `read_number` of
+sheets.py, which follows the text of the requirements with exact fractions and shares nothing with the library.
 
     python3 tools/sheet_cases.py > crates/replay_sheets/stdin
 """
@@ -30,6 +30,16 @@ def bad(b, i):
     if 'weight' in what: return 0x7fc00000
     if 'next' in what or what == 'start': return 77
     return w + 1 & NONE
+
+def given(b):
+    """the links that a reader gives: those that the trailer states, where they lie before it; a weight that is no number has one pattern"""
+    if len(b) < 20: return []
+    t = struct.unpack('<I', b[-8:-4])[0]
+    if 16 * t + 20 > len(b): return []
+    links = [struct.unpack_from('<4I', b, 16 * l) for l in range(t)]
+    return [(i, o, 0x7fc00000 if w & 0x7fffffff > 0x7f800000 else w, v) for i, o, w, v in links]
+
+def packed(links): return b''.join(struct.pack('<4I', *l) for l in links).hex() or '-'
 
 cases = []
 def case(what, b): cases.append((read_number(b), b, what))
@@ -64,7 +74,11 @@ for v in (1 << 28, 1 << 29, 1 << 31, (1 << 28) + 1): case(f'two nodes, link coun
 for v in (1 << 30, (1 << 30) + 2, 0x55555557): case(f'two nodes, node count {v:x}: 12 times it wraps', with_word(TWO, t - 1, v))
 case('two nodes, counts that sum past 2^32', with_word(with_word(TWO, 4, 1 << 31), 7, (1 << 31) + 1))
 case('two nodes, counts 0 and 1', with_word(with_word(TWO, 4, 0), 7, 1))
+STATED = sheet([(1, 2, f(3), 4)], [], NONE)
+case('a link and no nodes: refused, and a reader gives the link', STATED)
+case('one link stated, and a byte too few before the trailer', STATED[1:])
+case('two links stated, and room for one', with_word(STATED, len(STATED) // 4 - 2, 2))
 seen, out = set(), []
 for k, b, what in cases:
     if b not in seen: seen.add(b); out.append((k, b, what))
-for k, b, what in out: print(k, b.hex(), '#', what)
+for k, b, what in out: print(k, b.hex() or '-', packed(given(b)), '#', what)

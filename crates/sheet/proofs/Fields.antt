@@ -8,9 +8,13 @@ use native.Mathlib.Omega.{arith}
 use lib.Dec.{T, leb, ltb, eqb}
 use lib.ListN.{length, getD}
 use borrow.Author.Tests.{lt-leb, le-leb, eqb-true}
+use Rattle.sheet.specs.declared.tr.Trailer.{Trailer}
+use Rattle.sheet.specs.declared.tests.NodeTests.{NodeTests}
+use Rattle.sheet.specs.declared.tests.LinkTests.{LinkTests}
 use Rattle.sheet.specs.Below.{allBelow, sumBelow}
 use Rattle.sheet.specs.Words.{word, words}
 use Rattle.sheet.specs.Sheet.{Parts, linkCount, nodeCount, count, mark, finalBits, linkBits, next, wellMarked, startFits, onGridBits, nodesFit, nextsFit, weightsFit, verdict, partsOf, sizesFit, readNumber, statedLinks, statedNodes, trailerField, trailerLength}
+use Rattle.sheet.specs.Records.{trailerAt}
 use Rattle.sheet.specs.Tests.{nodeTests, linkTests, judged}
 use Rattle.sheet.proofs.Below.{allBelow-same, sumBelow-same}
 use Rattle.sheet.proofs.Apart.{both}
@@ -87,17 +91,25 @@ module _ (bytes : List ℕ) where
       cut-3 : (n : ℕ) → 3 * n / 3 ≡ n
       cut-3 n = omega arith
 
-  pub read-judged : sizesFit bytes ≡ true
-      → readNumber bytes
-      ≡ judged
-      (nodeTests (statedNodes bytes) (λ v. word bytes (16 * statedLinks bytes + 12 * v)) (λ v. word bytes (16 * statedLinks bytes + 12 * v + 4)) (λ v. word bytes (16 * statedLinks bytes + 12 * v + 8)))
-      (linkTests (statedLinks bytes) (statedNodes bytes) (λ l. word bytes (16 * l + 8)) (λ l. word bytes (16 * l + 12)))
-      (statedLinks bytes) (statedNodes bytes) (trailerField bytes 4)
+  -- the number, by what the passes over the bytes find, and by the trailer that was read
+  pub read-judged : sizesFit bytes ≡ true → (t : Trailer) → t ≡ trailerAt bytes → (n : NodeTests) (l : LinkTests) (k : ℕ)
+      → n ≡ nodeTests (t .nodes) (λ v. word bytes (16 * t .links + 12 * v)) (λ v. word bytes (16 * t .links + 12 * v + 4)) (λ v. word bytes (16 * t .links + 12 * v + 8))
+      → l ≡ linkTests (t .links) (t .nodes) (λ l. word bytes (16 * l + 8)) (λ l. word bytes (16 * l + 12))
+      → k ≡ judged n l (t .links) (t .nodes) (t .start)
+      → readNumber bytes ≡ k
   unfolding readNumber partsOf
-  read-judged s =
+  read-judged s t same n l k nodes links number =
       ap (λ (b : Bool). verdict b (partsOf bytes)) s
       ∙ verdict-judged (partsOf bytes) (statedLinks bytes) (statedNodes bytes) (λ v. word bytes (16 * statedLinks bytes + 12 * v)) (λ v. word bytes (16 * statedLinks bytes + 12 * v + 4))
       (λ v. word bytes (16 * statedLinks bytes + 12 * v + 8)) (λ l. word bytes (16 * l + 8)) (λ l. word bytes (16 * l + 12)) read-fields
+      ∙ sym (number ∙ (λ i. judged (nodes i) (links i) (t .links) (t .nodes) (t .start)) ∙ (λ i. found (same i)))
+    where
+      found : Trailer → ℕ
+      found t =
+          judged
+          (nodeTests (t .nodes) (λ v. word bytes (16 * t .links + 12 * v)) (λ v. word bytes (16 * t .links + 12 * v + 4)) (λ v. word bytes (16 * t .links + 12 * v + 8)))
+          (linkTests (t .links) (t .nodes) (λ l. word bytes (16 * l + 8)) (λ l. word bytes (16 * l + 12)))
+          (t .links) (t .nodes) (t .start)
 
   pub read-unfit : sizesFit bytes ≡ false → readNumber bytes ≡ 1
   unfolding readNumber verdict

@@ -9,16 +9,17 @@ use native.Mathlib.Numerals.{add-one}
 use native.Mathlib.Omega.{arith}
 use lib.Dec.{T, leb, ltb, eqb, eqb→eq}
 use lib.ListN.{length, take, drop, getD, length-append}
-use lib.Seq.{drop-cons, drop-drop, take-add, drop-at, take-length, getD-drop}
+use lib.Seq.{sets, sets-eq, take-at, drop-cons, drop-drop, take-add, drop-at, take-length, getD-drop}
 use lib.Ieee.Fits.{and-l, and-r}
-use borrow.Author.Tests.{eq-eqb, le-leb, lt-ltb, le-ltb}
+use borrow.Author.Tests.{eq-eqb, eqb-true, le-leb, lt-ltb, le-ltb}
+use Rattle.sheet.specs.declared.write.Written.the-variants.{Length}
 use Rattle.sheet.specs.Words.{word, words, bytesOf, bytesOfAll}
 use Rattle.sheet.specs.Sheet.{Parts, linkCount, nodeCount, recordsFit, verdict, sheetOf, sheetLength, trailerOf, trailerLength, trailerField, statedLinks, statedNodes, partsOf, sizesFit, readNumber, writeNumber}
-use Rattle.sheet.specs.Answers.{writtenOver}
-use Rattle.sheet.specs.Machine.{machineOf}
+use Rattle.sheet.specs.Answers.{written, writtenOver, ReadBack}
+use Rattle.sheet.specs.Machine.{machineOf, machine}
 use Rattle.sheet.proofs.Bytes.{bytesOfAll-append, length-bytesOfAll}
 use Rattle.sheet.proofs.Fields.{length-words, getD-words, read-unfit, read-fields, length-read}
-use Rattle.sheet.proofs.Writing.{records, length-sheet}
+use Rattle.sheet.proofs.Writing.{records, length-sheet, stored}
 
 -- each element is below a bound: a byte below 256, a word below 2 ^ 32
 abbrev pub Below : ℕ → List ℕ → Type 0
@@ -167,6 +168,27 @@ module _ (p : Parts) (e : recordsFit p ≡ true) (links-below : Below 4294967296
   pub number-back : readNumber (sheetOf p) ≡ verdict (recordsFit p) p
   unfolding readNumber
   number-back = (λ i. verdict (sizes-back i) (parts-back i)) ∙ ap (λ (b : Bool). verdict b p) (sym e)
+
+  -- so that what writing leaves in an area is read back as the same machine
+  pub stored-back : (old new : List ℕ) → sheetLength p ≤ length old → writeNumber p (length old) ≡ 0 → new ≡ sets old 0 (sheetOf p)
+      → (Length (sheetLength p) ≡ written p (length old)) × ((new ≡ writtenOver p old) × ((size : ℕ) → Length (sheetLength p) ≡ Length size → ReadBack p size new))
+  unfolding writeNumber
+  stored-back old new room zero-number left =
+      let answer = stored p old (length-sheet p e) room zero-number in (
+        answer .0,
+        (left ∙ answer .1, λ size h. record { accepted = ap readNumber (front size h) ∙ number-back ∙ passed; same = ap machine (front size h) ∙ machine-back }),
+      )
+    where
+      front : (size : ℕ) → Length (sheetLength p) ≡ Length size → take size new ≡ sheetOf p
+      front size h =
+          ap (take size) (left ∙ sets-eq (sheetOf p) old 0 (omega (arith, length-sheet p e))) ∙ take-at (sheetOf p) (drop (0 + length (sheetOf p)) old) size (cc (length-sheet p e))
+
+      passed : verdict (recordsFit p) p ≡ 0
+      passed = go (eqb (verdict (recordsFit p) p) 0) refl zero-number
+        where
+          go : (b : Bool) → eqb (verdict (recordsFit p) p) 0 ≡ b → cond (not b) (verdict (recordsFit p) p) (cond (ltb (length old) (sheetLength p)) 21 0) ≡ 0 → verdict (recordsFit p) p ≡ 0
+          go true q z = eqb-true (verdict (recordsFit p) p) 0 q
+          go false q z = z
 
 -- ---- an accepted sheet, read and written again, gives its own bytes
 pub word-lt : (bytes : List ℕ) (at : ℕ) → Below 256 bytes → word bytes at < 4294967296

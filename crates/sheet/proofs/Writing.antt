@@ -11,10 +11,12 @@ use lib.Seq.{sets, sets-eq}
 use lib.Ieee.Fits.{and-l, and-r}
 use borrow.Author.Tests.{ne-eqb}
 use Rattle.sheet.specs.declared.write.Written.the-variants.{Length, Refused}
+use Rattle.sheet.specs.declared.tests.NodeTests.{NodeTests}
+use Rattle.sheet.specs.declared.tests.LinkTests.{LinkTests}
 use Rattle.sheet.specs.Words.{bytesOfAll}
 use Rattle.sheet.specs.Sheet.{Parts, linkCount, nodeCount, count, mark, finalBits, linkBits, next, recordsFit, verdict, writeNumber, sheetOf, sheetLength, trailerOf}
 use Rattle.sheet.specs.Tests.{nodeTests, linkTests, judged}
-use Rattle.sheet.specs.Answers.{written, writtenBy, writtenOver}
+use Rattle.sheet.specs.Answers.{written, writtenBy, writtenOver, ReadBack}
 use Rattle.sheet.proofs.Apart.{not-zero}
 use Rattle.sheet.proofs.Bytes.{sets-append, bytesOfAll-append, length-bytesOfAll}
 use Rattle.sheet.proofs.Fields.{Fields, verdict-judged}
@@ -61,18 +63,23 @@ module _ (p : Parts) where
   unfolding writeNumber verdict
   write-unfit room e = ap (λ (b : Bool). cond (not (eqb (verdict b p) 0)) (verdict b p) (cond (ltb room (sheetLength p)) 21 0)) e
 
-  pub write-judged : (room : ℕ) → recordsFit p ≡ true → (k : ℕ) → k ≡ judged (nodeTests (nodeCount p) (count p) (mark p) (finalBits p)) (linkTests (linkCount p) (nodeCount p) (linkBits p) (next p)) (linkCount p) (nodeCount p) (p .start)
+  -- by what the passes over the words find
+  pub write-judged : (room : ℕ) → recordsFit p ≡ true → (n : NodeTests) (l : LinkTests) (k : ℕ)
+      → n ≡ nodeTests (nodeCount p) (count p) (mark p) (finalBits p)
+      → l ≡ linkTests (linkCount p) (nodeCount p) (linkBits p) (next p)
+      → k ≡ judged n l (linkCount p) (nodeCount p) (p .start)
       → writeNumber p room ≡ cond (not (eqb k 0)) k (cond (ltb room (sheetLength p)) 21 0)
   unfolding writeNumber
-  write-judged room e k h =
+  write-judged room e n l k nodes links number =
       ap (λ (b : Bool). cond (not (eqb (verdict b p) 0)) (verdict b p) (cond (ltb room (sheetLength p)) 21 0)) e
-      ∙ ap (λ (x : ℕ). cond (not (eqb x 0)) x (cond (ltb room (sheetLength p)) 21 0)) (verdict-judged p (linkCount p) (nodeCount p) (count p) (mark p) (finalBits p) (linkBits p) (next p) own-fields ∙ sym h)
+      ∙ ap (λ (x : ℕ). cond (not (eqb x 0)) x (cond (ltb room (sheetLength p)) 21 0)) (verdict-judged p (linkCount p) (nodeCount p) (count p) (mark p) (finalBits p) (linkBits p) (next p) own-fields ∙ sym (number ∙ λ i. judged (nodes i) (links i) (linkCount p) (nodeCount p) (p .start)))
 
   -- ---- the answer, by the number
-  pub refused : (old : List ℕ) (k : ℕ) → (k ≡ 0 → ⊥) → writeNumber p (length old) ≡ k → (Refused k ≡ written p (length old)) × (old ≡ writtenOver p old)
+  pub refused : (old : List ℕ) (k : ℕ) → (k ≡ 0 → ⊥) → writeNumber p (length old) ≡ k
+      → (Refused k ≡ written p (length old)) × ((old ≡ writtenOver p old) × ((size : ℕ) → Refused k ≡ Length size → ReadBack p size old))
   refused old k n e = (
     sym (ap (λ (x : ℕ). writtenBy (eqb x 0) p x) e ∙ ap (λ (b : Bool). writtenBy b p k) (ne-eqb k 0 n)),
-    sym (not-zero (writeNumber p (length old)) _ old (λ z. n (sym e ∙ z))),
+    (sym (not-zero (writeNumber p (length old)) _ old (λ z. n (sym e ∙ z))), λ size z. let no : _≡_ {A = ℕ} 0 1 = cc in absurd (omega arith)),
   )
 
   pub stored : (old : List ℕ) → length (sheetOf p) ≡ sheetLength p → sheetLength p ≤ length old → writeNumber p (length old) ≡ 0

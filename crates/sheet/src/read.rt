@@ -19,8 +19,8 @@ pub enum Tested {
 }
 
 // Offsets and length as laid out.
-fn sizes_fit(t: Trailer, length: usize) -> bool
-    ensures { λ r. ⌜ r ≡ eqb (t .«link_offset») 0 && eqb (t .«node_offset») (16 * t .links) && eqb length (16 * t .links + 12 * t .nodes + 20) ⌝ }
+fn sizes_fit(t: Trailer, bytes: usize) -> bool
+    ensures { λ r. ⌜ r ≡ eqb (t .«link_offset») 0 && eqb (t .«node_offset») (16 * t .links) && eqb bytes (16 * t .links + 12 * t .nodes + 20) ⌝ }
 {
     let links = t.links as usize;
     let nodes = t.nodes as usize;
@@ -30,7 +30,7 @@ fn sizes_fit(t: Trailer, length: usize) -> bool
     if (t.node_offset as usize) != 16 * links {
         return false;
     }
-    length == 16 * links + 12 * nodes + TRAILER
+    bytes == 16 * links + 12 * nodes + TRAILER
 }
 
 // Tests a byte string as a sheet.

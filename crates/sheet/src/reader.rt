@@ -77,17 +77,3 @@ pub fn after<'a>(r: Reader<'a>) -> Reader<'a>
         next: place_after(r.sheet, r.next),
     }
 }
-
-// The first link of a sheet, or none. Whoever calls this needs no reader.
-pub fn first(sheet: &[u8]) -> Step
-    ensures { λ r. ⌜ r ≡ nextLink (now (sheet .entry)) 0 ⌝ }
-{
-    next(new(sheet))
-}
-
-// The second link of a sheet, or none.
-pub fn second(sheet: &[u8]) -> Step
-    ensures { λ r. ⌜ r ≡ nextLink (now (sheet .entry)) (placeAfter (now (sheet .entry)) 0) ⌝ }
-{
-    next(after(new(sheet)))
-}

@@ -2,7 +2,7 @@
 ghost use mathlib.Core.Path.{_≡_};
 ghost use Prim.Native.Nat.{_+_, _*_, _≤_};
 ghost use lib.ListN.{length};
-ghost use Rattle.sheet.specs.Records.{linkAt, nodeAt, firstLink, trailerAt};
+ghost use Rattle.sheet.specs.Records.{linkAt, nodeAt, trailerAt};
 use crate::words::word;
 
 // A link: two labels, a weight and the node it leads to.
@@ -57,20 +57,6 @@ pub fn node_at(sheet: &[u8], links: usize, v: usize) -> Node
         mark: word(sheet, at + 4),
         weight: tropical_weight::from_bits(word(sheet, at + 8)),
     }
-}
-
-// The number of the first link of node v: how many links the nodes before it have.
-pub fn first_link(sheet: &[u8], links: usize, v: u32) -> u64
-    requires { ⌜ 16 * links + 12 * v ≤ length (now sheet) ⌝ }
-    ensures { λ r. ⌜ r ≡ firstLink (now (sheet .entry)) links v ⌝ }
-{
-    let mut sum = 0u64;
-    let mut u = 0u32;
-    while u < v {
-        sum += word(sheet, 16 * links + 12 * (u as usize)) as u64;
-        u += 1;
-    }
-    sum
 }
 
 // The trailer of a sheet.

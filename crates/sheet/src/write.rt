@@ -1,12 +1,13 @@
 // Writing a sheet from lists of links and nodes in its own fields.
 ghost use mathlib.Core.Path.{_≡_};
 ghost use mathlib.Core.Bool.{_&&_};
-ghost use Prim.Native.Nat.{_+_, _*_, _/_, _%_, _^_, _≤_, _<_};
+ghost use Prim.Native.Nat.{ℕ, _+_, _*_, _/_, _%_, _^_, _≤_, _<_};
 ghost use lib.Dec.{eqb, ltb};
 ghost use lib.ListN.{length};
 ghost use lib.Seq.{sets};
 ghost use Rattle.sheet.specs.Sheet.{sheetOf};
-ghost use Rattle.sheet.specs.Answers.{parts, written, writtenOver};
+ghost use Rattle.sheet.specs.declared.write.Written.the-variants.{Length};
+ghost use Rattle.sheet.specs.Answers.{parts, written, writtenOver, ReadBack};
 use crate::refusal;
 use crate::tests::judge;
 use crate::tests::test_link_words;
@@ -54,6 +55,7 @@ fn put_sheet(result: &mut [u8], links: &[u32], nodes: &[u32], start: u32)
 pub fn write(links: &[u32], nodes: &[u32], start: u32, result: &mut [u8]) -> Written
     ensures { λ r. ⌜ r ≡ written (parts (now (links .entry)) (now (nodes .entry)) start) (length (now (result .entry))) ⌝ }
     ensures { λ _. ⌜ now (result .exit) ≡ writtenOver (parts (now (links .entry)) (now (nodes .entry)) start) (now (result .entry)) ⌝ }
+    ensures { λ r. ⌜ ((size : ℕ) → r ≡ Length size → ReadBack (parts (now (links .entry)) (now (nodes .entry)) start) size (now (result .exit))) ⌝ }
 {
     if !records_fit(links.len(), nodes.len()) {
         return Written::Refused(refusal::LAYOUT);
@@ -70,10 +72,10 @@ pub fn write(links: &[u32], nodes: &[u32], start: u32, result: &mut [u8]) -> Wri
     if number != 0 {
         return Written::Refused(number);
     }
-    let length = 16 * (t as usize) + 12 * (n as usize) + TRAILER;
-    if result.len() < length {
+    let size = 16 * (t as usize) + 12 * (n as usize) + TRAILER;
+    if result.len() < size {
         return Written::Refused(refusal::RESULT);
     }
     put_sheet(result, links, nodes, start);
-    Written::Length(length)
+    Written::Length(size)
 }

@@ -5,6 +5,7 @@ use Prim.Native.Nat.{ℕ}
 use native.Mathlib.Omega.{arith}
 use lib.Dec.{eqb}
 use borrow.Author.Tests.{ne-eqb, eqb-true, eqb-false}
+use Rattle.sheet.specs.declared.write.Written.the-variants as Written
 use Rattle.sheet.specs.Sheet.{Parts}
 use Rattle.sheet.specs.Answers.{writtenBy}
 use Rattle.shortest_distance.specs.Outcome.{distancesBy}
@@ -28,6 +29,14 @@ module _ (k : ℕ) where
       go : (b : Bool) → eqb k 0 ≡ b → writtenTold (writtenBy b p k) length .0 ≡ k
       go true q = sym (eqb-true k 0 q)
       go false q = refl
+
+  -- no refusal to write has the number 0
+  pub written-refused : (p : Parts) (j : ℕ) → Written.Refused j ≡ writtenBy (eqb k 0) p k → j ≡ 0 → ⊥
+  written-refused p j h z = go (eqb k 0) refl h
+    where
+      go : (b : Bool) → eqb k 0 ≡ b → Written.Refused j ≡ writtenBy b p k → ⊥
+      go true q h = let z : _≡_ {A = ℕ} 0 1 = cc in omega arith
+      go false q h = let same : j ≡ k = cc in eqb-false k 0 q (sym same ∙ z)
 
   pub distances-number : (count values : ℕ) → distancesTold (distancesBy (eqb k 0) count k) values .0 ≡ k
   distances-number count values = go (eqb k 0) refl

@@ -8,7 +8,7 @@ ghost use lib.Dec.{eqb};
 ghost use lib.ListN.{length};
 ghost use Rattle.tropical_weight.specs.Limits.{nodeLimit, linkLimit, listLimit};
 ghost use Rattle.sheet.specs.Sheet.{readNumber, writeNumber};
-ghost use Rattle.sheet.specs.Answers.{parts, written, writtenOver};
+ghost use Rattle.sheet.specs.Answers.{parts, written, writtenOver, ReadBack};
 ghost use Rattle.sheet.specs.Machine.{machine as machineFor};
 ghost use Rattle.shortest_distance.specs.Outcome.{distanceNumber, distanceAnswer, workAfter as distanceWork, resultAfter as distanceResult};
 ghost use Rattle.shortest_path.specs.Outcome.{slotsNeeded, testedNumber, listNumber, listAnswer, workAfter, resultAfter};
@@ -42,8 +42,10 @@ pub extern "C" fn yeldmur_write_sheet(
     result: &mut [u8],
     size: &mut u64,
 ) -> u32
-    ensures { λ r. ⌜ (r ≡ writeNumber (parts (now (links .entry)) (now (nodes .entry)) start) (length (now (result .entry)))) × ((r, now (size .exit)) ≡ writtenTold (written (parts (now (links .entry)) (now (nodes .entry)) start) (length (now (result .entry)))) (now (size .entry))) ⌝ }
+    ensures { λ r. ⌜ r ≡ writeNumber (parts (now (links .entry)) (now (nodes .entry)) start) (length (now (result .entry))) ⌝ }
+    ensures { λ r. ⌜ (r, now (size .exit)) ≡ writtenTold (written (parts (now (links .entry)) (now (nodes .entry)) start) (length (now (result .entry)))) (now (size .entry)) ⌝ }
     ensures { λ _. ⌜ now (result .exit) ≡ writtenOver (parts (now (links .entry)) (now (nodes .entry)) start) (now (result .entry)) ⌝ }
+    ensures { λ r. ⌜ (r ≡ 0 → ReadBack (parts (now (links .entry)) (now (nodes .entry)) start) (now (size .exit)) (now (result .exit))) ⌝ }
 {
     match sheet::write::write(links, nodes, start, result) {
         Written::Length(bytes) => {

@@ -1,9 +1,10 @@
+use mathlib.Core.Path.{sym, _∙_}
 use lib.ListN.{length}
 use denote.Ref.{now}
 use Rattle.sheet.specs.Sheet.{writeNumber}
 use Rattle.sheet.specs.Answers.{parts}
 use Rattle.yeldmur.specs.Told.{writtenTold}
-use Rattle.yeldmur.proofs.Telling.{told, written-number}
+use Rattle.yeldmur.proofs.Telling.{told, written-number, written-refused}
 use borrow.Author.Needs.{needs}
 use Rattle.yeldmur.proofs.yeldmur_write_sheet.Statement.{statement}
 use Rattle.yeldmur.proofs.yeldmur_write_sheet.Tie as tie
@@ -25,7 +26,9 @@ returns c =
     let a = c .before .before .before .before .before .before .before .before .before .before .args in
     let p = parts (now (a .links)) (now (a .nodes)) (a .start) in
     let k = writeNumber p (length (now (a .result))) in
-    (told (λ w. writtenTold w (now (a .size))) (λ x. x .0) k (c .before .bytes .given .1) (c .before .before .before .before .before .write .ensures .0) (written-number k p (now (a .size))), c .before .before .before .before .before .write .ensures .1)
+    let w = c .before .before .before .before .before .write .ensures in
+    let t = told (λ w. writtenTold w (now (a .size))) (λ x. x .0) k (c .before .bytes .given .1) (w .0) (written-number k p (now (a .size))) in
+    (t .0, (t .1, (w .1 .0, λ e. w .1 .1 (c .before .bytes .given .0 .0) (c .before .bytes .given .1))))
 
 same-length-2 : tie.Need-same-length-2
 same-length-2 c = search needs
@@ -35,7 +38,9 @@ returns-2 c =
     let a = c .before .before .before .before .before .before .before .before .before .before .args in
     let p = parts (now (a .links)) (now (a .nodes)) (a .start) in
     let k = writeNumber p (length (now (a .result))) in
-    (told (λ w. writtenTold w (now (a .size))) (λ x. x .0) k (c .before .k .given .1) (c .before .before .before .before .before .write .ensures .0) (written-number k p (now (a .size))), c .before .before .before .before .before .write .ensures .1)
+    let w = c .before .before .before .before .before .write .ensures in
+    let t = told (λ w. writtenTold w (now (a .size))) (λ x. x .0) k (c .before .k .given .1) (w .0) (written-number k p (now (a .size))) in
+    (t .0, (t .1, (w .1 .0, λ e. absurd (written-refused k p (c .before .k .given .0 .0) (sym (c .before .k .given .1) ∙ w .0) e))))
 
 pub yeldmur-write-sheet-spec : {M : Type 1} → statement M
 yeldmur-write-sheet-spec =

@@ -8,9 +8,7 @@ use lib.Ieee.Fits.{and-r}
 use denote.Ref.{now}
 use borrow.Author.Tests.{not-true, not-false, eq-eqb, ne-eqb}
 use Rattle.sheet.specs.declared.read.Tested.the-variants.{Accepted}
-use Rattle.sheet.specs.Words.{word}
 use Rattle.sheet.specs.Sheet.{sizesFit, readNumber}
-use Rattle.sheet.specs.Tests.{nodeTests, linkTests, judged}
 use Rattle.sheet.specs.Answers.{testedBy}
 use Rattle.sheet.proofs.Fields.{read-judged, read-unfit, sizes-short, sizes-long}
 use borrow.Author.Needs.{needs}
@@ -38,14 +36,9 @@ room c =
 number : (c : tie.After-judge) → readNumber (now (c .before .before .before .before .before .before .before .before .args .sheet)) ≡ c .judge .result
 number c =
     let bytes = now (c .before .before .before .before .before .before .before .before .args .sheet) in
-    let t = c .before .before .before .before .before .trailer-of .ensures in
-    let fits = sizes (c .before .before .before .before) ∙ not-false _ (c .before .before .before .if2 .left) in
-    read-judged bytes fits
-    ∙ sym (c .judge .ensures
-    ∙ (λ i. judged (c .before .before .test-nodes .ensures i) (c .before .test-links .ensures i) (c .before .before .before .before .before .trailer-of .result .links) (c .before .before .before .before .before .trailer-of .result .nodes) (c .before .before .before .before .before .trailer-of .result .start))
-    ∙ (λ i. judged
-    (nodeTests (t i .nodes) (λ v. word bytes (16 * t i .links + 12 * v)) (λ v. word bytes (16 * t i .links + 12 * v + 4)) (λ v. word bytes (16 * t i .links + 12 * v + 8)))
-    (linkTests (t i .links) (t i .nodes) (λ l. word bytes (16 * l + 8)) (λ l. word bytes (16 * l + 12))) (t i .links) (t i .nodes) (t i .start)))
+    let t = c .before .before .before .before .before .trailer-of in
+    read-judged bytes (sizes (c .before .before .before .before) ∙ not-false _ (c .before .before .before .if2 .left)) (t .result) (t .ensures) (c .before .before .test-nodes .result) (c .before .test-links .result) (c .judge .result)
+    (c .before .before .test-nodes .ensures) (c .before .test-links .ensures) (c .judge .ensures)
 
 returns : tie.Need-returns
 returns c =

@@ -40,7 +40,7 @@ add-result-2 c = search needs
 returns-3 : tie.Need-returns-3
 returns-3 c =
     let args = c .before .before .before .before .before .before .args in
-    sym (λ i. eq-eqb _ _ (c .before .before .if1 .left) i && eq-eqb _ _ (c .if2 .left) i && eqb (args .length) (16 * args .t .links + 12 * args .t .nodes + 20))
+    sym (λ i. eq-eqb _ _ (c .before .before .if1 .left) i && eq-eqb _ _ (c .if2 .left) i && eqb (args .bytes) (16 * args .t .links + 12 * args .t .nodes + 20))
 
 pub sizes-fit-spec : {M : Type 1} → statement M
 sizes-fit-spec =
