@@ -132,7 +132,7 @@ module _ (p : Parts) (t : Passes p) where
   unfolding weightsFit
   link-grid l h = allBelow-at (linkCount p) (λ l. onGridBits (linkBits p l)) (both (allBelow (linkCount p) (λ l. onGridBits (linkBits p l))) (allBelow (nodeCount p) (λ v. eqb (mark p v) 0 || onGridBits (finalBits p v))) (t .weights-fit) .0) l h
 
-  final-grid : (v : ℕ) → v < nodeCount p → eqb (mark p v) 0 || onGridBits (finalBits p v) ≡ true
+  pub final-grid : (v : ℕ) → v < nodeCount p → eqb (mark p v) 0 || onGridBits (finalBits p v) ≡ true
   unfolding weightsFit
   final-grid v h = allBelow-at (nodeCount p) (λ v. eqb (mark p v) 0 || onGridBits (finalBits p v)) (both (allBelow (linkCount p) (λ l. onGridBits (linkBits p l))) (allBelow (nodeCount p) (λ v. eqb (mark p v) 0 || onGridBits (finalBits p v))) (t .weights-fit) .1) v h
 

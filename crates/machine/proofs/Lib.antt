@@ -13,4 +13,5 @@ pub mod Fold
 pub mod Demand
 pub mod Accepted
 pub mod Testing
+pub mod SheetFields
 pub mod Bench
