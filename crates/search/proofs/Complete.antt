@@ -19,7 +19,7 @@ use Rattle.machine.proofs.Sort.{Ordered, ordered-keep, ordered-rises}
 use Rattle.machine.proofs.Readings.{readings-are, readings-once}
 use Rattle.machine.proofs.Demand.{sorted, demand-costs}
 use Rattle.search.specs.Reversed.{Reversed, reversed}
-use Rattle.search.specs.Search.{first, costOf, Search, stopped, after, begun, mostTaken, search, costs, runs, runOf}
+use Rattle.search.specs.Search.{first, costOf, Search, stopped, after, begun, mostTaken, allowed, search, costs, runs, runOf}
 use Rattle.search.proofs.Trails.{Trail, site, inputs, rankOf, Made, finished-rank}
 use Rattle.search.proofs.Backwards.{consistent, leads-in}
 use Rattle.search.proofs.Unreversed.{unmoved, trail-reads, reading-made, inputs-once}
@@ -84,9 +84,9 @@ module _ (m : Machine) (c : Climbs m) (n : ℕ) where
   abbrev s : Search
   s = search m n
 
-  run : Ran r n size (consistent m c) (omega arith) (leads-in m c) (mostTaken m n) (begun size) (search m n)
+  run : Ran r n size (consistent m c) (omega arith) (leads-in m c) (allowed m n) (begun size) (search m n)
   unfolding search
-  run = ran-begun (mostTaken m n)
+  run = ran-begun (allowed m n)
 
   pub holds : Holds r n size (search m n)
   holds = run .holds

@@ -2,7 +2,7 @@
 use mathlib.Core.Path.{_≡_, refl, sym, ap, ap₂, _∙_, subst}
 use mathlib.Core.Logic.{_⊎_, inl, inr, _↔_}
 use mathlib.Core.Bool.{Bool, true, false, _&&_, cond}
-use mathlib.Core.Option.{Option, none, some}
+use mathlib.Core.Option.{Option, none, some, Option·some-injective}
 use mathlib.Core.List.{List, [], _∷_, _++_, map, map-map, List·Memᴰ·tail}
 use Prim.Native.Nat.{ℕ, zero, suc, _+_, _-_, _≤_, _<_}
 use native.Mathlib.Omega.{arith}
@@ -19,7 +19,7 @@ use Rattle.machine.specs.Readings.{noLink, link, IsRun}
 use Rattle.machine.specs.Demand.{_∈_}
 use Rattle.machine.proofs.Lists.{here, map-append, getD-mem, mem-getD, getD-map}
 use Rattle.search.specs.Search.{Entry, half, finished, first, Search}
-use Rattle.search.specs.ListMachine.{moved, blank, isBehind, linkBy, Copy, startCopy, entryCopy, copies, finalsOf, untrimmed, newNumber, linksStay, finalsStay, staysIn, trimmed}
+use Rattle.search.specs.ListMachine.{moved, blank, isBehind, linkBy, Copy, startCopy, entryCopy, copies, finalsOf, untrimmed, OnStartToFinal, newNumber, linksStay, finalsStay, staysIn, trimmed}
 use Rattle.search.specs.States.{kept, stateOf, later, startLink, entryLink, listResult}
 use Rattle.search.proofs.Numbered.{Numbered}
 use Rattle.search.proofs.OnWays.{cameFrom, isOn, OnWay, linkBy-ends, way-of, of-way, behind, behind-self, way-listed, behind-first, way-first, way-from, kept-by}
@@ -136,25 +136,28 @@ module _ (m : Machine) (s : Search) (n : Numbered s) where
           (ih k (cameFrom s i) j (omega (arith, n .earlier i)) (subst (λ u. IsRun whole u r (suc j)) y (h .2)))
 
   -- ---- states on a way
-  -- q is on a run from the start to the final state
-  abbrev pub Passed : ℕ → Type 0
-  Passed q = (p : List ℕ) × (w : List ℕ) × IsRun (untrimmed m s) 0 p q × IsRun (untrimmed m s) q w 1
+  -- by a run from state 0, the start, and one to state 1, which is final
+  on-runs : (q : ℕ) (p w : List ℕ) → IsRun whole 0 p q → IsRun whole q w 1 → OnStartToFinal whole q
+  on-runs q p w h k = record { from = 0; starts = refl; come = p; comes = h; go = w; to = 1; goes = k; weight = one; marked = refl }
+
+  from-start : (q : ℕ) (x : OnStartToFinal whole q) → x .from ≡ 0
+  from-start q x = sym (Option·some-injective 0 (x .from) (x .starts))
 
   -- each entry's state leads to the first's
   home : (i : ℕ) → i < length (s .entries) → (w : List ℕ) × IsRun whole (suc i) w 1
   home i h = behind-run i i 0 h (behind-first s n i i (omega arith))
 
   -- a run from the start goes to a listed entry first
-  pub entry-passed : (i : ℕ) → i < length (s .entries) → OnWay s i ↔ Passed (suc i)
-  entry-passed i h = (there, λ x. back (x .0) (x .2))
+  entry-on : (i : ℕ) → i < length (s .entries) → OnWay s i ↔ OnStartToFinal whole (suc i)
+  entry-on i h = (there, λ x. back (x .come) (subst (λ u. IsRun whole u (x .come) (suc i)) (from-start (suc i) x) (x .comes)))
     where
-      there : OnWay s i → Passed (suc i)
+      there : OnWay s i → OnStartToFinal whole (suc i)
       there e =
           let x = way-of (s .entries) (s .listed) i e in
           let k = mem-getD 0 (x .1) in
           let r = behind-run (x .0) (x .0) i (n .inside (x .0) (x .1)) (x .2) in
           let w = home i h in
-          (k .0 ∷ r .0, w .0, run-cons (k .0) 0 (suc (x .0)) (suc i) (r .0) (subst (λ u. Leads (k .0) 0 (suc u)) (k .2) (start-leads (k .0) (k .1))) (r .1), w .1)
+          on-runs (suc i) (k .0 ∷ r .0) (w .0) (run-cons (k .0) 0 (suc (x .0)) (suc i) (r .0) (subst (λ u. Leads (k .0) 0 (suc u)) (k .2) (start-leads (k .0) (k .1))) (r .1)) (w .1)
 
       back : (p : List ℕ) → IsRun whole 0 p (suc i) → OnWay s i
       back [] r = absurd (omega (arith, r))
@@ -167,13 +170,16 @@ module _ (m : Machine) (s : Search) (n : Numbered s) where
           go (inr x) = absurd (omega (arith, x .leads .1, r .1))
 
   -- and so the start, where the list is not empty
-  start-passed : 0 < length (s .listed) → Passed 0
-  start-passed b = let i = getD (s .listed) 0 0 in let w = home i (n .inside i (getD-mem (s .listed) 0 0 b)) in ([], 0 ∷ w .0, refl, run-cons 0 0 (suc i) 1 (w .0) (start-leads 0 b) (w .1))
+  start-on : 0 < length (s .listed) → OnStartToFinal whole 0
+  start-on b =
+      let i = getD (s .listed) 0 0 in
+      let w = home i (n .inside i (getD-mem (s .listed) 0 0 b)) in
+      on-runs 0 [] (0 ∷ w .0) refl (run-cons 0 0 (suc i) 1 (w .0) (start-leads 0 b) (w .1))
 
   -- the states that stay are those on a way
-  pub stays-is : 0 < length (s .listed) → (q : ℕ) → q < length (untrimmed m s .finals) → (staysIn s q ≡ true) ↔ Passed q
-  stays-is b zero h = (λ e. start-passed b, λ x. refl)
-  stays-is b (suc i) h = entry-passed i (omega (arith, n .some-in, length-replicate {A = Option Tropical} (length (s .entries) - 1) none))
+  pub stays-is : 0 < length (s .listed) → (q : ℕ) → q < length (untrimmed m s .finals) → (staysIn s q ≡ true) ↔ OnStartToFinal (untrimmed m s) q
+  stays-is b zero h = (λ e. start-on b, λ x. refl)
+  stays-is b (suc i) h = entry-on i (omega (arith, n .some-in, length-replicate {A = Option Tropical} (length (s .entries) - 1) none))
 
 -- ---- the new numbers are the states of entries
 module _ (s : Search) where

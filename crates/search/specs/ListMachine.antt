@@ -1,4 +1,5 @@
 -- The machines that lists are answered by: the list machine, trimmed, and the parents' one way; and the bytes of the result. Definitions only.
+use mathlib.Core.Path.{_≡_}
 use mathlib.Core.Bool.{Bool, true, false, _&&_, _||_, cond}
 use mathlib.Core.Option.{Option, none, some}
 use mathlib.Core.List.{List, [], _∷_, _++_, map, reverse}
@@ -10,7 +11,7 @@ use Rattle.sheet.specs.Below.{sumBelow, listBelow}
 use Rattle.sheet.specs.Words.{bytesOfAll}
 use Rattle.sheet.specs.Sheet.{noStart, sheetOf}
 use Rattle.sheet.specs.Machine.{Link, Machine, partsFor}
-use Rattle.machine.specs.Readings.{Reading, link, final, finalWeight}
+use Rattle.machine.specs.Readings.{Reading, IsRun, link, final, finalWeight}
 use Rattle.machine.specs.Parents.{best}
 use Rattle.search.specs.Search.{Entry, half, finished, Put, first, Search, search}
 
@@ -76,9 +77,22 @@ finalsOf s = none ∷ some one ∷ replicate (length (s .entries) - 1) none
 abbrev pub untrimmed : Machine → Search → Machine
 untrimmed m s = record { links = map (λ (k : Copy). k .link) (copies m s); finals = finalsOf s; start = some 0 }
 
--- ---- the states that stay
+-- ---- trimming
+-- State q of a machine is on a way from the start to a final state: a run of links leads from the one to it, and another from it to the other.
+pub record OnStartToFinal (m : Machine) (q : ℕ) : Type 0 where
+  pub from : ℕ
+  pub starts : m .start ≡ some from
+  pub come : List ℕ
+  pub comes : IsRun m from come q
+  pub go : List ℕ
+  pub to : ℕ
+  pub goes : IsRun m q go to
+  pub weight : Tropical
+  pub marked : final m to ≡ some weight
+
+-- of the states, by number, those that stay
 module _ (stays : ℕ → Bool) where
-  -- as many as stay below q
+  -- the new number of state q, in rising old number: as many as stay below it
   abbrev pub newNumber : ℕ → ℕ
   newNumber q = sumBelow q (λ i. cond (stays i) 1 0)
 
@@ -106,7 +120,7 @@ unfolding isBehind
 onWay es [] j = false
 onWay es (i ∷ is) j = isBehind es i i j || onWay es is j
 
--- the start, and the states on a way from it to the final state
+-- the start, and the states on a way from it to the final state: those that are `OnStartToFinal` in the machine before trimming, as is proved
 abbrev pub staysIn : Search → ℕ → Bool
 staysIn s zero = true
 staysIn s (suc i) = onWay (s .entries) (s .listed) i

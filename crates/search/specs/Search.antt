@@ -104,10 +104,14 @@ begun nodes = record { entries = first ∷ []; heap = 0 ∷ []; visits = replica
 abbrev pub mostTaken : Machine → ℕ → ℕ
 mostTaken m n = 1 + marked (m .finals) + n * (length (m .links) + 1)
 
--- the search for n; it stops by itself within so many removals
+-- The removals that a search is given. The search of document 01 has no such number: that these are enough, so that it stops by itself, is promised.
+abbrev pub allowed : Machine → ℕ → ℕ
+allowed m n = mostTaken m n
+
+-- the search for n
 unfoldable pub search : Machine → ℕ → Search
 unfolding after
-search m n = after (reversed m) (mostTaken m n) n (begun (suc (length (m .finals))))
+search m n = after (reversed m) (allowed m n) n (begun (suc (length (m .finals))))
 
 -- the costs of what is listed, in order
 abbrev pub costs : Search → List Tropical

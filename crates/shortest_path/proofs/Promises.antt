@@ -17,6 +17,7 @@ use Rattle.machine.specs.Demand.{Demand}
 use Rattle.machine.proofs.Readings.{reading-is}
 use Rattle.machine.proofs.Parents.{best-is}
 use Rattle.search.specs.ListMachine.{resultFor, resultBy, resultBytes}
+use Rattle.search.proofs.Complete.{stops}
 use Rattle.search.proofs.Results.{empty-back}
 use Rattle.search.proofs.Lists.{Accepted, accepted, listIn, demand-result, result-one, result-many, result-taken}
 use Rattle.shortest_path.specs.Outcome.{resultOf, answerOf, listNumber, listBy, listAnswer, resultAfter}
@@ -77,6 +78,7 @@ module _ (m : Machine) (a : Accepted m) where
       demand = demand-each n b;
       parents = λ e. subst (λ (k : ℕ). map (readingOf m) (listIn k (resultFor m k) rest) ≡ ifAny (best m)) (sym e) one-parents;
       searched = λ p x i. result-many m a n p b x i rest;
+      stops = stops m (a .climbs) n;
       unread = none-taken n;
       unsearched = few-taken n;
       bound = result-taken m a n;

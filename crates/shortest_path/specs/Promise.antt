@@ -1,5 +1,6 @@
 -- Demand 3 of the open call for lists, about the list read from the result alone and the counts that the call answers. Definitions only.
 use mathlib.Core.Path.{_≡_}
+use mathlib.Core.Bool.{true}
 use mathlib.Core.Option.{Option, none, some}
 use mathlib.Core.List.{List, [], _∷_, map}
 use Prim.Native.Nat.{ℕ, _≤_, _<_}
@@ -7,7 +8,8 @@ use Rattle.sheet.specs.Machine.{Machine, machine}
 use Rattle.machine.specs.Readings.{Reading, IsReading, readingOf}
 use Rattle.machine.specs.Parents.{best}
 use Rattle.machine.specs.Demand.{Demand}
-use Rattle.search.specs.Search.{mostTaken, search, runs}
+use Rattle.search.specs.Reversed.{reversed}
+use Rattle.search.specs.Search.{stopped, mostTaken, search, runs}
 use Rattle.search.specs.Listed.{listOf}
 use Rattle.list_answer.specs.declared.Listed.{Listed}
 use Rattle.list_answer.specs.declared.Listed.the-variants as Listed
@@ -25,6 +27,8 @@ pub record Keeps (m : Machine) (n nodes links taken : ℕ) (result : List ℕ) :
   pub parents : n ≡ 1 → map (readingOf m) (listOf n nodes links result) ≡ ifAny (best m)
   -- from n = 2, where there is a reading, the list holds those that the search lists, in its order, and taken is the number that it removes
   pub searched : 2 ≤ n → (x : Reading) → IsReading m x → (listOf n nodes links result ≡ runs (search m n)) × (taken ≡ search m n .taken)
+  -- the search has stopped by itself: its n-th finished entry is taken, or its heap is empty
+  pub stops : stopped (reversed m) n (search m n) ≡ true
   -- taken is 0 without a reading, as it is for n below 2
   pub unread : ((x : Reading) → IsReading m x → ⊥) → taken ≡ 0
   pub unsearched : n < 2 → taken ≡ 0
