@@ -2,6 +2,7 @@ pub mod Integers
 pub mod Semiring
 pub mod Values
 pub mod Exact
+pub mod Numbers
 pub mod Sums
 pub mod Near
 pub mod Grid

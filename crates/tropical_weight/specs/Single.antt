@@ -1,12 +1,12 @@
 -- What the functions of this crate answer, at any values of single precision, and what that is on the grid. Definitions only.
-use Prim.Native.Nat.{ℕ, _*_, _^_, _≤_}
+use Prim.Native.Nat.{ℕ, _*_, _%_, _^_, _≤_}
 use mathlib.Core.Path.{_≡_}
 use mathlib.Core.Bool.{Bool, true, false, _&&_, cond}
 use mathlib.Core.List.{List, [], _∷_}
 use lib.Dec.{T, ltb, leb}
 use lib.IntN.{ℤ, pos, natAbs}
 use lib.Ieee as Ieee
-use lib.Ieee.{Float, binary32, up, down, add, mul, lt, le, ofInt, toSigned}
+use lib.Ieee.{Float, binary32, up, down, add, mul, lt, le, toBits, ofInt, toSigned}
 use Rattle.tropical_weight.specs.Limits.{finest, sumLimit}
 use Rattle.tropical_weight.specs.Tropical.{Tropical, eqT, Within}
 use Rattle.tropical_weight.specs.Grid.{ofK, ofT}
@@ -30,6 +30,14 @@ small j (Ieee.fin false m e) = ltb 0 m && leb (m * up e * 4 * 2 ^ j) (down e)
 -- x in units of 1 / 2 ^ j as an i32: cut toward zero, held to the range, and 0 for a NaN, as the Rust's `as` does
 unfoldable pub costOf : ℕ → Float → ℤ
 costOf j x = toSigned 31 (mul binary32 x (ofInt binary32 (pos (2 ^ j))))
+
+-- a pattern that is no NaN's: past its sign it is at most infinity's
+abbrev pub Number : ℕ → Type 0
+Number bits = bits % 2147483648 ≤ 2139095040
+
+-- the pattern of a value; of a NaN it is infinity's, so that it is always a number's
+unfoldable pub numberBits : Float → ℕ
+numberBits x = let bits = toBits binary32 x in cond (ltb 2139095040 (bits % 2147483648)) 2139095040 bits
 
 -- the sum along a list, from its front, onto a
 unfoldable pub addAll : Float → List Float → Float

@@ -10,7 +10,7 @@ ghost use Rattle.tropical_weight.specs.Limits.{unit, finest, weightLimit
 ghost use Rattle.tropical_weight.specs.Tropical as Tropical;
 ghost use Rattle.tropical_weight.specs.Tropical.{_⊕_, _⊗_, ltT};
 ghost use Rattle.tropical_weight.specs.Grid.{ofT, gridBits, gridShift, significand};
-ghost use Rattle.tropical_weight.specs.Single.{lesser, Computes, Decides, Approx, Costs};
+ghost use Rattle.tropical_weight.specs.Single.{lesser, Number, numberBits, Computes, Decides, Approx, Costs};
 
 // The unit is 1 / 2 ^ UNIT: weights are whole numbers of 64ths.
 pub const UNIT: u32 = 6;
@@ -135,6 +135,24 @@ pub fn to_bits(value: f32) -> u32
 {
     if value != value {
         return 0x7fc0_0000;
+    }
+    f32::to_bits(value)
+}
+
+// The value of a pattern that is no NaN's, without a test.
+pub fn from_number_bits(bits: u32) -> f32
+    requires { ⌜ Number bits ⌝ }
+    ensures { λ r. ⌜ r ≡ ofBits binary32 bits ⌝ }
+{
+    f32::from_bits(bits)
+}
+
+// The bit pattern of a value, to be read by `from_number_bits`: of a NaN it is infinity's.
+pub fn to_number_bits(value: f32) -> u32
+    ensures { λ r. ⌜ r ≡ numberBits value ⌝ }
+{
+    if value != value {
+        return 0x7f80_0000;
     }
     f32::to_bits(value)
 }

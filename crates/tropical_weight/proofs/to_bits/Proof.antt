@@ -1,22 +1,15 @@
-use mathlib.Core.Path.{_≡_, sym, ap, _∙_, subst}
-use mathlib.Core.Bool.{false, not}
+use mathlib.Core.Path.{sym, ap, subst}
 use lib.Dec.{T}
-use lib.Ieee.{Float, nan, inf, fin, binary32, isNan, ne, toBits}
-use lib.Ieee.Compare.{differs-from-itself, nan-differs}
+use lib.Ieee.{binary32, toBits}
+use lib.Ieee.Compare.{differs-from-itself}
 use borrow.Author.Needs.{needs}
+use Rattle.tropical_weight.proofs.Numbers.{no-nan}
 use Rattle.tropical_weight.proofs.to_bits.Statement.{statement}
 use Rattle.tropical_weight.proofs.to_bits.Tie as tie
 
 returns : tie.Need-returns
 unfolding toBits
 returns c = ap (toBits binary32) (sym (differs-from-itself (c .before .args .value) (subst T (sym (c .if1 .taken)) tt)))
-
--- what equals itself is no NaN
-no-nan : (x : Float) → ne x x ≡ false → T (not (isNan x))
-unfolding isNan
-no-nan nan e = absurd (subst T (sym nan-differs ∙ e) tt)
-no-nan (inf s) e = tt
-no-nan (fin s m e) p = tt
 
 float-to-bits-result : tie.Need-float-to-bits-result
 float-to-bits-result c = no-nan (c .before .args .value) (c .if1 .left)
