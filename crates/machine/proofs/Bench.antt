@@ -11,7 +11,6 @@ use Rattle.sheet.specs.Sheet.{partsOf}
 use Rattle.sheet.specs.Machine.{Link, Machine, machineOf}
 use Rattle.sheet.proofs.Bench.{sheetA}
 use Rattle.machine.specs.Readings.{Reading, link, readings, readingsBelow, readingCost, runCost}
-use Rattle.machine.specs.Climbs.{climbs, climbsFrom}
 use Rattle.machine.specs.Distance.{total, relax, reach, reached, distances}
 use Rattle.machine.specs.Parents.{best}
 use Rattle.machine.specs.Demand.{sort}
@@ -28,10 +27,6 @@ machineA = record { links = arc 0 1 64 1 ∷ arc 0 2 32 2 ∷ arc 1 3 16 3 ∷ a
 of-sheet : machineOf (partsOf sheetA) ≡ machineA
 unfolding sheetA partsOf machineOf
 of-sheet = refl
-
-climbs-A : climbs machineA ≡ true
-unfolding climbsFrom
-climbs-A = refl
 
 readings-A : map (λ (x : Reading). x .run) (readings machineA) ≡ (0 ∷ 2 ∷ []) ∷ (1 ∷ 4 ∷ []) ∷ (0 ∷ 3 ∷ 4 ∷ []) ∷ []
 unfolding readingsBelow

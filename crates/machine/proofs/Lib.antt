@@ -1,7 +1,6 @@
 pub mod Lists
 pub mod Sums
 pub mod Sort
-pub mod Climb
 pub mod Runs
 pub mod Readings
 pub mod Distance

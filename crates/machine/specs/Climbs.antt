@@ -1,15 +1,12 @@
 -- Serves the proofs: what the laws ask of a machine. A reader need not believe it: the machine of an accepted sheet is such a one (proofs/Accepted).
 -- That its links climb, and how large its weights are. Definitions only.
 use mathlib.Core.Path.{_≡_}
-use mathlib.Core.Bool.{Bool, true, _&&_}
 use mathlib.Core.Option.{some}
-use mathlib.Core.List.{List, [], _∷_}
 use Prim.Native.Nat.{ℕ, _≤_, _<_}
-use lib.Dec.{leb, ltb}
 use lib.IntN.{ℤ}
 use lib.ListN.{length}
 use Rattle.tropical_weight.specs.Tropical.{Tropical, fin, Within}
-use Rattle.sheet.specs.Machine.{Link, Machine}
+use Rattle.sheet.specs.Machine.{Machine}
 use Rattle.machine.specs.Readings.{link, final}
 
 -- Each link leads to a higher node below N, and sources never fall along the list.
@@ -17,15 +14,6 @@ pub record Climbs (m : Machine) : Type 0 where
   pub rises : (l : ℕ) → l < length (m .links) → link m l .source < link m l .next
   pub inside : (l : ℕ) → l < length (m .links) → link m l .next < length (m .finals)
   pub sorted : (k l : ℕ) → k ≤ l → l < length (m .links) → link m k .source ≤ link m l .source
-
--- the same of a list of links, as a test: n nodes, and s the lowest source that may come next
-unfoldable pub climbsFrom : ℕ → ℕ → List Link → Bool
-climbsFrom n s [] = true
-climbsFrom n s (k ∷ ks) = leb s (k .source) && (ltb (k .source) (k .next) && (ltb (k .next) n && climbsFrom n (k .source) ks))
-
--- the test of a machine
-abbrev pub climbs : Machine → Bool
-climbs m = climbsFrom (length (m .finals)) 0 (m .links)
 
 -- no weight is infinite
 pub record Finite (m : Machine) : Type 0 where

@@ -29,7 +29,9 @@ pub fn none() -> Tally
 // Counts the case of a line, and prints the line's number where it does not hold.
 pub fn counted(t: Tally, holds: bool) -> Tally
     requires { ⌜ (t .differ ≤ t .cases) × (t .cases + 1 < 2 ^ 64) ⌝ }
-    ensures { λ r. ⌜ (r .cases ≡ t .cases + 1) × (r .differ ≤ r .cases) × (r .differ ≡ cond holds (t .differ) (t .differ + 1)) ⌝ }
+    ensures { λ r. ⌜ r .cases ≡ t .cases + 1 ⌝ }
+    ensures { λ r. ⌜ r .differ ≡ cond holds (t .differ) (t .differ + 1) ⌝ }
+    ensures { λ r. ⌜ r .differ ≤ r .cases ⌝ }
 {
     let cases = t.cases + 1;
     if holds {

@@ -1,6 +1,6 @@
 -- `replay_sheets::readers::moved` meets its contract: a walk of its MIR, by hand. A reader is made of the slice and the number, held in a local and passed to `after`; of the reader that comes back the number is read. All that the proof knows of `after` is that it meets its contract.
 -- Assumes nothing.
-use mathlib.Core.Path.{_≡_, refl, ap, _∙_}
+use mathlib.Core.Path.{_≡_, refl, ap}
 use Prim.Native.Nat.{ℕ, _<_, _^_}
 use mathlib.Core.List.{List, [], _∷_}
 use lib.ListN.{length}
@@ -29,7 +29,6 @@ use denote.Ref.{RefT, NamedLft, now}
 use denote.Signature.{plain, namedLft}
 use denote.Slice.{sliceVal, ShrSlice, slice-vals, shr-slice-tells, shr-slice-lawful, shr-slice-copy}
 use denote.Steps.{only, owned, peeks, heard, nothing}
-use denote.Enum.Laws as EL
 use denote.Struct.Laws as LL
 use denote.Struct.Rest.{own-shut}
 use denote.Triple.Statement.{Contract, Triple}
@@ -40,13 +39,10 @@ use denote.Triple.Table.{entered, cited}
 use denote.Triple.Walked.{says, Stays, stay-none, stay-none-slice, walkOf, goes-none, goes-none-slice, Walks, ends-at, walked, walk-meets}
 use denote.Exit.{yes}
 use denote.Triple.Clauses.{ensured, lasts}
-use Rattle.sheet.specs.Reading.{nextLink, placeAfter, readOn}
+use Rattle.sheet.specs.Reading.{placeAfter, readOn}
 use Rattle.sheet.specs.declared.reader.Reader.{Reader}
-use Rattle.sheet.specs.declared.reader.Step.{Step}
 use Rattle.sheet.proofs.reader.Reader as T
 use Rattle.sheet.proofs.reader.Reader.Laws as T′
-use Rattle.sheet.proofs.reader.Step as S
-use Rattle.sheet.proofs.reader.Step.Laws as S′
 use Rattle.sheet.proofs.reader.after as after
 use Rattle.sheet.proofs.reader.after.Symbol as after-def
 use Rattle.sheet.proofs.reader.after.Symbol.{name as #sheet·reader·after}

@@ -1,6 +1,6 @@
 -- `replay_sheets::readers::started` meets its contract: a walk of its MIR, by hand. The reader that `new` returns is held in a local, and its number is read. All that the proof knows of `new` is that it meets its contract.
 -- Assumes nothing.
-use mathlib.Core.Path.{_≡_, refl, ap, _∙_}
+use mathlib.Core.Path.{_≡_, refl, ap}
 use Prim.Native.Nat.{ℕ, _<_, _^_}
 use mathlib.Core.List.{List, [], _∷_}
 use lib.ListN.{length}
@@ -17,36 +17,30 @@ use ghost.Atoms.{Atoms, sem}
 use contract.Lifetimes.{Lfts}
 use contract.Monad.{Fun, fact}
 use contract.Running.{givenOf, tables, tablesOf}
-use types.Kit.{Given, ‵, raw, _⊛_, ⋆, some, later, _$_, _∵_, !, qed, by, move, drop, use1, use2, split, join, pick, fsplit, fjoin, suffices, frame, await, keep, rewrite, done}
-use types.Part.{whole, sub, look-in, agg}
+use types.Kit.{Given, ‵, raw, _⊛_, ⋆, some, later, _$_, _∵_, !, qed, by, move, use1, use2, split, join, pick, fsplit, fjoin, suffices, frame, await, keep, rewrite, done}
+use types.Part.{whole, sub, look-in}
 use types.Run.{look, init, forget, stop, fld, from, load, of-opd, and-then, no-more, assigns, land, returns, enter, alloc1, alloc0, params1, pass1, pass0, free1, free0}
 use sound.WpLaws.{FmC, fmOf, WpFn-mono}
 use denote.RattleType.{RattleType, owns}
 use denote.Laws.{Is, shows}
-use denote.Plain.{uint-vals, uint-tells, uint-makes}
+use denote.Plain.{uint-makes}
 use denote.Builtin.{u8, usize}
 use denote.Ref.{RefT, NamedLft, now}
 use denote.Signature.{plain, namedLft}
 use denote.Slice.{sliceVal, ShrSlice, slice-vals, shr-slice-tells, shr-slice-lawful, shr-slice-copy}
 use denote.Steps.{only, owned, peeks, heard, nothing}
-use denote.Enum.Laws as EL
 use denote.Struct.Laws as LL
-use denote.Struct.Rest.{own-shut}
 use denote.Triple.Statement.{Contract, Triple}
 use denote.Triple.Call.{calls-at}
-use denote.Triple.Entry.{Vals, onEntry}
+use denote.Triple.Entry.{onEntry}
 use denote.Triple.Spec.{Meets, tripleOf}
 use denote.Triple.Table.{entered, cited}
-use denote.Triple.Walked.{says, Stays, stay-none, stay-none-slice, walkOf, goes-none, goes-none-slice, Walks, ends-at, walked, walk-meets}
+use denote.Triple.Walked.{says, Stays, stay-none-slice, walkOf, goes-none-slice, Walks, ends-at, walked, walk-meets}
 use denote.Exit.{yes}
 use denote.Triple.Clauses.{ensured, lasts}
-use Rattle.sheet.specs.Reading.{nextLink, placeAfter, readOn}
 use Rattle.sheet.specs.declared.reader.Reader.{Reader}
-use Rattle.sheet.specs.declared.reader.Step.{Step}
 use Rattle.sheet.proofs.reader.Reader as T
 use Rattle.sheet.proofs.reader.Reader.Laws as T′
-use Rattle.sheet.proofs.reader.Step as S
-use Rattle.sheet.proofs.reader.Step.Laws as S′
 use Rattle.sheet.proofs.reader.new as new
 use Rattle.sheet.proofs.reader.new.Symbol as new-def
 use Rattle.sheet.proofs.reader.new.Symbol.{name as #sheet·reader·new}

@@ -18,7 +18,7 @@ add-t9 : tie.Need-add-t9
 add-t9 c = search needs
 
 returns-2 : tie.Need-returns-2
-returns-2 c = (search needs, search needs, simp (c .before .before .before .if1 .left))
+returns-2 c = (search needs, (simp (c .before .before .before .if1 .left), search needs))
 
 pub counted-spec : {M : Type 1} → statement M
 counted-spec =
