@@ -3,14 +3,15 @@ use mathlib.Core.Path.{_≡_, sym, ap, _∙_, subst}
 use mathlib.Core.Bool.{Bool, cond}
 use mathlib.Core.List.{List}
 use Prim.Native.Nat.{ℕ, _+_, _*_, _<_}
+use lib.Dec.{eqb}
 use lib.Ieee.{Float, binary32, add, ofBits}
 use lib.ListN.{length}
 use borrow.Author.Tests.{eq-eqb, ne-eqb}
-use Rattle.n_shortest.specs.declared.n_best.Entry.{Entry}
-use Rattle.n_shortest.specs.declared.n_best.Entry.the-variants.{Half, Finished}
+use Rattle.n_shortest.specs.declared.entry.Entry.{Entry}
+use Rattle.n_shortest.specs.declared.entry.Entry.the-variants.{Half, Finished}
 use Rattle.slots.specs.Slots.{nothing}
 use Rattle.search_slots.specs.Slots.{nodeWord, costWord, distanceWord}
-use Rattle.n_shortest.specs.SearchWords.{rankW, Inside, entryW}
+use Rattle.n_shortest.specs.EntryWords.{rankW, Inside, entryW}
 
 module _ (part : List ℕ) (nodes : ℕ) where
   pub inside-half : {e : Entry} {v : ℕ} {c : Float} → e ≡ Half v c → Inside part nodes e → nodes + 8 * v < length part
@@ -33,3 +34,8 @@ module _ (part : List ℕ) (x : ℕ) where
   pub entry-half : (nodeWord part x ≡ nothing → ⊥) → entryW part x ≡ Half (nodeWord part x) cost
   unfolding entryW
   entry-half e = ap (λ (b : Bool). cond b (Finished cost) (Half (nodeWord part x) cost)) (ne-eqb (nodeWord part x) nothing e)
+
+-- the same words hold the same entry
+pub entry-same : (p q : List ℕ) (x : ℕ) → nodeWord p x ≡ nodeWord q x → costWord p x ≡ costWord q x → entryW p x ≡ entryW q x
+unfolding entryW
+entry-same p q x n c = λ i. cond (eqb (n i) nothing) (Finished (ofBits binary32 (c i))) (Half (n i) (ofBits binary32 (c i)))

@@ -7,8 +7,8 @@ use native.Mathlib.Decide.{ℕ-discrete}
 use native.Mathlib.Omega.{arith}
 use lib.Dec.{ltb, leb, eqb, lit≤}
 use lib.Ieee.{binary32, lt, ofBits}
-use lib.ListN.{length, getD, set, take, drop, length-set}
-use lib.Seq.{getD-set-same, getD-set-other, drop-set-lt, take-at, ext-getD}
+use lib.ListN.{length, getD, set, take, length-set}
+use lib.Seq.{getD-set-same, getD-set-other, take-at, ext-getD}
 use borrow.Author.Tests.{leb-false, ltb-true, eq-eqb, ne-eqb}
 use Rattle.tropical_weight.specs.Limits.{unit, sumLimit}
 use Rattle.tropical_weight.specs.Tropical.{Tropical, leT, ltT, eqT, Within}
@@ -22,8 +22,10 @@ use Rattle.search.specs.Reversed.{Reversed}
 use Rattle.search.specs.Search.{Entry, half, finished, isHalf, rank, precedes}
 use Rattle.slots.specs.Slots.{nothing}
 use Rattle.search_slots.specs.Slots.{nodeWord, rankWord, heapWord, heapOf, nodeField}
-use Rattle.n_shortest.specs.HeapWords.{HeapFits, isDone, lessW, storeW, swapW, placeLess, parentOf, siftUpW, childW, siftDownW, pushW, popW}
-use Rattle.n_shortest.proofs.HeapSteps.{place-same, place-other, Each, store-each, swap-each, fits-swap, fits-more, fits-fewer, child-in}
+use Rattle.n_shortest.specs.EntryWords.{entryW}
+use Rattle.n_shortest.specs.HeapWords.{halfFirst, lessW, storeW, swapW, placeLess, parentOf, siftUpW, childW, siftDownW, pushW, popW}
+use Rattle.n_shortest.proofs.HeapSteps.{place-same, place-other, Each, store-each, swap-each, child-in}
+use Rattle.n_shortest.proofs.EntryWords.{entry-same, entry-half, entry-finished}
 
 -- ---- what swaps of places below n keep, the moves keep
 module _ (P : List ℕ → Type 0) (n : ℕ) (swap-keeps : (part : List ℕ) (i j : ℕ) → i < n → j < n → P part → P (swapW part i j)) where
@@ -73,9 +75,6 @@ module _ (part : List ℕ) where
   word-keeps : (j d : ℕ) (q : List ℕ) (i x : ℕ) → (j ≡ 8 * i + 5 → ⊥) → getD q j d ≡ getD part j d → getD (storeW q i x) j d ≡ getD part j d
   word-keeps j d q i x n h = getD-set-other q (8 * i + 5) j x d n ∙ h
 
-  drop-keeps : (k : ℕ) (q : List ℕ) (i x : ℕ) → 8 * i + 5 < k → drop k q ≡ drop k part → drop k (storeW q i x) ≡ drop k part
-  drop-keeps k q i x l h = drop-set-lt k q (8 * i + 5) x l ∙ h
-
 module _ (part : List ℕ) (len x : ℕ) where
   pub push-length : length (pushW part len x) ≡ length part
   push-length = push-keeps (λ q. length q ≡ length part) len (λ q i y l. length-keeps part q i y) part x refl
@@ -85,9 +84,6 @@ module _ (part : List ℕ) (len x : ℕ) where
 
   pub push-beyond : (j d : ℕ) → 8 * suc len ≤ j → getD (pushW part len x) j d ≡ getD part j d
   push-beyond j d b = push-keeps (λ q. getD q j d ≡ getD part j d) len (λ q i y l. word-keeps part j d q i y (λ e. omega arith)) part x refl
-
-  pub push-drop : (k : ℕ) → 8 * suc len ≤ k → drop k (pushW part len x) ≡ drop k part
-  push-drop k b = push-keeps (λ q. drop k q ≡ drop k part) len (λ q i y l. drop-keeps part k q i y (omega arith)) part x refl
 
 module _ (part : List ℕ) (len : ℕ) (some : 0 < len) where
   pub pop-length : length (popW part len) ≡ length part
@@ -99,30 +95,13 @@ module _ (part : List ℕ) (len : ℕ) (some : 0 < len) where
   pub pop-beyond : (j d : ℕ) → 8 * len ≤ j → getD (popW part len) j d ≡ getD part j d
   pop-beyond j d b = pop-keeps (λ q. getD q j d ≡ getD part j d) len (λ q i y l. word-keeps part j d q i y (λ e. omega arith)) part some refl
 
-  pub pop-drop : (k : ℕ) → 8 * len ≤ k → drop k (popW part len) ≡ drop k part
-  pop-drop k b = pop-keeps (λ q. drop k q ≡ drop k part) len (λ q i y l. drop-keeps part k q i y (omega arith)) part some refl
-
--- ---- the order depends on nodes and ranks alone
-less-same : (p q : List ℕ) → ((a : ℕ) → rankWord p a ≡ rankWord q a) → ((a : ℕ) → nodeWord p a ≡ nodeWord q a) → lessW p ≡ lessW q
+-- ---- the order depends on ranks and entries alone
+less-same : (p q : List ℕ) → ((a : ℕ) → rankWord p a ≡ rankWord q a) → ((a : ℕ) → entryW p a ≡ entryW q a) → lessW p ≡ lessW q
 unfolding lessW
-less-same p q r n =
-    λ k a b. lt (ofBits binary32 (r a k)) (ofBits binary32 (r b k)) || (not (lt (ofBits binary32 (r b k)) (ofBits binary32 (r a k))) && (not (eqb (n a k) nothing) && eqb (n b k) nothing))
+less-same p q r e =
+    λ k a b. lt (ofBits binary32 (r a k)) (ofBits binary32 (r b k)) || (not (lt (ofBits binary32 (r b k)) (ofBits binary32 (r a k))) && halfFirst (e a k) (e b k))
 
-pub push-less : (part : List ℕ) (len x : ℕ) → lessW (pushW part len x) ≡ lessW part
-push-less part len x = less-same (pushW part len x) part (λ a. push-other part len x (8 * a + 4) 0 (λ e. omega arith)) (λ a. push-other part len x (8 * a) 0 (λ e. omega arith))
-
-pub pop-less : (part : List ℕ) (len : ℕ) → 0 < len → lessW (popW part len) ≡ lessW part
-pop-less part len l = less-same (popW part len) part (λ a. pop-other part len l (8 * a + 4) 0 (λ e. omega arith)) (λ a. pop-other part len l (8 * a) 0 (λ e. omega arith))
-
--- ---- the heap still fits, and what every entry in it has is kept
-pub push-fits : (part : List ℕ) (len x : ℕ) → HeapFits part len → 8 * suc len ≤ length part → 8 * x + 5 < length part → HeapFits (pushW part len x) (suc len)
-unfolding pushW
-push-fits part len x f r b = up-keeps (λ q. HeapFits q (suc len)) (suc len) (λ q i j. fits-swap q (suc len) i j) len (storeW part len x) len (omega arith) (subst (HeapFits (storeW part len x)) (let z : len + 1 ≡ suc len = omega arith in z) (fits-more part len x f (omega arith) b))
-
-pub pop-fits : (part : List ℕ) (len : ℕ) → HeapFits part len → 0 < len → HeapFits (popW part len) (len - 1)
-unfolding popW
-pop-fits part len f l = down-keeps (λ q. HeapFits q (len - 1)) (len - 1) (λ q i j. fits-swap q (len - 1) i j) (len - 1) (storeW part 0 (heapWord part (len - 1))) 0 (fits-fewer part len f l)
-
+-- ---- what every entry in the heap has is kept
 module _ (Q : ℕ → Type 0) where
   abbrev Roomy : ℕ → List ℕ → Type 0
   Roomy n q = (8 * n ≤ length q) × Each Q q n
@@ -190,7 +169,7 @@ module _ (before : ℕ → ℕ → Bool) (Q : ℕ → Type 0) where
   agrees-store part i x h a b p q = (λ k. kept k a b) ∙ h a b p q
     where
       kept : lessW (storeW part i x) ≡ lessW part
-      kept = less-same (storeW part i x) part (λ a. getD-set-other part (8 * i + 5) (8 * a + 4) x 0 (λ e. omega arith)) (λ a. getD-set-other part (8 * i + 5) (8 * a) x 0 (λ e. omega arith))
+      kept = less-same (storeW part i x) part (λ a. getD-set-other part (8 * i + 5) (8 * a + 4) x 0 (λ e. omega arith)) (λ a. entry-same (storeW part i x) part a (getD-set-other part (8 * i + 5) (8 * a) x 0 (λ e. omega arith)) (getD-set-other part (8 * i + 5) (8 * a + 1) x 0 (λ e. omega arith)))
 
   module _ (n : ℕ) where
     alike-swap : (part : List ℕ) (i j : ℕ) → i < n → j < n → Alike n part → Alike n (swapW part i j)
@@ -275,13 +254,6 @@ module _ (before : ℕ → ℕ → Bool) (Q : ℕ → Type 0) where
       ∙ ap (λ (g : List ℕ). siftDown before n n g 0) (sym (heap-front q n) ∙ ap (take n) (heap-store part (suc n) 0 (heapWord part n) r l ∙ ap (set (heapOf part (suc n)) 0) (sym (heap-at part (suc n) n (omega arith)))))
       ∙ ap (λ (m : ℕ). siftDown before m m (take m (set (heapOf part (suc n)) 0 (getD (heapOf part (suc n)) m 0))) 0) (sym (ap (λ (k : ℕ). k - 1) all ∙ one))
 
--- ---- the order on the words themselves
-pub push-heap : (part : List ℕ) (len x : ℕ) → 8 * suc len ≤ length part → heapOf (pushW part len x) (suc len) ≡ pushed (lessW part) x (heapOf part len)
-push-heap part len x r = push-is (lessW part) (λ a. Unit {0}) part len x r (λ i l. tt) tt (λ a b p q. refl)
-
-pub pop-heap : (part : List ℕ) (len : ℕ) → 8 * len ≤ length part → 0 < len → heapOf (popW part len) (len - 1) ≡ popped (lessW part) (heapOf part len)
-pop-heap part len r l = pop-is (lessW part) (λ a. Unit {0}) part len r l (λ i l. tt) (λ a b p q. refl)
-
 -- ---- the order on the grid
 covered : unit ≤ 8
 covered = lit≤ tt
@@ -299,11 +271,11 @@ module _ (part : List ℕ) (a b : ℕ) (x y : Tropical) (hx : Within sumLimit x)
   rank-less : (v w : Tropical) → Within sumLimit v → Within sumLimit w → (i j : ℕ) → i ≡ bitsOf v → j ≡ bitsOf w → lt (ofBits binary32 i) (ofBits binary32 j) ≡ ltT v w
   rank-less v w hv hw i j ei ej = (λ k. lt (ofBits binary32 (ei k)) (ofBits binary32 (ej k))) ∙ (λ k. lt (bits-back unit covered v k) (bits-back unit covered w k)) ∙ lt-ofT unit covered v w hv hw
 
-  pub less-grid : lessW part a b ≡ ltT x y || (eqT x y && (not (isDone part a) && isDone part b))
+  pub less-grid : lessW part a b ≡ ltT x y || (eqT x y && halfFirst (entryW part a) (entryW part b))
   unfolding lessW
   less-grid =
-      (λ k. rank-less x y hx hy (rankWord part a) (rankWord part b) ex ey k || (not (rank-less y x hy hx (rankWord part b) (rankWord part a) ey ex k) && (not (isDone part a) && isDone part b)))
-      ∙ by-tests x y (not (isDone part a) && isDone part b)
+      (λ k. rank-less x y hx hy (rankWord part a) (rankWord part b) ex ey k || (not (rank-less y x hy hx (rankWord part b) (rankWord part a) ey ex k) && halfFirst (entryW part a) (entryW part b)))
+      ∙ by-tests x y (halfFirst (entryW part a) (entryW part b))
 
 -- ---- the order of entries
 -- a node's number is not that of none
@@ -311,9 +283,11 @@ abbrev pub Named : Entry → Type 0
 Named (half v c) = v < nothing
 Named (finished c) = Unit {0}
 
-pub done-is : (part : List ℕ) (a : ℕ) (e : Entry) → Named e → nodeWord part a ≡ nodeField e → isDone part a ≡ not (isHalf e)
-done-is part a (half v c) h w = ne-eqb (nodeWord part a) nothing (λ z. omega arith)
-done-is part a (finished c) h w = eq-eqb (nodeWord part a) nothing w
+-- half-built in code and half-built in the search
+half-is : (part : List ℕ) (a b : ℕ) (d e : Entry) → Named d → Named e → nodeWord part a ≡ nodeField d → nodeWord part b ≡ nodeField e → halfFirst (entryW part a) (entryW part b) ≡ isHalf d && not (isHalf e)
+half-is part a b (half v c) (half w d) h k m n = λ i. halfFirst (entry-half part a (λ z. omega (arith, z, m)) i) (entry-half part b (λ z. omega (arith, z, n)) i)
+half-is part a b (half v c) (finished d) h k m n = λ i. halfFirst (entry-half part a (λ z. omega (arith, z, m)) i) (entry-finished part b n i)
+half-is part a b (finished c) e h k m n = ap (λ x. halfFirst x (entryW part b)) (entry-finished part a m)
 
 -- entry e is at slot a, with its rank
 pub record Ranked (r : Reversed) (part : List ℕ) (a : ℕ) (e : Entry) : Type 0 where
@@ -325,9 +299,4 @@ pub record Ranked (r : Reversed) (part : List ℕ) (a : ℕ) (e : Entry) : Type 
 pub less-precedes : (r : Reversed) (part : List ℕ) (a b : ℕ) (d e : Entry) → Ranked r part a d → Ranked r part b e → lessW part a b ≡ precedes r d e
 less-precedes r part a b d e s t =
     less-grid part a b (rank r d) (rank r e) (s .within) (t .within) (s .bits) (t .bits)
-    ∙ (λ k. ltT (rank r d) (rank r e) || (eqT (rank r d) (rank r e) && (not (done-is part a d (s .named) (s .node) k) && done-is part b e (t .named) (t .node) k)))
-    ∙ ap (λ (h : Bool). ltT (rank r d) (rank r e) || (eqT (rank r d) (rank r e) && (h && not (isHalf e)))) (twice (isHalf d))
-  where
-    twice : (b : Bool) → not (not b) ≡ b
-    twice true = refl
-    twice false = refl
+    ∙ ap (λ (h : Bool). ltT (rank r d) (rank r e) || (eqT (rank r d) (rank r e) && h)) (half-is part a b d e (s .named) (t .named) (s .node) (t .node))

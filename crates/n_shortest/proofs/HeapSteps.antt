@@ -10,27 +10,28 @@ use lib.Ieee.{Float, lt}
 use lib.ListN.{length, length-set}
 use lib.Seq.{getD-set-same, getD-set-other}
 use borrow.Author.Tests.{eq-eqb, ne-eqb, le-leb, lt-leb}
-use Rattle.slots.specs.Slots.{nothing}
-use Rattle.search_slots.specs.Slots.{nodeWord, heapWord}
-use Rattle.n_shortest.specs.HeapWords.{HeapFits, rankOf, isDone, lessW, storeW, swapW, placeLess, parentOf, siftUpW, childW, siftDownW, popW}
+use Rattle.tropical_weight.specs.Single.{Number}
+use Rattle.search_slots.specs.Slots.{rankWord, heapWord}
+use Rattle.n_shortest.specs.EntryWords.{entryW, rankOf}
+use Rattle.n_shortest.specs.HeapWords.{Comparable, HeapFits, halfFirst, lessW, storeW, swapW, placeLess, parentOf, siftUpW, childW, siftDownW, popW}
 
 -- ---- the order, by the way that its tests go
 module _ (part : List ℕ) (a b : ℕ) (x y : Float) (hx : x ≡ rankOf part a) (hy : y ≡ rankOf part b) where
-  test-is : lessW part a b ≡ lt x y || (not (lt y x) && (not (isDone part a) && isDone part b))
+  abbrev tie : Bool
+  tie = halfFirst (entryW part a) (entryW part b)
+
+  test-is : lessW part a b ≡ lt x y || (not (lt y x) && tie)
   unfolding lessW
-  test-is = sym (λ k. lt (hx k) (hy k) || (not (lt (hy k) (hx k)) && (not (isDone part a) && isDone part b)))
+  test-is = sym (λ k. lt (hx k) (hy k) || (not (lt (hy k) (hx k)) && tie))
 
   pub less-first : lt x y ≡ true → lessW part a b ≡ true
-  less-first h = test-is ∙ ap (λ (t : Bool). t || (not (lt y x) && (not (isDone part a) && isDone part b))) h
+  less-first h = test-is ∙ ap (λ (t : Bool). t || (not (lt y x) && tie)) h
 
   pub less-second : lt x y ≡ false → lt y x ≡ true → lessW part a b ≡ false
-  less-second h k = test-is ∙ λ i. h i || (not (k i) && (not (isDone part a) && isDone part b))
+  less-second h k = test-is ∙ λ i. h i || (not (k i) && tie)
 
-  pub less-done : lt x y ≡ false → lt y x ≡ false → nodeWord part a ≡ nothing → lessW part a b ≡ false
-  less-done h k e = test-is ∙ λ i. h i || (not (k i) && (not (eq-eqb (nodeWord part a) nothing e i) && isDone part b))
-
-  pub less-half : lt x y ≡ false → lt y x ≡ false → (nodeWord part a ≡ nothing → ⊥) → lessW part a b ≡ isDone part b
-  less-half h k n = test-is ∙ λ i. h i || (not (k i) && (not (ne-eqb (nodeWord part a) nothing n i) && isDone part b))
+  pub less-tie : lt x y ≡ false → lt y x ≡ false → lessW part a b ≡ halfFirst (entryW part a) (entryW part b)
+  less-tie h k = test-is ∙ λ i. h i || (not (k i) && tie)
 
 -- ---- stores at places
 pub place-same : (part : List ℕ) (i x : ℕ) → 8 * i + 5 < length part → heapWord (storeW part i x) i ≡ x
@@ -59,25 +60,36 @@ module _ (P : ℕ → Type 0) where
 pub fits-less : (part : List ℕ) (m n : ℕ) → m ≤ n → HeapFits part n → HeapFits part m
 fits-less part m n l f = record { room = omega (arith, f .room); each = λ i h. f .each i (omega arith) }
 
-pub fits-swap : (part : List ℕ) (n i j : ℕ) → i < n → j < n → HeapFits part n → HeapFits (swapW part i j) n
-fits-swap part n i j li lj f = record {
-  room = simp length-set (f .room);
-  each = λ k m. simp length-set (swap-each (λ a. 8 * a + 5 < length part) part n i j (f .room) li lj (f .each) k m);
+-- an entry can be compared after a store at a place as before it
+compared : (part : List ℕ) (i x a : ℕ) → Comparable part a → Comparable (storeW part i x) a
+compared part i x a c = record {
+  inside = simp length-set (c .inside);
+  number = subst Number (sym (getD-set-other part (8 * i + 5) (8 * a + 4) x 0 (λ e. omega arith))) (c .number);
 }
 
+pub fits-swap : (part : List ℕ) (n i j : ℕ) → i < n → j < n → HeapFits part n → HeapFits (swapW part i j) n
+fits-swap part n i j li lj f =
+    let one = storeW part i (heapWord part j) in
+    record {
+      room = simp length-set (f .room);
+      each = λ k m. let a = heapWord (swapW part i j) k in compared one j (heapWord part i) a (compared part i (heapWord part j) a (swap-each (Comparable part) part n i j (f .room) li lj (f .each) k m));
+    }
+
 -- x stored at the end
-pub fits-more : (part : List ℕ) (len x : ℕ) → HeapFits part len → 8 * (len + 1) ≤ length part → 8 * x + 5 < length part → HeapFits (storeW part len x) (len + 1)
+pub fits-more : (part : List ℕ) (len x : ℕ) → HeapFits part len → 8 * (len + 1) ≤ length part → Comparable part x → HeapFits (storeW part len x) (len + 1)
 fits-more part len x f r b = record {
   room = simp length-set r;
-  each = λ k m. simp length-set (store-each (λ a. 8 * a + 5 < length part) part (len + 1) len x r (omega arith) b (λ k m ne. f .each k (omega arith)) k m);
+  each = λ k m. compared part len x (heapWord (storeW part len x) k) (store-each (Comparable part) part (len + 1) len x r (omega arith) b (λ k m ne. f .each k (omega arith)) k m);
 }
 
 -- the last stored at the root
 pub fits-fewer : (part : List ℕ) (len : ℕ) → HeapFits part len → 0 < len → HeapFits (storeW part 0 (heapWord part (len - 1))) (len - 1)
-fits-fewer part len f l = fits-less (storeW part 0 (heapWord part (len - 1))) (len - 1) len (omega arith) (record {
-  room = simp length-set (f .room);
-  each = λ k m. simp length-set (store-each (λ a. 8 * a + 5 < length part) part len 0 (heapWord part (len - 1)) (f .room) l (f .each (len - 1) (omega arith)) (λ k m ne. f .each k m) k m);
-})
+fits-fewer part len f l =
+    let last = heapWord part (len - 1) in
+    fits-less (storeW part 0 last) (len - 1) len (omega arith) (record {
+      room = simp length-set (f .room);
+      each = λ k m. compared part 0 last (heapWord (storeW part 0 last) k) (store-each (Comparable part) part len 0 last (f .room) l (f .each (len - 1) (omega arith)) (λ k m ne. f .each k m) k m);
+    })
 
 -- ---- up
 up-root : (f : ℕ) (part : List ℕ) (i : ℕ) → i ≡ 0 → siftUpW f part i ≡ part

@@ -22,7 +22,7 @@ use Rattle.search.proofs.Within.{holds-after, put-room, entry-node, entry-withi
 use Rattle.search.proofs.Tallies.{visits-few, listed-few, step-listed, after-step, after-stopped}
 use Rattle.search.proofs.Ran.{stopped-not}
 use Rattle.n_shortest.specs.declared.n_best.Places.{Places}
-use Rattle.n_shortest.specs.declared.n_best.Entry.the-variants.{Half}
+use Rattle.n_shortest.specs.declared.entry.Entry.the-variants.{Half}
 use Rattle.slots.specs.Slots.{nothing}
 use Rattle.search_slots.specs.Slots.{visitsWord}
 use Rattle.n_shortest.specs.SearchWords.{Words, putW, stepW, stoppedW, afterW, noneW, begunW, Sized, Ready}

@@ -14,6 +14,7 @@ use borrow.Author.Tests.{eqb-true, eqb-false, leb-true, leb-false, le-leb}
 use Rattle.tropical_weight.specs.Limits.{unit, sumLimit}
 use Rattle.tropical_weight.specs.Tropical.{Tropical, _⊗_, Within}
 use Rattle.tropical_weight.specs.Grid.{ofT}
+use Rattle.tropical_weight.specs.Single.{Number}
 use Rattle.tropical_weight.proofs.Exact.{times-ofT, bits-back}
 use Rattle.sheet.specs.Below.{listBelow}
 use Rattle.sheet.proofs.Below.{listBelow-same}
@@ -25,13 +26,14 @@ use Rattle.search.specs.Search as S
 use Rattle.search.specs.Search.{half, finished, Put, first, Search, before, put, putAll, expansion, takenBy, step}
 use Rattle.search.proofs.Contents.{popped-keeps}
 use Rattle.n_shortest.specs.declared.n_best.Places.{Places}
-use Rattle.n_shortest.specs.declared.n_best.Entry.{Entry}
-use Rattle.n_shortest.specs.declared.n_best.Entry.the-variants.{Half, Finished}
+use Rattle.n_shortest.specs.declared.entry.Entry.{Entry}
+use Rattle.n_shortest.specs.declared.entry.Entry.the-variants.{Half, Finished}
 use Rattle.search_slots.specs.Slots.{nodeWord, costWord, heapWord, listedWord, heapOf, listedOf, headWord, visitsWord, nextWord, weightWord, chainWord, nodeField, inputField}
-use Rattle.n_shortest.specs.SearchWords.{Words, entryW, putW, repeated, linkW, linksW, expandW, takenW, without, stepW, Sized, Chain, Expands, Takes, Ready}
+use Rattle.n_shortest.specs.EntryWords.{entryW}
+use Rattle.n_shortest.specs.SearchWords.{Words, putW, repeated, linkW, linksW, expandW, takenW, without, stepW, Sized, Chain, Expands, Takes, Ready}
 use Rattle.n_shortest.proofs.EntryWords.{entry-finished, entry-half}
 use Rattle.n_shortest.proofs.Linking.{links-end, links-step, expand-end, expand-on}
-use Rattle.n_shortest.proofs.Taking.{sized-without, visited, taken-over, taken-expanded, listing, taken-listed, step-is}
+use Rattle.n_shortest.proofs.Taking.{sized-without, sized-visited, visited, taken-over, taken-expanded, listing, taken-listed, step-is}
 use Rattle.n_shortest.proofs.Putting.{length-put, put-beyond}
 use Rattle.n_shortest.proofs.HeapPlaces.{Ranked, less-precedes, pop-is, pop-length, pop-other, pop-beyond, heap-same, heap-at}
 use Rattle.n_shortest.proofs.Storing.{named, covered, coded, ChainIs, Laid, Fine, Stores, chain-kept, laid-kept, stores-put}
@@ -198,7 +200,15 @@ module _ (p : Places) (size : ℕ) (r : Reversed) where
         let low : at < p .nodes = omega (arith, slots-in, t .listed-count) in
         let grown = length-append (s .listed) (x ∷ []) in
         rebuilt (s .heap) (s .visits) (s .listed ++ (x ∷ [])) (s .taken) (listing p n most x w)
-        (record { heap-few = t .sized .heap-few; room = t .sized .room; after = t .sized .after; inside = omega (arith, long, t .sized .inside); small = t .sized .small; each = λ i b. omega (arith, t .sized .each i b, other (8 * i + 5) (λ z. omega (arith, z))) })
+        (record {
+          heap-few = t .sized .heap-few;
+          room = t .sized .room;
+          after = t .sized .after;
+          inside = omega (arith, long, t .sized .inside);
+          small = t .sized .small;
+          each = λ i b. omega (arith, t .sized .each i b, other (8 * i + 5) (λ z. omega (arith, z)));
+          numbers = λ i b. subst Number (sym (other (8 * i + 4) (λ z. omega (arith, z)))) (t .sized .numbers i b);
+        })
         refl (t .heap-count) (omega (arith, grown, t .listed-count)) (t .taken-count) long (λ i b c h. other (8 * i + c) (λ z. omega (arith, z)))
         (heap-same (set (w .part) at x) (w .part) (length (s .heap)) (λ i b. other (8 * i + 5) (λ z. omega (arith, z))) ∙ t .heap)
         (ap (listedOf (set (w .part) at x)) (grown ∙ let z : length (s .listed) + 1 ≡ suc (length (s .listed)) = omega arith in z) ∙ list-more at refl other low)
@@ -229,8 +239,7 @@ module _ (p : Places) (size : ℕ) (r : Reversed) where
       pub stores-visited : Stores p size r (record { entries = s .entries; heap = s .heap; visits = set (s .visits) v (suc (getD (s .visits) v 0)); listed = s .listed; taken = s .taken }) (visited p v w)
       stores-visited =
           rebuilt (s .heap) (set (s .visits) v (suc (getD (s .visits) v 0))) (s .listed) (s .taken) (visited p v w)
-          (record { heap-few = t .sized .heap-few; room = t .sized .room; after = t .sized .after; inside = omega (arith, long, t .sized .inside); small = t .sized .small; each = λ i b. omega (arith, t .sized .each i b, other (8 * i + 5) (λ z. omega (arith, z, t .sized .heap-few, t .sized .room))) })
-          refl (t .heap-count) (t .listed-count) (t .taken-count) long (λ i b c h. other (8 * i + c) (λ z. omega (arith, z, slots-in)))
+          (sized-visited p w v (t .sized)) refl (t .heap-count) (t .listed-count) (t .taken-count) long (λ i b c h. other (8 * i + c) (λ z. omega (arith, z, slots-in)))
           (heap-same (visited p v w .part) (w .part) (length (s .heap)) (λ i b. other (8 * i + 5) (λ z. omega (arith, z, t .heap-count, t .sized .heap-few, t .sized .room))) ∙ t .heap)
           (listBelow-same (length (s .listed)) (listedWord (visited p v w .part)) (listedWord (w .part)) (λ i b. other (8 * i + 6) (λ z. omega (arith, z, t .listed-few, slots-in))) ∙ t .listed)
           (t .listed-few) (λ q b. counts q b (ℕ-discrete q v))

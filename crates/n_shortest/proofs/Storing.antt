@@ -9,9 +9,11 @@ use lib.Ieee.{binary32, add, ofBits, toBits}
 use lib.ListN.{length, getD, length-append, List·getD-append}
 use lib.Seq.{getD-append-seam}
 use Rattle.tropical_weight.specs.Limits.{unit, sumLimit}
-use Rattle.tropical_weight.specs.Tropical.{Tropical, Within}
+use Rattle.tropical_weight.specs.Tropical.{Tropical, _⊗_, Within}
 use Rattle.tropical_weight.specs.Grid.{ofT}
+use Rattle.tropical_weight.specs.Single.{numberBits}
 use Rattle.tropical_weight.proofs.Exact.{times-ofT, bits-back}
+use Rattle.tropical_weight.proofs.Numbers.{number-ofT}
 use Rattle.sheet.specs.Machine.{bitsOf}
 use Rattle.sheet.proofs.Below.{listBelow-same}
 use Rattle.search.specs.Reversed.{Back, Reversed}
@@ -21,12 +23,13 @@ use Rattle.search.specs.Search.{half, finished, Put, first, Search, rank, befor
 use Rattle.machine.proofs.Lists.{perm-length}
 use Rattle.search.proofs.Contents.{pushed-keeps}
 use Rattle.n_shortest.specs.declared.n_best.Places.{Places}
-use Rattle.n_shortest.specs.declared.n_best.Entry.{Entry}
-use Rattle.n_shortest.specs.declared.n_best.Entry.the-variants.{Half, Finished}
+use Rattle.n_shortest.specs.declared.entry.Entry.{Entry}
+use Rattle.n_shortest.specs.declared.entry.Entry.the-variants.{Half, Finished}
 use Rattle.slots.specs.Slots.{nothing}
 use Rattle.search_slots.specs.Slots.{nodeWord, rankWord, listedWord, heapOf, listedOf, distanceWord, headWord, visitsWord, nextWord, weightWord, chainWord, nodeField, inputField, Slot, Entries}
+use Rattle.n_shortest.specs.EntryWords.{nodeOf, costOf, rankW, stored}
 use Rattle.n_shortest.specs.HeapWords.{pushW}
-use Rattle.n_shortest.specs.SearchWords.{nodeOf, costOf, rankW, stored, Words, putW, repeated, Sized}
+use Rattle.n_shortest.specs.SearchWords.{Words, putW, repeated, Sized}
 use Rattle.n_shortest.proofs.HeapPlaces.{Named, Ranked, less-precedes, push-is, push-other, heap-same}
 use Rattle.n_shortest.proofs.Putting.{length-stored, stored-other, stored-heap, stored-node, stored-cost, stored-from, stored-input, stored-rank, length-put, put-entries, put-heap, put-listed, put-taken, put-beyond, sized-put}
 
@@ -107,11 +110,12 @@ module _ (p : Places) (size : ℕ) (r : Reversed) where
   }
 
   -- ---- the rank of an entry as it is coded is exact
-  rank-coded : (part : List ℕ) (e : S.Entry) → Laid part → Fine e → toBits binary32 (rankW part (p .nodes) (coded e)) ≡ bitsOf (rank r e)
+  rank-coded : (part : List ℕ) (e : S.Entry) → Laid part → Fine e → numberBits (rankW part (p .nodes) (coded e)) ≡ bitsOf (rank r e)
   rank-coded part (half v c) t f =
       let b = f .node v c refl in
-      ap (toBits binary32) ((λ i. add binary32 (ofBits binary32 (t .distances v b i)) (ofT unit c)) ∙ (λ i. add binary32 (bits-back unit covered (r .toGo v) i) (ofT unit c)) ∙ times-ofT unit covered (r .toGo v) c (t .within v b) (f .cost))
-  rank-coded part (finished c) t f = refl
+      let sum = (λ i. add binary32 (ofBits binary32 (t .distances v b i)) (ofT unit c)) ∙ (λ i. add binary32 (bits-back unit covered (r .toGo v) i) (ofT unit c)) ∙ times-ofT unit covered (r .toGo v) c (t .within v b) (f .cost) in
+      ap numberBits sum ∙ number-ofT unit covered (r .toGo v ⊗ c) (f .ranked)
+  rank-coded part (finished c) t f = number-ofT unit covered c (f .ranked)
 
   pub named : (e : S.Entry) → size ≤ nothing → Fine e → Named e
   named (half v c) b f = omega (arith, f .node v c refl)

@@ -9,12 +9,14 @@ use lib.ListN.{length, getD, set, length-set}
 use lib.Seq.{getD-set-other}
 use borrow.Author.Tests.{lt-ltb, le-ltb, le-leb, lt-leb, eq-eqb, ne-eqb}
 use Rattle.sheet.proofs.Apart.{not-both, or-right}
+use Rattle.tropical_weight.specs.Single.{Number}
 use Rattle.n_shortest.specs.declared.n_best.Places.{Places}
-use Rattle.n_shortest.specs.declared.n_best.Entry.{Entry}
-use Rattle.n_shortest.specs.declared.n_best.Entry.the-variants.{Half, Finished}
+use Rattle.n_shortest.specs.declared.entry.Entry.{Entry}
+use Rattle.n_shortest.specs.declared.entry.Entry.the-variants.{Half, Finished}
 use Rattle.search_slots.specs.Slots.{heapWord, headWord, visitsWord}
-use Rattle.n_shortest.specs.SearchWords.{Words, entryW, expandW, takenW, without, stepW, stoppedW, afterW, Sized, Chain, Expands, Takes}
-use Rattle.n_shortest.proofs.HeapPlaces.{pop-length, pop-beyond, pop-each}
+use Rattle.n_shortest.specs.EntryWords.{entryW}
+use Rattle.n_shortest.specs.SearchWords.{Words, expandW, takenW, without, stepW, stoppedW, afterW, Sized, Chain, Expands, Takes}
+use Rattle.n_shortest.proofs.HeapPlaces.{pop-length, pop-other, pop-beyond, pop-each}
 use Rattle.n_shortest.proofs.Linking.{chain-same}
 
 -- ---- a visit
@@ -36,6 +38,7 @@ module _ (p : Places) (s : Words) (v : ℕ) (z : Sized p s) where
     inside = omega (arith, z .inside, long);
     small = z .small;
     each = λ i h. omega (arith, z .each i h, at-other (8 * i + 5) (λ y. omega (arith, y, z .heap-few, z .room)));
+    numbers = λ i h. subst Number (sym (at-other (8 * i + 4) (λ y. omega (arith, y, z .room)))) (z .numbers i h);
   }
 
   pub expands-visited : Expands p s v → Expands p (visited p v s) v
@@ -82,6 +85,7 @@ module _ (p : Places) (s : Words) (z : Sized p s) (some-in : 0 < s .counts .heap
     inside = omega (arith, z .inside, pop-length (s .part) (s .counts .heap) some-in);
     small = z .small;
     each = λ i h. pop-each (λ y. y < s .counts .entries) (s .part) (s .counts .heap) heap-room some-in (z .each) i h;
+    numbers = λ i h. subst Number (sym (pop-other (s .part) (s .counts .heap) some-in (8 * i + 4) 0 (λ y. omega arith))) (z .numbers i h);
   }
 
   expands-without : (v : ℕ) → Expands p s v → Expands p (without s) v

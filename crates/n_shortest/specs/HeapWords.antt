@@ -1,31 +1,40 @@
 -- Mirrors the code: the heap on the words of the part. A reader need not believe it: laws tie it to Heap of crate search (proofs/HeapPlaces).
 -- Place i is word 8 * i + 5 and holds the number of an entry. Definitions only.
-use mathlib.Core.Bool.{Bool, not, _&&_, _||_, cond}
+use mathlib.Core.Bool.{Bool, true, false, not, _&&_, _||_, cond}
 use mathlib.Core.List.{List}
 use Prim.Native.Nat.{ℕ, zero, suc, _+_, _-_, _*_, _/_, _≤_, _<_}
 use lib.Dec.{eqb, leb, ltb}
-use lib.Ieee.{Float, binary32, lt, ofBits}
+use lib.Ieee.{lt}
 use lib.ListN.{length, set}
-use Rattle.slots.specs.Slots.{nothing}
-use Rattle.search_slots.specs.Slots.{nodeWord, rankWord, heapWord}
+use Rattle.tropical_weight.specs.Single.{Number}
+use Rattle.search_slots.specs.Slots.{rankWord, heapWord}
+use Rattle.n_shortest.specs.declared.entry.Entry.{Entry}
+use Rattle.n_shortest.specs.declared.entry.Entry.the-variants.{Half, Finished}
+use Rattle.n_shortest.specs.EntryWords.{entryW, rankOf}
 
--- the heap lies in the part, and so do the slots of the entries that it holds
+-- the slot of entry a lies in the part, and its rank is a number
+pub record Comparable (part : List ℕ) (a : ℕ) : Type 0 where
+  pub inside : 8 * a + 5 < length part
+  pub number : Number (rankWord part a)
+
+-- the heap lies in the part, and holds entries that can be compared
 pub record HeapFits (part : List ℕ) (len : ℕ) : Type 0 where
   pub room : 8 * len ≤ length part
-  pub each : (i : ℕ) → i < len → 8 * heapWord part i + 5 < length part
+  pub each : (i : ℕ) → i < len → Comparable part (heapWord part i)
 
 -- ---- the order of entries
-abbrev pub rankOf : List ℕ → ℕ → Float
-rankOf part a = ofBits binary32 (rankWord part a)
-
-abbrev pub isDone : List ℕ → ℕ → Bool
-isDone part a = eqb (nodeWord part a) nothing
+-- half-built before finished
+abbrev pub halfFirst : Entry → Entry → Bool
+halfFirst (Half v c) (Half w d) = false
+halfFirst (Half v c) (Finished d) = true
+halfFirst (Finished c) e = false
 
 -- by rank, and where neither rank is less half-built before finished
 unfoldable pub lessW : List ℕ → ℕ → ℕ → Bool
+unfolding entryW
 lessW part a b =
     lt (rankOf part a) (rankOf part b)
-    || (not (lt (rankOf part b) (rankOf part a)) && (not (isDone part a) && isDone part b))
+    || (not (lt (rankOf part b) (rankOf part a)) && halfFirst (entryW part a) (entryW part b))
 
 -- ---- places
 abbrev pub storeW : List ℕ → ℕ → ℕ → List ℕ

@@ -1,2 +1,3 @@
+pub mod EntryWords
 pub mod HeapWords
 pub mod SearchWords

@@ -4,54 +4,25 @@ use mathlib.Core.Bool.{Bool, _||_, cond}
 use mathlib.Core.List.{List}
 use Prim.Native.Nat.{ℕ, zero, suc, _+_, _-_, _*_, _≤_, _<_}
 use lib.Dec.{eqb, leb, ltb}
-use lib.Ieee.{Float, binary32, add, ofBits, toBits}
+use lib.Ieee.{Float, binary32, add, ofBits}
 use lib.ListN.{length, set}
 use Rattle.n_shortest.specs.declared.n_best.Counts.{Counts}
 use Rattle.n_shortest.specs.declared.n_best.Places.{Places}
-use Rattle.n_shortest.specs.declared.n_best.Entry.{Entry}
-use Rattle.n_shortest.specs.declared.n_best.Entry.the-variants.{Half, Finished}
+use Rattle.n_shortest.specs.declared.entry.Entry.{Entry}
+use Rattle.n_shortest.specs.declared.entry.Entry.the-variants.{Half, Finished}
+use Rattle.tropical_weight.specs.Single.{Number}
 use Rattle.slots.specs.Slots.{nothing}
-use Rattle.search_slots.specs.Slots.{nodeWord, costWord, heapWord, distanceWord, headWord, visitsWord, nextWord, weightWord, chainWord}
+use Rattle.search_slots.specs.Slots.{rankWord, heapWord, headWord, visitsWord, nextWord, weightWord, chainWord}
+use Rattle.n_shortest.specs.EntryWords.{entryW, stored}
 use Rattle.n_shortest.specs.HeapWords.{pushW, popW}
-
--- ---- an entry
-abbrev pub nodeOf : Entry → ℕ
-nodeOf (Half v c) = v
-nodeOf (Finished c) = nothing
-
-abbrev pub costOf : Entry → Float
-costOf (Half v c) = c
-costOf (Finished c) = c
-
--- distance plus cost
-abbrev pub rankBy : Float → Entry → Float
-rankBy d (Half v c) = add binary32 d c
-rankBy d (Finished c) = c
-
-abbrev pub rankW : List ℕ → ℕ → Entry → Float
-rankW part nodes e = rankBy (ofBits binary32 (distanceWord part nodes (nodeOf e))) e
-
--- the node of a half-built one has a slot
-abbrev pub Inside : List ℕ → ℕ → Entry → Type 0
-Inside part nodes (Half v c) = nodes + 8 * v < length part
-Inside part nodes (Finished c) = Unit
-
--- the entry in slot x
-unfoldable pub entryW : List ℕ → ℕ → Entry
-entryW part x =
-    let c = ofBits binary32 (costWord part x) in
-    cond (eqb (nodeWord part x) nothing) (Finished c) (Half (nodeWord part x) c)
-
--- slot i with an entry stored
-abbrev pub stored : List ℕ → ℕ → ℕ → Entry → ℕ → ℕ → List ℕ
-stored part nodes i e from input =
-    let rank = toBits binary32 (rankW part nodes e) in
-    set (set (set (set (set part (8 * i) (nodeOf e)) (8 * i + 1) (toBits binary32 (costOf e))) (8 * i + 2) from) (8 * i + 3) input) (8 * i + 4) rank
 
 -- ---- the part, and how many entries, places of the heap, listed and taken there are
 pub record Words : Type 0 where
   pub part : List ℕ
   pub counts : Counts
+
+abbrev pub words : List ℕ → Counts → Words
+words part c = record { part = part; counts = c }
 
 -- an entry put in
 unfoldable pub putW : ℕ → Entry → ℕ → ℕ → Words → Words
@@ -135,7 +106,7 @@ unfolding putW
 begunW p part = putW (p .nodes) (Half 0 (ofBits binary32 0)) 0 nothing (noneW part)
 
 -- ---- what the functions ask
--- the slots of the entries lie before those of the nodes, and these before those of the links; the heap holds entries
+-- the slots of the entries lie before those of the nodes, and these before those of the links; the heap holds entries, and their ranks are numbers
 pub record Sized (p : Places) (s : Words) : Type 0 where
   pub heap-few : s .counts .heap ≤ s .counts .entries
   pub room : 8 * s .counts .entries ≤ p .nodes
@@ -143,6 +114,7 @@ pub record Sized (p : Places) (s : Words) : Type 0 where
   pub inside : p .links ≤ length (s .part)
   pub small : p .nodes < 4294967296
   pub each : (i : ℕ) → i < s .counts .heap → heapWord (s .part) i < s .counts .entries
+  pub numbers : (i : ℕ) → i < s .counts .entries → Number (rankWord (s .part) i)
 
 -- a chain of so many reversed links from k on, each in its slot, to nodes that have slots
 unfoldable pub Chain : Places → List ℕ → ℕ → ℕ → Type 0

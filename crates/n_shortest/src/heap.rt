@@ -2,37 +2,39 @@
 ghost use mathlib.Core.Path.{_≡_};
 ghost use Prim.Native.Nat.{_+_, _-_, _*_, _≤_, _<_};
 ghost use lib.ListN.{length};
-ghost use Rattle.n_shortest.specs.HeapWords.{HeapFits, rankOf, lessW, swapW, siftUpW, childW, siftDownW, pushW, popW};
+ghost use Rattle.n_shortest.specs.HeapWords.{Comparable, HeapFits, halfFirst, lessW, swapW, siftUpW, childW, siftDownW, pushW, popW};
+use crate::entry;
+use crate::entry::Entry;
 use search_slots::PLACE;
-use search_slots::RANK;
-use slots::NOTHING;
 use slots::SLOT;
 
-// The rank of entry a.
-fn rank(part: &[u32], a: u32) -> f32
-    requires { ⌜ 8 * a + 5 < length (now part) ⌝ }
-    ensures { λ r. ⌜ r ≡ rankOf (now (part .entry)) a ⌝ }
+// Whether a is half-built and b finished.
+fn half_first(a: Entry, b: Entry) -> bool
+    ensures { λ r. ⌜ r ≡ halfFirst a b ⌝ }
 {
-    tropical_weight::from_bits(part[SLOT * (a as usize) + RANK])
+    match a {
+        Entry::Half(_, _) => match b {
+            Entry::Half(_, _) => false,
+            Entry::Finished(_) => true,
+        },
+        Entry::Finished(_) => false,
+    }
 }
 
-// Whether entry a comes before entry b: by rank, and else a half-built one before a finished one.
+// Whether entry a comes before entry b: by rank, and on equal rank half-built before finished.
 fn less(part: &[u32], a: u32, b: u32) -> bool
-    requires { ⌜ (8 * a + 5 < length (now part)) × (8 * b + 5 < length (now part)) ⌝ }
+    requires { ⌜ Comparable (now part) a × Comparable (now part) b ⌝ }
     ensures { λ r. ⌜ r ≡ lessW (now (part .entry)) a b ⌝ }
 {
-    let x = rank(part, a);
-    let y = rank(part, b);
+    let x = entry::rank_at(part, a);
+    let y = entry::rank_at(part, b);
     if tropical_weight::natural_less(x, y) {
         return true;
     }
     if tropical_weight::natural_less(y, x) {
         return false;
     }
-    if part[SLOT * (a as usize)] == NOTHING {
-        return false;
-    }
-    part[SLOT * (b as usize)] == NOTHING
+    half_first(entry::entry_at(part, a), entry::entry_at(part, b))
 }
 
 // Swaps what stands at two places.
@@ -63,7 +65,9 @@ fn sift_up(part: &mut [u32], i: usize)
 // Of the children of place i in a heap of n, the second where it comes before the first.
 fn child(part: &[u32], n: usize, i: usize) -> usize
     requires { ⌜ HeapFits (now part) n × (2 * i + 1 < n) ⌝ }
-    ensures { λ r. ⌜ (r ≡ childW (now (part .entry)) n i) × (i < r) × (r < n) ⌝ }
+    ensures { λ r. ⌜ r ≡ childW (now (part .entry)) n i ⌝ }
+    ensures { λ r. ⌜ i < r ⌝ }
+    ensures { λ r. ⌜ r < n ⌝ }
 {
     let left = 2 * i + 1;
     let right = 2 * i + 2;
@@ -94,7 +98,7 @@ fn sift_down(part: &mut [u32], n: usize, i: usize)
 
 // Puts entry x into a heap of len: at the end, and then up.
 pub fn push(part: &mut [u32], len: usize, x: u32)
-    requires { ⌜ HeapFits (now part) len × (8 * (len + 1) ≤ length (now part)) × (8 * x + 5 < length (now part)) ⌝ }
+    requires { ⌜ HeapFits (now part) len × (8 * (len + 1) ≤ length (now part)) × Comparable (now part) x ⌝ }
     ensures { λ _. ⌜ now (part .exit) ≡ pushW (now (part .entry)) len x ⌝ }
 {
     part[SLOT * len + PLACE] = x;

@@ -4,27 +4,19 @@ ghost use mathlib.Core.Path.{_≡_};
 ghost use mathlib.Core.Bool.{false};
 ghost use Prim.Native.Nat.{ℕ, _+_, _-_, _*_, _≤_, _<_};
 ghost use lib.ListN.{length};
-ghost use Rattle.n_shortest.specs.HeapWords.{HeapFits};
-ghost use Rattle.n_shortest.specs.SearchWords.{nodeOf, costOf, rankW, Inside, entryW, stored, putW, repeated, linksW, expandW, takenW, stepW, stoppedW, afterW, begunW, Sized, Chain, Expands, Takes, Ready, Begins};
+ghost use Rattle.n_shortest.specs.EntryWords.{Inside};
+ghost use Rattle.n_shortest.specs.SearchWords.{words, putW, repeated, linksW, expandW, takenW, stepW, stoppedW, afterW, begunW, Sized, Chain, Expands, Takes, Ready, Begins};
+use crate::entry;
+use crate::entry::Entry;
 use crate::heap;
 use search_slots::CHAIN;
-use search_slots::COST;
-use search_slots::FROM;
 use search_slots::HEAD;
-use search_slots::INPUT;
 use search_slots::LISTED;
 use search_slots::PLACE;
-use search_slots::RANK;
 use search_slots::VISITS;
 use search_slots::WEIGHT;
 use slots::NOTHING;
 use slots::SLOT;
-
-// An entry is half-built, with a node and a cost, or finished, with a cost.
-pub enum Entry {
-    Half(u32, f32),
-    Finished(f32),
-}
 
 // How many entries there are, how many of them the heap holds, and how many are listed and taken.
 pub struct Counts {
@@ -43,74 +35,15 @@ pub struct Places {
     pub end: u32,
 }
 
-fn node_of(e: Entry) -> u32
-    ensures { λ r. ⌜ r ≡ nodeOf e ⌝ }
-{
-    match e {
-        Entry::Half(v, _) => v,
-        Entry::Finished(_) => NOTHING,
-    }
-}
-
-fn cost_of(e: Entry) -> f32
-    ensures { λ r. ⌜ r ≡ costOf e ⌝ }
-{
-    match e {
-        Entry::Half(_, c) => c,
-        Entry::Finished(c) => c,
-    }
-}
-
-// Distance plus cost.
-fn rank(part: &[u32], nodes: usize, e: Entry) -> f32
-    requires { ⌜ Inside (now part) nodes e ⌝ }
-    ensures { λ r. ⌜ r ≡ rankW (now (part .entry)) nodes e ⌝ }
-{
-    match e {
-        Entry::Half(v, c) => {
-            let distance = tropical_weight::from_bits(part[nodes + SLOT * (v as usize)]);
-            tropical_weight::times(distance, c)
-        }
-        Entry::Finished(c) => c,
-    }
-}
-
-// The entry in slot x.
-fn entry_at(part: &[u32], x: u32) -> Entry
-    requires { ⌜ 8 * x + 1 < length (now part) ⌝ }
-    ensures { λ r. ⌜ r ≡ entryW (now (part .entry)) x ⌝ }
-{
-    let at = SLOT * (x as usize);
-    let node = part[at];
-    let cost = tropical_weight::from_bits(part[at + COST]);
-    if node == NOTHING {
-        return Entry::Finished(cost);
-    }
-    Entry::Half(node, cost)
-}
-
-// Stores an entry in slot i, with the entry it came from and the input link by which it is put in.
-fn store(part: &mut [u32], nodes: usize, i: u32, e: Entry, from: u32, input: u32)
-    requires { ⌜ (8 * i + 4 < length (now part)) × Inside (now part) nodes e ⌝ }
-    ensures { λ _. ⌜ now (part .exit) ≡ stored (now (part .entry)) nodes i e from input ⌝ }
-{
-    let at = SLOT * (i as usize);
-    let rank = tropical_weight::to_bits(rank(part, nodes, e));
-    part[at] = node_of(e);
-    part[at + COST] = tropical_weight::to_bits(cost_of(e));
-    part[at + FROM] = from;
-    part[at + INPUT] = input;
-    part[at + RANK] = rank;
-}
-
 // Puts an entry in: into the next slot, and into the heap.
 fn put(part: &mut [u32], p: Places, c: Counts, e: Entry, from: u32, input: u32) -> Counts
-    requires { ⌜ Sized p (record { part = now part; counts = c }) × (8 * (c .entries + 1) ≤ p .nodes) × Inside (now part) (p .nodes) e ⌝ }
-    ensures { λ r. ⌜ (r ≡ putW (p .nodes) e from input (record { part = now (part .entry); counts = c }) .counts) × (now (part .exit) ≡ putW (p .nodes) e from input (record { part = now (part .entry); counts = c }) .part) ⌝ }
+    requires { ⌜ Sized p (words (now part) c) × (8 * (c .entries + 1) ≤ p .nodes) × Inside (now part) (p .nodes) e ⌝ }
+    ensures { λ r. ⌜ r ≡ putW (p .nodes) e from input (words (now (part .entry)) c) .counts ⌝ }
+    ensures { λ r. ⌜ now (part .exit) ≡ putW (p .nodes) e from input (words (now (part .entry)) c) .part ⌝ }
 {
     let entries = c.entries;
     let heap = c.heap;
-    store(part, p.nodes, entries, e, from, input);
+    entry::store(part, p.nodes, entries, e, from, input);
     heap::push(part, heap as usize, entries);
     Counts {
         entries: entries + 1,
@@ -141,8 +74,9 @@ fn put_links(
     most: u32,
     head: u32,
 ) -> Counts
-    requires { ⌜ Sized p (record { part = now part; counts = c }) × ((n : ℕ) × Chain p (now part) n head × (8 * (c .entries + n) ≤ p .nodes)) ⌝ }
-    ensures { λ r. ⌜ (r ≡ linksW p x cost most head (record { part = now (part .entry); counts = c }) .counts) × (now (part .exit) ≡ linksW p x cost most head (record { part = now (part .entry); counts = c }) .part) ⌝ }
+    requires { ⌜ Sized p (words (now part) c) × ((n : ℕ) × Chain p (now part) n head × (8 * (c .entries + n) ≤ p .nodes)) ⌝ }
+    ensures { λ r. ⌜ r ≡ linksW p x cost most head (words (now (part .entry)) c) .counts ⌝ }
+    ensures { λ r. ⌜ now (part .exit) ≡ linksW p x cost most head (words (now (part .entry)) c) .part ⌝ }
 {
     let links = p.links;
     let inputs = p.inputs;
@@ -168,8 +102,9 @@ fn put_links(
 // Expands entry x, which stands at node v: an entry for each link out of it, then a finished one
 // where it is the old start.
 fn expand(part: &mut [u32], p: Places, c: Counts, x: u32, v: u32, cost: f32, most: u32) -> Counts
-    requires { ⌜ Sized p (record { part = now part; counts = c }) × Expands p (record { part = now part; counts = c }) v ⌝ }
-    ensures { λ r. ⌜ (r ≡ expandW p most x v cost (record { part = now (part .entry); counts = c }) .counts) × (now (part .exit) ≡ expandW p most x v cost (record { part = now (part .entry); counts = c }) .part) ⌝ }
+    requires { ⌜ Sized p (words (now part) c) × Expands p (words (now part) c) v ⌝ }
+    ensures { λ r. ⌜ r ≡ expandW p most x v cost (words (now (part .entry)) c) .counts ⌝ }
+    ensures { λ r. ⌜ now (part .exit) ≡ expandW p most x v cost (words (now (part .entry)) c) .part ⌝ }
 {
     let nodes = p.nodes;
     let end = p.end;
@@ -184,8 +119,9 @@ fn expand(part: &mut [u32], p: Places, c: Counts, x: u32, v: u32, cost: f32, mos
 // Takes entry x, which the heap has given up: a finished one is listed next; a half-built one
 // visits its node, and is expanded unless that has now been taken more than n times.
 fn take(part: &mut [u32], p: Places, c: Counts, n: u32, most: u32, x: u32, e: Entry) -> Counts
-    requires { ⌜ Sized p (record { part = now part; counts = c }) × Takes p n (record { part = now part; counts = c }) e ⌝ }
-    ensures { λ r. ⌜ (r ≡ takenW p n most x e (record { part = now (part .entry); counts = c }) .counts) × (now (part .exit) ≡ takenW p n most x e (record { part = now (part .entry); counts = c }) .part) ⌝ }
+    requires { ⌜ Sized p (words (now part) c) × Takes p n (words (now part) c) e ⌝ }
+    ensures { λ r. ⌜ r ≡ takenW p n most x e (words (now (part .entry)) c) .counts ⌝ }
+    ensures { λ r. ⌜ now (part .exit) ≡ takenW p n most x e (words (now (part .entry)) c) .part ⌝ }
 {
     match e {
         Entry::Finished(_) => {
@@ -212,12 +148,13 @@ fn take(part: &mut [u32], p: Places, c: Counts, n: u32, most: u32, x: u32, e: En
 }
 
 // One removal: the heap's head is taken.
-pub fn step(part: &mut [u32], p: Places, c: Counts, n: u32, most: u32) -> Counts
-    requires { ⌜ Ready p n (record { part = now part; counts = c }) × (0 < c .heap) ⌝ }
-    ensures { λ r. ⌜ (r ≡ stepW p n most (record { part = now (part .entry); counts = c }) .counts) × (now (part .exit) ≡ stepW p n most (record { part = now (part .entry); counts = c }) .part) ⌝ }
+fn step(part: &mut [u32], p: Places, c: Counts, n: u32, most: u32) -> Counts
+    requires { ⌜ Ready p n (words (now part) c) × (0 < c .heap) ⌝ }
+    ensures { λ r. ⌜ r ≡ stepW p n most (words (now (part .entry)) c) .counts ⌝ }
+    ensures { λ r. ⌜ now (part .exit) ≡ stepW p n most (words (now (part .entry)) c) .part ⌝ }
 {
     let x = part[PLACE];
-    let e = entry_at(part, x);
+    let e = entry::entry_at(part, x);
     let heap = c.heap;
     heap::pop(part, heap as usize);
     let without = Counts {
@@ -233,7 +170,8 @@ pub fn step(part: &mut [u32], p: Places, c: Counts, n: u32, most: u32) -> Counts
 // removals than are allowed.
 pub fn n_shortest_path(part: &mut [u32], p: Places, n: u32, most: u32, allowed: u32) -> Counts
     requires { ⌜ Begins p (now part) × ((k : ℕ) → stoppedW n (afterW p n most k (begunW p (now part))) ≡ false → Ready p n (afterW p n most k (begunW p (now part)))) ⌝ }
-    ensures { λ r. ⌜ (r ≡ afterW p n most allowed (begunW p (now (part .entry))) .counts) × (now (part .exit) ≡ afterW p n most allowed (begunW p (now (part .entry))) .part) ⌝ }
+    ensures { λ r. ⌜ r ≡ afterW p n most allowed (begunW p (now (part .entry))) .counts ⌝ }
+    ensures { λ r. ⌜ now (part .exit) ≡ afterW p n most allowed (begunW p (now (part .entry))) .part ⌝ }
 {
     let none = Counts {
         entries: 0,

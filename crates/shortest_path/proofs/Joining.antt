@@ -133,6 +133,7 @@ module _ (bytes : List ℕ) (below : Below 256 bytes) (ok : inputNumber bytes �
         inside = omega (arith, rev .laid .room);
         small = omega (arith, product, few-links, few-finals);
         each = λ i h. absurd (omega arith);
+        numbers = λ i h. absurd (omega arith);
       }
 
       pub begins : Begins places part

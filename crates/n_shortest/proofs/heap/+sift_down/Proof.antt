@@ -70,7 +70,7 @@ sift-down-slice-reshared-read-less-2 t c = search needs
 sift-down-less-requires : (t : ℕ) → sift-down-lts.Need-less-requires (claims t) (sift-down-at t) sift-down.Post
 sift-down-less-requires t c κs =
     let start = c .before .before .before .before .before in
-    (start .pre .1 .0 .each (start .args .i) (omega arith), start .pre .1 .0 .each (c .before .child .result) (c .before .child .ensures .2))
+    (start .pre .1 .0 .each (start .args .i) (omega arith), start .pre .1 .0 .each (c .before .child .result) (c .before .child .ensures .1 .1))
 
 sift-down-same-length : (t : ℕ) → sift-down-lts.Need-same-length (claims t) (sift-down-at t) sift-down.Post
 sift-down-same-length t c = search needs
@@ -88,8 +88,8 @@ sift-down-sift-down-requires : (t : ℕ) → sift-down-lts.Need-sift-down-requir
 sift-down-sift-down-requires t c κs =
     let start = c .before .before .before .before .before .before .before .before .before .before .before .before in
     let child = c .before .before .before .before .before .before .before .before .child in
-    let below : child .result < start .args .n = child .ensures .2 in (
-      omega (arith, start .pre .0, child .ensures .1),
+    let below : child .result < start .args .n = child .ensures .1 .1 in (
+      omega (arith, start .pre .0, child .ensures .1 .0),
       (subst (λ (part : List ℕ). HeapFits part (start .args .n)) (sym (c .before .before .before .swap .ensures)) (fits-swap (now (start .args .part)) (start .args .n) (start .args .i) (child .result) (omega arith) below (start .pre .1 .0)), omega arith),
     )
 

@@ -50,15 +50,15 @@ less-requires c κs =
 
 returns : tie.Need-returns
 unfolding childW
-returns c = (simp (lt-ltb _ _ (c .before .before .before .before .if1 .taken), sym (c .before .less .ensures) ∙ c .if2 .taken), omega arith, omega arith)
+returns c = (simp (lt-ltb _ _ (c .before .before .before .before .if1 .taken), sym (c .before .less .ensures) ∙ c .if2 .taken), (omega arith, omega arith))
 
 returns-2 : tie.Need-returns-2
 unfolding childW
-returns-2 c = (simp (lt-ltb _ _ (c .before .before .before .before .if1 .taken), sym (c .before .less .ensures) ∙ c .if2 .left), omega arith, omega arith)
+returns-2 c = (simp (lt-ltb _ _ (c .before .before .before .before .if1 .taken), sym (c .before .less .ensures) ∙ c .if2 .left), (omega arith, omega arith))
 
 returns-3 : tie.Need-returns-3
 unfolding childW
-returns-3 c = (simp (le-ltb _ _ (c .if1 .left)), omega arith, omega arith)
+returns-3 c = (simp (le-ltb _ _ (c .if1 .left)), (omega arith, omega arith))
 
 pub child-spec : {M : Type 1} → statement M
 child-spec =

@@ -4,7 +4,7 @@ use Prim.Native.Nat.{ℕ}
 use native.Mathlib.Omega.{arith}
 use borrow.Author.Tests.{eq-eqb}
 use denote.Ref.{now}
-use Rattle.n_shortest.specs.declared.n_best.Entry.the-variants.{Finished}
+use Rattle.n_shortest.specs.declared.entry.Entry.the-variants.{Finished}
 use Rattle.slots.specs.Slots.{nothing}
 use Rattle.search_slots.specs.Slots.{headWord}
 use Rattle.n_shortest.specs.SearchWords.{Words, putW, linksW}

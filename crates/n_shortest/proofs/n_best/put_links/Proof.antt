@@ -4,7 +4,7 @@ use Prim.Native.Nat.{ℕ, _+_, _-_, _*_, _^_, _<_}
 use lib.Ieee.{Float, binary32, add}
 use lib.ListN.{length}
 use denote.Ref.{now}
-use Rattle.n_shortest.specs.declared.n_best.Entry.the-variants.{Half}
+use Rattle.n_shortest.specs.declared.entry.Entry.the-variants.{Half}
 use Rattle.search_slots.specs.Slots.{nextWord}
 use Rattle.n_shortest.specs.SearchWords.{Words, putW, linksW}
 use Rattle.n_shortest.proofs.Linking.{Going, Next, next, links-end, links-none, going-on}

@@ -3,7 +3,8 @@ use Prim.Native.Nat.{_+_, _-_}
 use native.Mathlib.Omega.{arith}
 use denote.Ref.{now}
 use Rattle.search_slots.specs.Slots.{heapWord}
-use Rattle.n_shortest.specs.SearchWords.{Words, entryW, takenW, without, Sized, Takes}
+use Rattle.n_shortest.specs.EntryWords.{entryW}
+use Rattle.n_shortest.specs.SearchWords.{Words, takenW, without, Sized, Takes}
 use Rattle.n_shortest.proofs.Putting.{sized-fits}
 use Rattle.n_shortest.proofs.Taking.{sized-without, takes-without, step-is}
 use borrow.Author.Needs.{needs}

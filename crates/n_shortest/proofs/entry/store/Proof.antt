@@ -4,9 +4,10 @@ use native.Mathlib.Omega.{arith}
 use lib.Ieee.{binary32, toBits}
 use lib.ListN.{set, length-set}
 use denote.Ref.{now}
+use Rattle.tropical_weight.specs.Single.{numberBits}
 use borrow.Author.Needs.{needs}
-use Rattle.n_shortest.proofs.n_best.store.Statement.{statement}
-use Rattle.n_shortest.proofs.n_best.store.Tie as tie
+use Rattle.n_shortest.proofs.entry.store.Statement.{statement}
+use Rattle.n_shortest.proofs.entry.store.Tie as tie
 
 mul-at : tie.Need-mul-at
 mul-at c = search needs
@@ -14,8 +15,8 @@ mul-at c = search needs
 rank-requires : tie.Need-rank-requires
 rank-requires c κs = search needs
 
-to-bits-requires : tie.Need-to-bits-requires
-to-bits-requires c κs = search needs
+to-number-bits-requires : tie.Need-to-number-bits-requires
+to-number-bits-requires c κs = search needs
 
 node-of-requires : tie.Need-node-of-requires
 node-of-requires c κs = search needs
@@ -29,8 +30,8 @@ slice-write-part c = search needs
 cost-of-requires : tie.Need-cost-of-requires
 cost-of-requires c κs = search needs
 
-to-bits-requires-2 : tie.Need-to-bits-requires-2
-to-bits-requires-2 c κs = search needs
+to-bits-requires : tie.Need-to-bits-requires
+to-bits-requires c κs = search needs
 
 add-part : tie.Need-add-part
 add-part c = search needs
@@ -76,8 +77,8 @@ returns c =
     let args = c .before .before .before .before .before .before .before .args in
     let at = 8 * args .i in
     let node = c .before .before .node-of .ensures in
-    let cost = c .to-bits2 .ensures ∙ ap (toBits binary32) (c .before .cost-of .ensures) in
-    let rank = c .before .before .before .to-bits .ensures ∙ ap (toBits binary32) (c .before .before .before .before .rank .ensures) in
+    let cost = c .to-bits .ensures ∙ ap (toBits binary32) (c .before .cost-of .ensures) in
+    let rank = c .before .before .before .to-number-bits .ensures ∙ ap numberBits (c .before .before .before .before .rank .ensures) in
     λ i. set (set (set (set (set (now (args .part)) at (node i)) (at + 1) (cost i)) (at + 2) (args .from)) (at + 3) (args .input)) (at + 4) (rank i)
 
 pub store-spec : {M : Type 1} → statement M
@@ -86,12 +87,12 @@ store-spec =
     (tie.spec
     mul-at
     rank-requires
-    to-bits-requires
+    to-number-bits-requires
     node-of-requires
     mul-part
     slice-write-part
     cost-of-requires
-    to-bits-requires-2
+    to-bits-requires
     add-part
     mul-part-2
     slice-write-part-2

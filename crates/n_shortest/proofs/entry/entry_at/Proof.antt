@@ -1,11 +1,11 @@
 use mathlib.Core.Path.{sym, ap, _∙_}
 use denote.Ref.{now}
-use Rattle.n_shortest.specs.declared.n_best.Entry.the-variants.{Half, Finished}
+use Rattle.n_shortest.specs.declared.entry.Entry.the-variants.{Half, Finished}
 use Rattle.search_slots.specs.Slots.{nodeWord}
 use Rattle.n_shortest.proofs.EntryWords.{entry-finished, entry-half}
 use borrow.Author.Needs.{needs}
-use Rattle.n_shortest.proofs.n_best.entry_at.Statement.{statement}
-use Rattle.n_shortest.proofs.n_best.entry_at.Tie as tie
+use Rattle.n_shortest.proofs.entry.entry_at.Statement.{statement}
+use Rattle.n_shortest.proofs.entry.entry_at.Tie as tie
 
 mul-at : tie.Need-mul-at
 mul-at c = search needs

@@ -2,8 +2,8 @@ use native.Mathlib.Omega.{arith}
 use denote.Ref.{now}
 use Rattle.n_shortest.proofs.EntryWords.{inside-half, rank-half}
 use borrow.Author.Needs.{needs}
-use Rattle.n_shortest.proofs.n_best.rank.Statement.{statement}
-use Rattle.n_shortest.proofs.n_best.rank.Tie as tie
+use Rattle.n_shortest.proofs.entry.rank.Statement.{statement}
+use Rattle.n_shortest.proofs.entry.rank.Tie as tie
 
 enum-known-e : tie.Need-enum-known-e
 enum-known-e c = search needs
