@@ -20,9 +20,6 @@ module _ (part : List ℕ) (nodes : ℕ) where
   pub rank-half : {e : Entry} {v : ℕ} {c d r : Float} → e ≡ Half v c → d ≡ ofBits binary32 (distanceWord part nodes v) → r ≡ add binary32 d c → r ≡ rankW part nodes e
   rank-half {e} {v} {c} q k z = z ∙ ap (λ x. add binary32 x c) k ∙ ap (rankW part nodes) (sym q)
 
-  pub rank-finished : {e : Entry} {c : Float} → e ≡ Finished c → c ≡ rankW part nodes e
-  rank-finished q = ap (rankW part nodes) (sym q)
-
 module _ (part : List ℕ) (x : ℕ) where
   abbrev cost : Float
   cost = ofBits binary32 (costWord part x)

@@ -123,9 +123,6 @@ module _ (p : Places) (size : ℕ) (r : Reversed) where
 
   -- ---- an entry put in
   module _ (s : Search) (w : Words) (t : Stores s w) (e : Put) (f : Fine (e .entry)) (free : 8 * (length (s .entries) + 1) ≤ p .nodes) where
-    abbrev E : ℕ
-    E = w .counts .entries
-
     abbrev es : List Put
     es = s .entries ++ (e ∷ [])
 

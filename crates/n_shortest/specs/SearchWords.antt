@@ -1,6 +1,6 @@
 -- Mirrors the code: the search on the words of its part. A reader need not believe it: laws tie it to Search of crate search (proofs/Running). Definitions only.
 use mathlib.Core.Path.{_≡_}
-use mathlib.Core.Bool.{Bool, _||_, cond}
+use mathlib.Core.Bool.{Bool, false, _||_, cond}
 use mathlib.Core.List.{List}
 use Prim.Native.Nat.{ℕ, zero, suc, _+_, _-_, _*_, _≤_, _<_}
 use lib.Dec.{eqb, leb, ltb}
@@ -140,6 +140,10 @@ pub record Ready (p : Places) (n : ℕ) (s : Words) : Type 0 where
   pub sized : Sized p s
   pub few-taken : s .counts .taken + 1 < 4294967296
   pub takes : Takes p n s (entryW (s .part) (heapWord (s .part) 0))
+
+-- each removal of a search from its first entry on has what it asks
+abbrev pub Runs : Places → ℕ → ℕ → List ℕ → Type 0
+Runs p n most part = (k : ℕ) → stoppedW n (afterW p n most k (begunW p part)) ≡ false → Ready p n (afterW p n most k (begunW p part))
 
 -- what the first entry asks: a slot, and one for node 0
 pub record Begins (p : Places) (part : List ℕ) : Type 0 where

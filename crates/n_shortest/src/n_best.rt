@@ -1,11 +1,10 @@
 // The search for the n cheapest readings (n_shortest_path of shortest_path.rs), on its part of the
 // work area.
 ghost use mathlib.Core.Path.{_≡_};
-ghost use mathlib.Core.Bool.{false};
 ghost use Prim.Native.Nat.{ℕ, _+_, _-_, _*_, _≤_, _<_};
 ghost use lib.ListN.{length};
 ghost use Rattle.n_shortest.specs.EntryWords.{Inside};
-ghost use Rattle.n_shortest.specs.SearchWords.{words, putW, repeated, linksW, expandW, takenW, stepW, stoppedW, afterW, begunW, Sized, Chain, Expands, Takes, Ready, Begins};
+ghost use Rattle.n_shortest.specs.SearchWords.{words, putW, repeated, linksW, expandW, takenW, stepW, afterW, begunW, Sized, Chain, Expands, Takes, Ready, Begins, Runs};
 use crate::entry;
 use crate::entry::Entry;
 use crate::heap;
@@ -169,7 +168,7 @@ fn step(part: &mut [u32], p: Places, c: Counts, n: u32, most: u32) -> Counts
 // The search, from its first entry on, until n are listed or the heap is empty; it needs no more
 // removals than are allowed.
 pub fn n_shortest_path(part: &mut [u32], p: Places, n: u32, most: u32, allowed: u32) -> Counts
-    requires { ⌜ Begins p (now part) × ((k : ℕ) → stoppedW n (afterW p n most k (begunW p (now part))) ≡ false → Ready p n (afterW p n most k (begunW p (now part)))) ⌝ }
+    requires { ⌜ Begins p (now part) × Runs p n most (now part) ⌝ }
     ensures { λ r. ⌜ r ≡ afterW p n most allowed (begunW p (now (part .entry))) .counts ⌝ }
     ensures { λ r. ⌜ now (part .exit) ≡ afterW p n most allowed (begunW p (now (part .entry))) .part ⌝ }
 {

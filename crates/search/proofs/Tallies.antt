@@ -28,9 +28,6 @@ module _ (r : Reversed) (n : ℕ) where
   pub step-listed : (s : Search) → length (step r n s .listed) ≤ suc (length (s .listed))
   step-listed s = step-one r n s .0
 
-  pub step-taken : (s : Search) → step r n s .taken ≡ suc (s .taken)
-  step-taken s = step-one r n s .1
-
   pub after-step : (k : ℕ) (s : Search) → stopped r n s ≡ false → after r (suc k) n s ≡ after r k n (step r n s)
   unfolding after
   after-step k s e = ap (λ (b : Bool). elim b [ true ↦ s | false ↦ after r k n (step r n s) ]) e

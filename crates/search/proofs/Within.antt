@@ -36,9 +36,6 @@ module _ (m : Machine) (c : Climbs m) (n : ℕ) where
   pub holds-after : (k : ℕ) → Holds (reversed m) n size (after (reversed m) k n (begun size))
   holds-after k = ran-begun m c n k .holds
 
-  pub few-after : (k : ℕ) → length (after (reversed m) k n (begun size) .listed) ≤ n
-  few-after k = ran-begun m c n k .few
-
   module _ (s : Search) (h : Holds (reversed m) n size s) where
     pub put-room : length (s .entries) ≤ mostTaken m n
     put-room = omega (arith, trails-few m c n s h, h .mirrors .size)

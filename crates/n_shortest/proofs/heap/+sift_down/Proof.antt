@@ -70,7 +70,9 @@ sift-down-slice-reshared-read-less-2 t c = search needs
 sift-down-less-requires : (t : ℕ) → sift-down-lts.Need-less-requires (claims t) (sift-down-at t) sift-down.Post
 sift-down-less-requires t c κs =
     let start = c .before .before .before .before .before in
-    (start .pre .1 .0 .each (start .args .i) (omega arith), start .pre .1 .0 .each (c .before .child .result) (c .before .child .ensures .1 .1))
+    let above = start .pre .1 .0 .each (start .args .i) (omega arith) in
+    let below = start .pre .1 .0 .each (c .before .child .result) (c .before .child .ensures .1 .1) in
+    search (above, below)
 
 sift-down-same-length : (t : ℕ) → sift-down-lts.Need-same-length (claims t) (sift-down-at t) sift-down.Post
 sift-down-same-length t c = search needs

@@ -46,7 +46,9 @@ shared-slice-read-less-2 c = search needs
 less-requires : tie.Need-less-requires
 less-requires c κs =
     let start = c .before .before .before .before in
-    (start .pre .0 .each (2 * start .args .i + 2) (omega arith), start .pre .0 .each (2 * start .args .i + 1) (omega arith))
+    let right = start .pre .0 .each (2 * start .args .i + 2) (omega arith) in
+    let left = start .pre .0 .each (2 * start .args .i + 1) (omega arith) in
+    search (right, left)
 
 returns : tie.Need-returns
 unfolding childW
