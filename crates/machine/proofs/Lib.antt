@@ -14,3 +14,4 @@ pub mod Accepted
 pub mod Testing
 pub mod SheetFields
 pub mod Bench
+pub mod FinalCount

@@ -5,3 +5,4 @@ pub mod Parents
 pub mod Demand
 pub mod Input
 pub mod Answers
+pub mod Finals

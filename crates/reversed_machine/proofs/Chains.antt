@@ -14,15 +14,16 @@ use borrow.Author.Tests.{eq-eqb, ne-eqb, eqb-true, eqb-false, lt-ltb, le-ltb}
 use Rattle.tropical_weight.specs.Tropical.{Tropical}
 use Rattle.sheet.specs.Below.{sumBelow}
 use Rattle.sheet.specs.Words.{word}
-use Rattle.sheet.specs.Records.{countAt, firstLink}
+use Rattle.sheet.specs.Records.{countAt, firstLink, markAt, finalAt}
 use Rattle.sheet.specs.Machine.{Machine, weightOf}
 use Rattle.sheet.proofs.Below.{sum-mono}
 use Rattle.machine.specs.Readings.{noLink, link, final}
 use Rattle.search.specs.Reversed.{outOfZero, linksInto}
 use Rattle.slots.specs.Slots.{nothing}
 use Rattle.search_slots.specs.Slots.{headWord, nextWord, weightWord, chainWord}
-use Rattle.reversed_machine.specs.ReverseWords.{markAt, finalAt, finalCount, linkPut, linksPut, linksReversed, finalPut, finalsReversed, chained, backOf}
-use Rattle.reversed_machine.proofs.Passing.{count-plain, count-final, count-mono}
+use Rattle.machine.specs.Finals.{finalCount}
+use Rattle.reversed_machine.specs.ReverseWords.{linkPut, linksPut, linksReversed, finalPut, finalsReversed, chained, backOf}
+use Rattle.machine.proofs.FinalCount.{count-plain, count-final, count-mono}
 use Rattle.reversed_machine.proofs.Granted.{Tells}
 use Rattle.reversed_machine.proofs.Fronts.{front-size, front-next, front-weight, front-chain, front-head, front-spared, Lists, Same, lists-lower, lists-kept, lists-first, Filled, filled-kept, filled-by}
 

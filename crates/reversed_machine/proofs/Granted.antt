@@ -14,7 +14,7 @@ use Rattle.tropical_weight.specs.Grid.{ofT}
 use Rattle.sheet.specs.Below.{allBelow, sumBelow, listBelow}
 use Rattle.sheet.specs.Words.{word}
 use Rattle.sheet.specs.declared.tr.Trailer.{Trailer}
-use Rattle.sheet.specs.Records.{trailerAt, countAt, firstLink}
+use Rattle.sheet.specs.Records.{trailerAt, countAt, firstLink, markAt, finalAt}
 use Rattle.sheet.specs.Sheet.{Parts, partsOf, linkCount, nodeCount, linkBits, mark, finalBits, onGridBits, weightsFit, statedLinks, statedNodes}
 use Rattle.sheet.specs.Machine.{Machine, machineOf, weightOf, finalOf}
 use Rattle.sheet.proofs.Apart.{both}
@@ -26,7 +26,7 @@ use Rattle.machine.specs.Readings.{link, final}
 use Rattle.machine.proofs.Accepted.{passes, input-read, next-at, few-nodes, few-links, link-at, link-grid, weight-value}
 use Rattle.machine.proofs.Testing.{in-sheet, counts-total}
 use Rattle.shortest_distance.proofs.Accepted.{reads, nodes-are, links-are}
-use Rattle.reversed_machine.specs.ReverseWords.{markAt, finalAt, finalsAt}
+use Rattle.machine.specs.Finals.{finalsAt}
 
 pub record Grants (bytes : List ℕ) (links nodes : ℕ) : Type 0 where
   pub laid-out : 16 * links + 12 * nodes ≤ length bytes

@@ -1,4 +1,4 @@
--- The passes of the reversal, a turn at a time, and the number of final nodes. Assumes nothing.
+-- The passes of the reversal, a turn at a time. Assumes nothing.
 use mathlib.Core.Path.{_≡_, refl, sym, ap, _∙_}
 use mathlib.Core.Logic.{_⊎_, inl, inr}
 use mathlib.Core.Bool.{Bool, true, false, cond}
@@ -17,65 +17,17 @@ use Rattle.tropical_weight.specs.Single.{lesser}
 use Rattle.sheet.specs.Below.{sumBelow, listBelow}
 use Rattle.sheet.specs.Words.{word}
 use Rattle.sheet.specs.Machine.{weightOf, finalOf}
-use Rattle.sheet.specs.Records.{countAt, firstLink}
+use Rattle.sheet.specs.Records.{countAt, firstLink, markAt, finalAt}
 use Rattle.machine.specs.Readings.{marked}
 use Rattle.slots.specs.Slots.{nothing}
 use Rattle.search_slots.specs.Slots.{distanceWord}
-use Rattle.reversed_machine.specs.ReverseWords.{markAt, finalAt, finalsAt, finalCount, headsCleared, chained, linksPut, linksReversed, finalsReversed, leastTotal, chainsPut, reversedWords}
+use Rattle.machine.specs.Finals.{finalsAt, finalCount}
+use Rattle.reversed_machine.specs.ReverseWords.{headsCleared, chained, linksPut, linksReversed, finalsReversed, leastTotal, chainsPut, reversedWords}
 
 -- ---- heads
 pub cleared-next : (nodes q : ℕ) (part : List ℕ) → headsCleared nodes (q + 1) part ≡ set (set (headsCleared nodes q part) (nodes + 8 * q + 2) nothing) (nodes + 8 * q + 3) 0
 unfolding headsCleared
 cleared-next nodes q part = ap (λ (k : ℕ). headsCleared nodes k part) (add-one q)
-
--- ---- the number of final nodes
-marked-append : (fs gs : List (Option Tropical)) → marked (fs ++ gs) ≡ marked fs + marked gs
-unfolding marked
-marked-append [] gs = omega arith
-marked-append (none ∷ fs) gs = marked-append fs gs
-marked-append (some w ∷ fs) gs = omega (arith, marked-append fs gs)
-
-module _ (bytes : List ℕ) (T : ℕ) where
-  pub count-none : finalCount bytes T 0 ≡ 0
-  unfolding finalsAt listBelow marked
-  count-none = refl
-
-  -- node v, by its mark
-  count-next : (v : ℕ) (b : Bool) → eqb (markAt bytes T v) 0 ≡ b → finalCount bytes T (suc v) ≡ finalCount bytes T v + cond b 0 1
-  unfolding finalsAt listBelow marked
-  count-next v b e =
-      marked-append (finalsAt bytes T v) (finalOf (markAt bytes T v) (finalAt bytes T v) ∷ [])
-      ∙ ap (λ (t : Bool). finalCount bytes T v + marked (cond t none (some (weightOf (finalAt bytes T v))) ∷ [])) e
-      ∙ ap (λ (n : ℕ). finalCount bytes T v + n) (one b)
-    where
-      one : (b : Bool) → marked (cond b none (some (weightOf (finalAt bytes T v))) ∷ []) ≡ cond b 0 1
-      one true = refl
-      one false = refl
-
-  -- where u is the node after v
-  module _ (v u : ℕ) (after : u ≡ suc v) where
-    pub count-plain : markAt bytes T v ≡ 0 → finalCount bytes T u ≡ finalCount bytes T v
-    count-plain e = ap (finalCount bytes T) after ∙ omega (arith, count-next v true (eq-eqb (markAt bytes T v) 0 e))
-
-    pub count-final : (markAt bytes T v ≡ 0 → ⊥) → finalCount bytes T u ≡ finalCount bytes T v + 1
-    count-final n = ap (finalCount bytes T) after ∙ omega (arith, count-next v false (ne-eqb (markAt bytes T v) 0 n))
-
-  pub count-most : (n : ℕ) → finalCount bytes T n ≤ n
-  count-most zero = omega (arith, count-none)
-  count-most (suc n) = go (eqb (markAt bytes T n) 0) refl (count-most n)
-    where
-      go : (b : Bool) → eqb (markAt bytes T n) 0 ≡ b → finalCount bytes T n ≤ n → finalCount bytes T (suc n) ≤ suc n
-      go true e h = omega (arith, count-next n true e)
-      go false e h = omega (arith, count-next n false e)
-
-  -- no more among the first nodes than among all
-  pub count-mono : (v n : ℕ) → v ≤ n → finalCount bytes T v ≤ finalCount bytes T n
-  count-mono v zero h = omega (arith, ap (finalCount bytes T) (let z : v ≡ 0 = omega arith in z))
-  count-mono v (suc n) h = go (eq-or-lt-of-le h) (count-mono v n)
-    where
-      go : (v ≡ suc n) ⊎ (v < suc n) → (v ≤ n → finalCount bytes T v ≤ finalCount bytes T n) → finalCount bytes T v ≤ finalCount bytes T (suc n)
-      go (inl e) r = le-of-eq (ap (finalCount bytes T) e)
-      go (inr l) r = let k : finalCount bytes T v ≤ finalCount bytes T n = r (omega arith) in omega (arith, count-next n (eqb (markAt bytes T n) 0) refl)
 
 -- ---- links and finals, from the last down
 pub first-below : (bytes : List ℕ) (T v : ℕ) → 0 < v → firstLink bytes T v ≡ firstLink bytes T (v - 1) + countAt bytes T (v - 1)

@@ -20,9 +20,10 @@ use Rattle.machine.specs.Readings.{marked}
 use Rattle.shortest_distance.proofs.Accepted.{reads, nodes-are, links-are}
 use Rattle.slots.specs.Slots.{nothing}
 use Rattle.search_slots.specs.Slots.{distanceWord, headWord, visitsWord, chainWord}
-use Rattle.reversed_machine.specs.ReverseWords.{finalCount, headsCleared, linksReversed, finalsReversed, leastTotal, chainsPut, reversedWords, chainOf, backOf}
+use Rattle.machine.specs.Finals.{finalCount}
+use Rattle.reversed_machine.specs.ReverseWords.{headsCleared, linksReversed, finalsReversed, leastTotal, chainsPut, reversedWords, chainOf, backOf}
 use Rattle.reversed_machine.specs.Laid.{backCount, Measured, Laid, Reversal}
-use Rattle.reversed_machine.proofs.Passing.{count-none, count-most}
+use Rattle.machine.proofs.FinalCount.{count-none, count-most}
 use Rattle.reversed_machine.proofs.Granted.{stated, Tells, tells}
 use Rattle.reversed_machine.proofs.Fronts.{Lists, Same, lists-lower, lists-kept, lists-length, lists-read, lists-first, Filled, filled-kept}
 use Rattle.reversed_machine.proofs.Chains.{Passed, Ended, links-reversed, finals-reversed}

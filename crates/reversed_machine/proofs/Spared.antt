@@ -12,13 +12,14 @@ use lib.Seq.{getD-set-same, getD-set-other}
 use borrow.Author.Tests.{eqb-false}
 use Rattle.sheet.specs.Below.{sumBelow}
 use Rattle.sheet.specs.Words.{word}
-use Rattle.sheet.specs.Records.{countAt, firstLink}
+use Rattle.sheet.specs.Records.{countAt, firstLink, markAt, finalAt}
 use Rattle.sheet.specs.Machine.{Machine}
 use Rattle.sheet.proofs.Below.{sum-mono}
 use Rattle.slots.specs.Slots.{nothing}
 use Rattle.search_slots.specs.Slots.{headWord, visitsWord}
-use Rattle.reversed_machine.specs.ReverseWords.{markAt, finalAt, finalCount, headsCleared, chained, linkPut, linksPut, linksReversed, finalPut, finalsReversed}
-use Rattle.reversed_machine.proofs.Passing.{count-final, count-mono}
+use Rattle.machine.specs.Finals.{finalCount}
+use Rattle.reversed_machine.specs.ReverseWords.{headsCleared, chained, linkPut, linksPut, linksReversed, finalPut, finalsReversed}
+use Rattle.machine.proofs.FinalCount.{count-final, count-mono}
 use Rattle.reversed_machine.proofs.Granted.{Tells}
 
 -- ---- heads cleared

@@ -26,7 +26,8 @@ use Rattle.machine.proofs.Lists.{mem-below}
 use Rattle.machine.proofs.Sums.{plusAll-append, plusAll-within}
 use Rattle.machine.proofs.Bounds.{dist-within, dist-limit}
 use Rattle.search_slots.specs.Slots.{distanceWord}
-use Rattle.reversed_machine.specs.ReverseWords.{markAt, finalAt, totalWith, leastTotal}
+use Rattle.sheet.specs.Records.{markAt, finalAt}
+use Rattle.reversed_machine.specs.ReverseWords.{totalWith, leastTotal}
 use Rattle.reversed_machine.proofs.Granted.{Tells}
 
 covered : unit ≤ finest

@@ -1,39 +1,22 @@
 -- Mirrors the code: the reversed machine in the slots, word by word. A reader need not believe it: laws tie it to Reversed of crate search (proofs/Reversals).
 -- Definitions only.
 use mathlib.Core.Bool.{false, cond}
-use mathlib.Core.Option.{Option, none, some}
+use mathlib.Core.Option.{none, some}
 use mathlib.Core.List.{List, [], _∷_}
 use Prim.Native.Nat.{ℕ, zero, suc, _+_, _*_}
 use lib.Dec.{eqb, ltb}
 use lib.ListN.{getD, set}
 use lib.Ieee as Ieee
 use lib.Ieee.{Float, binary32, add, ofBits, toBits}
-use Rattle.tropical_weight.specs.Tropical.{Tropical}
 use Rattle.tropical_weight.specs.Single.{lesser}
-use Rattle.sheet.specs.Below.{listBelow}
 use Rattle.sheet.specs.Words.{word}
-use Rattle.sheet.specs.Records.{countAt, firstLink}
-use Rattle.sheet.specs.Machine.{weightOf, finalOf}
+use Rattle.sheet.specs.Records.{countAt, firstLink, markAt, finalAt}
+use Rattle.sheet.specs.Machine.{weightOf}
 use Rattle.search.specs.Reversed.{Back}
 use Rattle.machine.specs.Readings.{marked}
+use Rattle.machine.specs.Finals.{finalsAt, finalCount}
 use Rattle.slots.specs.Slots.{nothing}
 use Rattle.search_slots.specs.Slots.{distanceWord, nextWord, weightWord, chainWord}
-
--- ---- the nodes of a sheet with so many links
-abbrev pub markAt : List ℕ → ℕ → ℕ → ℕ
-markAt bytes links v = word bytes (16 * links + 12 * v + 4)
-
-abbrev pub finalAt : List ℕ → ℕ → ℕ → ℕ
-finalAt bytes links v = word bytes (16 * links + 12 * v + 8)
-
--- the final weights of the first n
-unfoldable pub finalsAt : List ℕ → ℕ → ℕ → List (Option Tropical)
-unfolding listBelow
-finalsAt bytes links n = listBelow n (λ v. finalOf (markAt bytes links v) (finalAt bytes links v))
-
--- how many of them have mark 1
-abbrev pub finalCount : List ℕ → ℕ → ℕ → ℕ
-finalCount bytes links n = marked (finalsAt bytes links n)
 
 -- ---- heads
 -- the chains of the first n nodes empty, and none of these taken

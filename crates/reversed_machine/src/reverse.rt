@@ -8,7 +8,8 @@ ghost use Rattle.sheet.specs.Words.{word as wordAt};
 ghost use Rattle.sheet.specs.Records.{countAt, trailerAt};
 ghost use Rattle.machine.specs.Input.{inputNumber};
 ghost use Rattle.reversed_machine.specs.Laid.{MeasuredIn};
-ghost use Rattle.reversed_machine.specs.ReverseWords.{finalCount, headsCleared, chained, linksPut, linksReversed, finalsReversed, leastTotal, reversedWords};
+ghost use Rattle.machine.specs.Finals.{finalCount};
+ghost use Rattle.reversed_machine.specs.ReverseWords.{headsCleared, chained, linksPut, linksReversed, finalsReversed, leastTotal, reversedWords};
 use search_slots::CHAIN;
 use search_slots::HEAD;
 use search_slots::VISITS;
@@ -100,22 +101,6 @@ fn reverse_links(
         first -= count;
         reverse_node(sheet, first, count, v, part, heads, chains);
     }
-}
-
-// How many of the nodes have mark 1.
-pub fn count_finals(sheet: &[u8], links: u32, nodes: u32) -> u32
-    requires { ⌜ 16 * links + 12 * nodes ≤ length (now sheet) ⌝ }
-    ensures { λ r. ⌜ (r ≡ finalCount (now (sheet .entry)) links nodes) × (r ≤ nodes) ⌝ }
-{
-    let mut count = 0u32;
-    let mut v = 0u32;
-    while v < nodes {
-        if word(sheet, 16 * (links as usize) + 12 * (v as usize) + 4) != 0 {
-            count += 1;
-        }
-        v += 1;
-    }
-    count
 }
 
 // The final nodes, so many, from the last to the first: the chain of node 0 leads to each with its

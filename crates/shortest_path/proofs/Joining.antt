@@ -39,7 +39,7 @@ use Rattle.slots.specs.Slots.{nothing, infinite}
 use Rattle.search_slots.specs.Slots.{listedWord, distanceWord, visitsWord}
 use Rattle.list_answer.proofs.SlotsNeeded.{slots-many}
 use Rattle.list_answer.specs.ListAnswer.{endWord, slotsOf, slotsFor, listedIn, listedOver}
-use Rattle.reversed_machine.specs.ReverseWords.{finalsAt, finalCount}
+use Rattle.machine.specs.Finals.{finalsAt, finalCount}
 use Rattle.reversed_machine.specs.Laid.{Reversal}
 use Rattle.shortest_distance.proofs.Accepted.{links-are, nodes-are}
 use Rattle.reversed_machine.proofs.Granted.{tells}

@@ -6,7 +6,6 @@ ghost use Rattle.machine.specs.Input.{inputNumber};
 ghost use Rattle.shortest_path.specs.Outcome.{listAnswer, workAfter, resultAfter};
 ghost use Rattle.shortest_path.specs.Promise.{Promised};
 use list_answer::Listed;
-use reversed_machine::reverse;
 use sheet::read::Tested;
 use sheet::tr::Trailer;
 use slots::SLOT;
@@ -22,7 +21,7 @@ fn lists_of(sheet: &[u8], t: Trailer, n: u32, work: &mut [u32], result: &mut [u8
     if LIST_LIMIT < n {
         return Listed::Refused(7);
     }
-    let finals = reverse::count_finals(sheet, t.links, t.nodes);
+    let finals = machine::finals::count_finals(sheet, t.links, t.nodes);
     let needed = list_answer::slots_needed(t.nodes, t.links, finals, n);
     if work.len() / SLOT < (needed as usize) {
         return Listed::Refused(20);

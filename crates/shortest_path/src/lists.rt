@@ -8,7 +8,7 @@ ghost use Rattle.sheet.specs.Machine.{machineOf};
 ghost use Rattle.sheet.specs.Records.{trailerAt};
 ghost use Rattle.machine.specs.Input.{inputNumber};
 ghost use Rattle.search.specs.ListMachine.{resultFor};
-ghost use Rattle.reversed_machine.specs.ReverseWords.{finalCount};
+ghost use Rattle.machine.specs.Finals.{finalCount};
 ghost use Rattle.list_answer.specs.ListAnswer.{endWord, slotsFor, listedIn, listedOver};
 use list_answer::Listed;
 use list_machine::trim;

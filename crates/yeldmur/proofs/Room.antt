@@ -16,7 +16,7 @@ use Rattle.machine.specs.Input.{inputNumber}
 use Rattle.search.specs.ListMachine.{resultFor, resultBytes}
 use Rattle.search.proofs.Lists.{Accepted, accepted}
 use Rattle.search.proofs.Sizes.{result-length, zero-holds, one-holds, many-holds}
-use Rattle.reversed_machine.specs.ReverseWords.{finalCount}
+use Rattle.machine.specs.Finals.{finalCount}
 use Rattle.shortest_path.specs.Outcome.{answerOf, slotsNeeded, testedNumber}
 use Rattle.shortest_path.proofs.Joining as Joining
 use Rattle.shortest_path.proofs.Outcomes.{tested-zero, number-areas}

@@ -16,7 +16,6 @@ ghost use Rattle.shortest_path.specs.Promise.{Keeps};
 ghost use Rattle.yeldmur.specs.Told.{writtenTold, distancesTold, listedTold};
 ghost use Rattle.yeldmur.specs.Areas.{bytesOf, bytesEnough, Enough};
 use list_answer::Listed;
-use reversed_machine::reverse;
 use sheet::read::Tested;
 use sheet::write::Written;
 use shortest_distance::Distances;
@@ -131,7 +130,7 @@ pub extern "C" fn yeldmur_areas(sheet: &[u8], n: u32, slots: &mut u64, bytes: &m
             if LIST_LIMIT < n {
                 return 7;
             }
-            let finals = reverse::count_finals(sheet, t.links, t.nodes);
+            let finals = machine::finals::count_finals(sheet, t.links, t.nodes);
             *slots = list_answer::slots_needed(t.nodes, t.links, finals, n) as u64;
             *bytes = bytes_enough(t.nodes, t.links, finals, n) as u64;
             0

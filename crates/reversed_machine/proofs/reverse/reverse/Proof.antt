@@ -4,7 +4,8 @@ use native.Mathlib.Omega.{arith}
 use lib.ListN.{length-set}
 use denote.Ref.{now}
 use borrow.Author.Needs.{needs}
-use Rattle.reversed_machine.proofs.Passing.{count-most, passes-made}
+use Rattle.machine.proofs.FinalCount.{count-most}
+use Rattle.reversed_machine.proofs.Passing.{passes-made}
 use Rattle.reversed_machine.proofs.Granted.{Grants, granted}
 use Rattle.reversed_machine.proofs.reverse.reverse.Statement.{statement}
 use Rattle.reversed_machine.proofs.reverse.reverse.Tie as tie

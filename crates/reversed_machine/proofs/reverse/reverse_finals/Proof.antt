@@ -4,8 +4,10 @@ use native.Mathlib.Omega.{arith}
 use lib.ListN.{length}
 use denote.Ref.{now}
 use borrow.Author.Needs.{needs}
-use Rattle.reversed_machine.specs.ReverseWords.{finalCount, finalsReversed}
-use Rattle.reversed_machine.proofs.Passing.{count-plain, count-final, count-mono, finals-plain, finals-again}
+use Rattle.machine.specs.Finals.{finalCount}
+use Rattle.reversed_machine.specs.ReverseWords.{finalsReversed}
+use Rattle.machine.proofs.FinalCount.{count-plain, count-final, count-mono}
+use Rattle.reversed_machine.proofs.Passing.{finals-plain, finals-again}
 use Rattle.reversed_machine.proofs.reverse.reverse_finals.Statement.{statement}
 use Rattle.reversed_machine.proofs.reverse.reverse_finals.Tie as tie
 

@@ -4,10 +4,10 @@ use Prim.Native.Nat.{suc, _+_, _-_, _≤_}
 use native.Mathlib.Omega.{arith}
 use denote.Ref.{now}
 use borrow.Author.Needs.{needs}
-use Rattle.reversed_machine.specs.ReverseWords.{finalCount}
-use Rattle.reversed_machine.proofs.Passing.{count-none, count-plain, count-final}
-use Rattle.reversed_machine.proofs.reverse.count_finals.Statement.{statement}
-use Rattle.reversed_machine.proofs.reverse.count_finals.Tie as tie
+use Rattle.machine.specs.Finals.{finalCount}
+use Rattle.machine.proofs.FinalCount.{count-none, count-plain, count-final}
+use Rattle.machine.proofs.finals.count_finals.Statement.{statement}
+use Rattle.machine.proofs.finals.count_finals.Tie as tie
 
 abbrev Inv-loop : tie.InvT-loop
 Inv-loop sheet links nodes count₀ v₀ count v =
