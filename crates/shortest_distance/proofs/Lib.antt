@@ -6,5 +6,6 @@ pub mod Rows
 pub mod Accepted
 pub mod Starts
 pub mod Outcomes
+pub mod Promises
 pub mod Making
 pub mod Bench

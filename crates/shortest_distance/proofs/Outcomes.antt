@@ -37,7 +37,7 @@ use Rattle.shortest_distance.proofs.Starts.{height-is}
 
 -- ---- the number, by what was tested
 module _ (bytes : List ℕ) (words : ℕ) (room : ℕ) where
-  number-input : (inputNumber bytes ≡ 0 → ⊥) → distanceNumber bytes words room ≡ inputNumber bytes
+  pub number-input : (inputNumber bytes ≡ 0 → ⊥) → distanceNumber bytes words room ≡ inputNumber bytes
   unfolding distanceNumber
   number-input n = ap (λ (b : Bool). cond (not b) (inputNumber bytes) (cond (ltb (words / 8) (slotsNeeded bytes)) 20 (cond (ltb room (length (answerOf bytes))) 21 0))) (ne-eqb (inputNumber bytes) 0 n)
 

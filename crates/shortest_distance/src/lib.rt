@@ -8,8 +8,10 @@ ghost use Rattle.machine.specs.Input.{inputNumber};
 ghost use Rattle.shortest_distance.specs.NodeSlots.{distanceWords};
 ghost use Rattle.shortest_distance.specs.Handed.{handed, handedOver};
 ghost use Rattle.shortest_distance.specs.Outcome.{distanceAnswer, workAfter, resultAfter};
+ghost use Rattle.shortest_distance.specs.Promise.{Promised};
 ghost use Rattle.shortest_distance.specs.Sound.{Made};
 use sheet::read::Tested;
+use sheet::refusal;
 use sheet::tr::Trailer;
 use slots::SLOT;
 
@@ -25,10 +27,11 @@ pub enum Distances {
 // Hands the distances of the first nodes over, where the result area has room for them.
 fn hand_over(work: &[u32], count: u32, result: &mut [u8]) -> Distances
     requires { ⌜ 8 * count ≤ length (now work) ⌝ }
-    ensures { λ r. ⌜ (r ≡ handed count (length (now (result .entry)))) × (now (result .exit) ≡ handedOver (distanceWords (now (work .entry)) count) (now (result .entry))) ⌝ }
+    ensures { λ r. ⌜ r ≡ handed count (length (now (result .entry))) ⌝ }
+    ensures { λ _. ⌜ now (result .exit) ≡ handedOver (distanceWords (now (work .entry)) count) (now (result .entry)) ⌝ }
 {
     if result.len() < 4 * (count as usize) {
-        return Distances::Refused(21);
+        return Distances::Refused(refusal::RESULT);
     }
     node_slots::put_distances(work, count, result);
     Distances::Count(count)
@@ -45,7 +48,7 @@ pub fn make(sheet: &[u8], t: Trailer, work: &mut [u32])
     node_slots::prepare(sheet, links, nodes, work);
     if start < nodes {
         work[SLOT * (start as usize)] = 0;
-        let q = state_order_queue::put(state_order_queue::new(), start);
+        let q = state_order_queue::enqueue_untested(state_order_queue::new(), start);
         relax::relax_heads(sheet, links, nodes, work, q);
     }
 }
@@ -53,11 +56,13 @@ pub fn make(sheet: &[u8], t: Trailer, work: &mut [u32])
 // Distances of an accepted sheet: the tests of the areas, 20 and 21, and the answer.
 fn distances_of(sheet: &[u8], t: Trailer, work: &mut [u32], result: &mut [u8]) -> Distances
     requires { ⌜ (inputNumber (now sheet) ≡ 0) × (t ≡ trailerAt (now sheet)) ⌝ }
-    ensures { λ r. ⌜ (r ≡ distanceAnswer (now (sheet .entry)) (length (now (work .entry))) (length (now (result .entry)))) × (now (work .exit) ≡ workAfter (now (sheet .entry)) (now (work .entry)) (length (now (result .entry)))) × (now (result .exit) ≡ resultAfter (now (sheet .entry)) (length (now (work .entry))) (now (result .entry))) ⌝ }
+    ensures { λ r. ⌜ r ≡ distanceAnswer (now (sheet .entry)) (length (now (work .entry))) (length (now (result .entry))) ⌝ }
+    ensures { λ _. ⌜ now (work .exit) ≡ workAfter (now (sheet .entry)) (now (work .entry)) (length (now (result .entry))) ⌝ }
+    ensures { λ _. ⌜ now (result .exit) ≡ resultAfter (now (sheet .entry)) (length (now (work .entry))) (now (result .entry)) ⌝ }
 {
     let nodes = t.nodes;
     if work.len() / SLOT < (nodes as usize) {
-        return Distances::Refused(20);
+        return Distances::Refused(refusal::WORK);
     }
     make(sheet, t, work);
     let answer = hand_over(work, node_slots::height(work, nodes), result);
@@ -69,7 +74,10 @@ fn distances_of(sheet: &[u8], t: Trailer, work: &mut [u32], result: &mut [u8]) -
 // A work slot is eight words; the slots of the nodes are left zero unless the sheet or the count of
 // slots is refused.
 pub fn shortest_distance(sheet: &[u8], work: &mut [u32], result: &mut [u8]) -> Distances
-    ensures { λ r. ⌜ (r ≡ distanceAnswer (now (sheet .entry)) (length (now (work .entry))) (length (now (result .entry)))) × (now (work .exit) ≡ workAfter (now (sheet .entry)) (now (work .entry)) (length (now (result .entry)))) × (now (result .exit) ≡ resultAfter (now (sheet .entry)) (length (now (work .entry))) (now (result .entry))) ⌝ }
+    ensures { λ r. ⌜ r ≡ distanceAnswer (now (sheet .entry)) (length (now (work .entry))) (length (now (result .entry))) ⌝ }
+    ensures { λ _. ⌜ now (work .exit) ≡ workAfter (now (sheet .entry)) (now (work .entry)) (length (now (result .entry))) ⌝ }
+    ensures { λ _. ⌜ now (result .exit) ≡ resultAfter (now (sheet .entry)) (length (now (work .entry))) (now (result .entry)) ⌝ }
+    ensures { λ r. ⌜ Promised (now (sheet .entry)) r (now (result .exit)) ⌝ }
 {
     match machine::input::input(sheet) {
         Tested::Refused(k) => Distances::Refused(k),

@@ -15,7 +15,8 @@ use state_order_queue::Queue;
 // strict comparison of exact sums is right in every rounding mode. Answers whether it is its first.
 fn relax_link(k: Link, distance: f32, work: &mut [u32]) -> bool
     requires { ⌜ 8 * k .nextstate < length (now work) ⌝ }
-    ensures { λ r. ⌜ (r ≡ reaches (distanceWord (now (work .entry)) (k .nextstate)) distance (k .weight)) × (now (work .exit) ≡ relaxedWords k distance (now (work .entry))) ⌝ }
+    ensures { λ r. ⌜ r ≡ reaches (distanceWord (now (work .entry)) (k .nextstate)) distance (k .weight) ⌝ }
+    ensures { λ _. ⌜ now (work .exit) ≡ relaxedWords k distance (now (work .entry)) ⌝ }
 {
     let at = SLOT * (k.nextstate as usize);
     let word = work[at];

@@ -1,17 +1,18 @@
 -- What the tests of a record say of its ends, and what putting in and taking out make of it where the flag is stored first. Assumes nothing.
 use mathlib.Core.Path.{_≡_, refl, sym, ap, _∙_}
-use mathlib.Core.Bool.{Bool, true, false, cond}
+use mathlib.Core.Bool.{Bool, true, false, _&&_, cond}
+use mathlib.Core.List.{List}
 use Prim.Native.Nat.{ℕ, _+_, _-_, _≤_, _<_}
 use native.Mathlib.Omega.{arith}
 use lib.Dec.{ltb}
-use lib.ListN.{set}
+use lib.ListN.{getD, set}
 use lib.Seq.{set-getD, set-set}
 use borrow.Author.Tests.{ltb-true, ltb-false, leb-true, le-ltb}
 use Rattle.tropical_weight.specs.Limits.{nodeLimit}
 use Rattle.state_order_queue.specs.declared.Back.{Back}
 use Rattle.state_order_queue.specs.declared.Back.the-variants.{None, At}
 use Rattle.state_order_queue.specs.declared.Queue.{Queue}
-use Rattle.state_order_queue.specs.Queues.{firstSet, nextFront, holds, emptyFrom, isEmpty, endsFit, isValid, frontWith, backWith, enqueued, withoutFront, dequeued}
+use Rattle.state_order_queue.specs.Queues.{firstSet, nextFront, holds, emptyFrom, isEmpty, endsFit, endsSet, isValid, frontWith, backWith, enqueued, withoutFront, dequeued}
 use Rattle.sheet.proofs.Apart.{both, not-both}
 
 -- the ends of a record with a back
@@ -25,6 +26,10 @@ filled-bound front b back e h l = (ltb-false b front (rw e at l), ends-bound fro
 pub front-bound : (front : ℕ) (back : Back) → endsFit front back ≡ true → emptyFrom front back ≡ false → front < nodeLimit
 front-bound front None h l = absurd (not-both refl l)
 front-bound front (At b) h l = let n = filled-bound front b (At b) refl h l in omega arith
+
+-- where front is not above back, the flags at both are asked for
+pub ends-flags : (front b : ℕ) (back : Back) (flags : List Bool) → back ≡ At b → front ≤ b → endsSet front back flags ≡ getD flags front false && getD flags b false
+ends-flags front b back flags e l = simp (e, le-ltb b front l)
 
 -- the ends of a valid record fit
 pub valid-ends : (q : Queue) → isValid q ≡ true → endsFit (q .front) (q .back) ≡ true

@@ -1,24 +1,23 @@
 // The queue of nodes in their order (state_order_queue.rs, queue.rs of rustfst), as one record.
 //
 // Each call takes the record by value, tests it and hands it back: with refusal 22 it is unchanged.
-// The calls without a test are for a caller that keeps the record valid. Where it stores a flag in
-// its own record first, the record goes by value through `enqueue_flagged` and `dequeue_cleared`,
-// which move its ends alone: that compiles to no copy of the flags.
+// The functions without a test are for a caller that keeps the record valid. Relaxation stores a
+// flag in its own record first, and the record then goes by value through `enqueue_flagged` and
+// `dequeue_cleared`, which move its ends alone: that compiles to no copy of the flags. `enqueue` and
+// `dequeue` go through the same two.
 ghost use mathlib.Core.Path.{_≡_};
-ghost use mathlib.Core.Bool.{true, false, _&&_};
+ghost use mathlib.Core.Bool.{true, false};
 ghost use Prim.Native.Nat.{_-_, _≤_, _<_};
 ghost use Rattle.tropical_weight.specs.Limits.{nodeLimit};
-ghost use Rattle.state_order_queue.specs.Queues.{firstSet, nextFront, holds, emptyFrom, endsFit, endsSet, isInside, flagsInside, isValid, emptied, frontWith, backWith, enqueued, dequeued};
+ghost use Rattle.state_order_queue.specs.Queues.{firstSet, nextFront, holds, emptyFrom, isEmpty, endsFit, endsSet, isInside, flagsInside, isValid, emptied, frontWith, backWith, enqueued, dequeued};
 ghost use Rattle.state_order_queue.specs.Answers.{enqueueAnswer, updateAnswer, clearAnswer, dequeueAnswer, headAnswer, isEmptyAnswer};
+use sheet::refusal;
 
 // One flag a node: the limits of the record follow the limit on nodes.
 const FLAGS: usize = tropical_weight::NODE_LIMIT;
 
 // A node that is put in is below this, front at most this.
 const NODES: u32 = FLAGS as u32;
-
-// The number of the refusal.
-const REFUSAL: u32 = 22;
 
 // The last node that may be in: none where no node was put in since the queue was new or cleared.
 pub enum Back {
@@ -66,19 +65,13 @@ pub struct Tested {
 
 // ---- the tests of a record
 
-fn both(a: bool, b: bool) -> bool
-    ensures { λ r. ⌜ r ≡ a && b ⌝ }
-{
-    if a { b } else { false }
-}
-
 // Front is at most 4,096 and back below it; front is 0 where back is none.
 fn ends_fit(front: u32, back: Back) -> bool
     ensures { λ r. ⌜ r ≡ endsFit front back ⌝ }
 {
     match back {
         Back::None => front == 0,
-        Back::At(b) => both(front <= NODES, b < NODES),
+        Back::At(b) => front <= NODES && b < NODES,
     }
 }
 
@@ -95,7 +88,7 @@ fn ends_set(front: u32, back: Back, flags: &[bool; FLAGS]) -> bool
             }
             let first = flags[front as usize];
             let last = flags[b as usize];
-            both(first, last)
+            first && last
         }
     }
 }
@@ -106,7 +99,7 @@ fn is_inside(front: u32, back: Back, v: u32) -> bool
 {
     match back {
         Back::None => false,
-        Back::At(b) => both(front <= v, v <= b),
+        Back::At(b) => front <= v && v <= b,
     }
 }
 
@@ -141,7 +134,7 @@ pub fn is_valid(q: Queue) -> bool
     flags_inside(front, back, &q.flags)
 }
 
-// ---- calls without a test
+// ---- without a test
 
 // A queue without nodes.
 pub fn new() -> Queue
@@ -210,7 +203,7 @@ pub fn enqueue_flagged(q: Queue, state: u32) -> Queue
 }
 
 // The queue with a node put in.
-pub fn put(q: Queue, state: u32) -> Queue
+pub fn enqueue_untested(q: Queue, state: u32) -> Queue
     requires { ⌜ state < nodeLimit ⌝ }
     ensures { λ r. ⌜ r ≡ enqueued q state ⌝ }
 {
@@ -259,16 +252,13 @@ pub fn dequeue_cleared(q: Queue, next: u32) -> Queue
     }
 }
 
-// The queue without its front, where it has one.
-fn take(q: Queue) -> Queue
-    requires { ⌜ isValid q ≡ true ⌝ }
+// The queue without its front.
+fn dequeue_untested(q: Queue) -> Queue
+    requires { ⌜ (isValid q ≡ true) × (isEmpty q ≡ false) ⌝ }
     ensures { λ r. ⌜ r ≡ dequeued q ⌝ }
 {
     let front = q.front;
     let back = q.back;
-    if holds_none(front, back) {
-        return q;
-    }
     let mut queue = q;
     queue.flags[front as usize] = false;
     let next = next_front(front, back, &queue.flags);
@@ -281,15 +271,15 @@ fn take(q: Queue) -> Queue
 pub fn enqueue(q: Queue, state: u32) -> Changed
     ensures { λ r. ⌜ r ≡ enqueueAnswer q state ⌝ }
 {
-    if !both(is_valid(q), state < NODES) {
+    if !is_valid(q) || NODES <= state {
         return Changed {
-            number: REFUSAL,
+            number: refusal::QUEUE,
             queue: q,
         };
     }
     Changed {
         number: 0,
-        queue: put(q, state),
+        queue: enqueue_untested(q, state),
     }
 }
 
@@ -299,7 +289,7 @@ pub fn dequeue(q: Queue) -> Found
 {
     if !is_valid(q) {
         return Found {
-            node: Node::Refused(REFUSAL),
+            node: Node::Refused(refusal::QUEUE),
             queue: q,
         };
     }
@@ -313,7 +303,7 @@ pub fn dequeue(q: Queue) -> Found
     }
     Found {
         node: Node::At(front),
-        queue: take(q),
+        queue: dequeue_untested(q),
     }
 }
 
@@ -323,7 +313,7 @@ pub fn head(q: Queue) -> Found
 {
     if !is_valid(q) {
         return Found {
-            node: Node::Refused(REFUSAL),
+            node: Node::Refused(refusal::QUEUE),
             queue: q,
         };
     }
@@ -339,7 +329,7 @@ pub fn update(q: Queue, state: u32) -> Changed
 {
     if !is_valid(q) {
         return Changed {
-            number: REFUSAL,
+            number: refusal::QUEUE,
             queue: q,
         };
     }
@@ -355,7 +345,7 @@ pub fn is_empty(q: Queue) -> Tested
 {
     if !is_valid(q) {
         return Tested {
-            emptiness: Emptiness::Refused(REFUSAL),
+            emptiness: Emptiness::Refused(refusal::QUEUE),
             queue: q,
         };
     }
@@ -372,7 +362,7 @@ pub fn clear(q: Queue) -> Changed
 {
     if !is_valid(q) {
         return Changed {
-            number: REFUSAL,
+            number: refusal::QUEUE,
             queue: q,
         };
     }

@@ -8,6 +8,7 @@ use borrow.Author.Tests.{ne-eqb, eqb-true, eqb-false}
 use Rattle.sheet.specs.declared.write.Written.the-variants as Written
 use Rattle.sheet.specs.Sheet.{Parts}
 use Rattle.sheet.specs.Answers.{writtenBy}
+use Rattle.shortest_distance.specs.declared.Distances.the-variants as Distances
 use Rattle.shortest_distance.specs.Outcome.{distancesBy}
 use Rattle.search.specs.ListMachine.{Result}
 use Rattle.list_answer.specs.declared.Listed.the-variants as Listed
@@ -44,6 +45,14 @@ module _ (k : ℕ) where
       go : (b : Bool) → eqb k 0 ≡ b → distancesTold (distancesBy b count k) values .0 ≡ k
       go true q = sym (eqb-true k 0 q)
       go false q = refl
+
+  -- no refusal of distances has the number 0
+  pub distances-refused : (count j : ℕ) → Distances.Refused j ≡ distancesBy (eqb k 0) count k → j ≡ 0 → ⊥
+  distances-refused count j h z = go (eqb k 0) refl h
+    where
+      go : (b : Bool) → eqb k 0 ≡ b → Distances.Refused j ≡ distancesBy b count k → ⊥
+      go true q h = let z : _≡_ {A = ℕ} 0 1 = cc in omega arith
+      go false q h = let same : j ≡ k = cc in eqb-false k 0 q (sym same ∙ z)
 
   pub listed-number : (r : Result) (states links taken : ℕ) → listedTold (listBy (eqb k 0) r k) states links taken .0 ≡ k
   listed-number r states links taken = go (eqb k 0) refl

@@ -11,6 +11,7 @@ ghost use Rattle.sheet.specs.Sheet.{readNumber, writeNumber};
 ghost use Rattle.sheet.specs.Answers.{parts, written, writtenOver, ReadBack};
 ghost use Rattle.sheet.specs.Machine.{machine as machineFor};
 ghost use Rattle.shortest_distance.specs.Outcome.{distanceNumber, distanceAnswer, workAfter as distanceWork, resultAfter as distanceResult};
+ghost use Rattle.shortest_distance.specs.Promise.{Least};
 ghost use Rattle.shortest_path.specs.Outcome.{slotsNeeded, testedNumber, listNumber, listAnswer, workAfter, resultAfter};
 ghost use Rattle.shortest_path.specs.Promise.{Keeps};
 ghost use Rattle.yeldmur.specs.Told.{writtenTold, distancesTold, listedTold};
@@ -63,8 +64,11 @@ pub extern "C" fn yeldmur_shortest_distance(
     result: &mut [u8],
     values: &mut u32,
 ) -> u32
-    ensures { λ r. ⌜ (r ≡ distanceNumber (now (sheet .entry)) (length (now (work .entry))) (length (now (result .entry)))) × ((r, now (values .exit)) ≡ distancesTold (distanceAnswer (now (sheet .entry)) (length (now (work .entry))) (length (now (result .entry)))) (now (values .entry))) ⌝ }
-    ensures { λ _. ⌜ (now (work .exit) ≡ distanceWork (now (sheet .entry)) (now (work .entry)) (length (now (result .entry)))) × (now (result .exit) ≡ distanceResult (now (sheet .entry)) (length (now (work .entry))) (now (result .entry))) ⌝ }
+    ensures { λ r. ⌜ r ≡ distanceNumber (now (sheet .entry)) (length (now (work .entry))) (length (now (result .entry))) ⌝ }
+    ensures { λ r. ⌜ (r, now (values .exit)) ≡ distancesTold (distanceAnswer (now (sheet .entry)) (length (now (work .entry))) (length (now (result .entry)))) (now (values .entry)) ⌝ }
+    ensures { λ _. ⌜ now (work .exit) ≡ distanceWork (now (sheet .entry)) (now (work .entry)) (length (now (result .entry))) ⌝ }
+    ensures { λ _. ⌜ now (result .exit) ≡ distanceResult (now (sheet .entry)) (length (now (work .entry))) (now (result .entry)) ⌝ }
+    ensures { λ r. ⌜ (r ≡ 0 → Least (machineFor (now (sheet .entry))) (now (values .exit)) (now (result .exit))) ⌝ }
 {
     match shortest_distance::shortest_distance(sheet, work, result) {
         Distances::Count(count) => {

@@ -18,7 +18,7 @@ returns c =
     let a = c .before .before .before .before .args in
     let r = c .before .before .before .before .pre in
     let o = few-slots (now (a .sheet)) (now (a .work)) (now (a .result)) (r .0) (a .t) (r .1) (c .if1 .taken) in
-    (o .answer-is, o .work-is, o .result-is)
+    (o .answer-is, (o .work-is, o .result-is))
 
 make-requires : tie.Need-make-requires
 make-requires c κs = search needs
@@ -48,8 +48,7 @@ returns-2 c =
     let count = c .before .before .before .before .before .before .before .before .height .ensures in
     let o = handed-over (now (a .sheet)) (now (a .work)) (now (a .result)) (r .0) (a .t) (r .1) (c .before .before .before .before .before .before .before .before .before .before .before .before .before .before .if1 .left) made (c .before .before .before .before .before .before .before .before .before .before .before .before .make .ensures) in (
       c .before .before .before .before .before .before .hand-over .ensures .0 ∙ ap (λ (n : ℕ). handed n (length (now (a .result)))) count ∙ o .answer-is,
-      c .before .before .clear .ensures ∙ o .work-is,
-      c .before .before .before .before .before .before .hand-over .ensures .1 ∙ ap (λ (n : ℕ). handedOver (distanceWords made n) (now (a .result))) count ∙ o .result-is,
+      (c .before .before .clear .ensures ∙ o .work-is, c .before .before .before .before .before .before .hand-over .ensures .1 ∙ ap (λ (n : ℕ). handedOver (distanceWords made n) (now (a .result))) count ∙ o .result-is),
     )
 
 pub distances-of-spec : {M : Type 1} → statement M

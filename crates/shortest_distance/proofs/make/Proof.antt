@@ -29,8 +29,8 @@ slice-write-work c = search needs
 new-requires : tie.Need-new-requires
 new-requires c κs = search needs
 
-put-requires : tie.Need-put-requires
-put-requires c κs =
+enqueue-untested-requires : tie.Need-enqueue-untested-requires
+enqueue-untested-requires c κs =
     let a = c .before .before .before .before .before .before .before .before .args in
     let r = c .before .before .before .before .before .before .before .before .pre in
     start-low (now (a .sheet)) (now (a .work)) (r .0) (a .t) (r .1) (r .2) _ (c .before .before .before .before .prepare .ensures) (c .before .if1 .taken)
@@ -39,14 +39,14 @@ relax-heads-requires : tie.Need-relax-heads-requires
 relax-heads-requires c κs =
     let a = c .before .before .before .before .before .before .before .before .before .before .args in
     let r = c .before .before .before .before .before .before .before .before .before .before .pre in
-    sound-start (now (a .sheet)) (now (a .work)) (r .0) (a .t) (r .1) (r .2) _ (c .before .before .before .before .before .before .prepare .ensures) (c .before .before .before .if1 .taken) (c .before .put .result) (c .before .put .ensures ∙ ap (λ (q : Queue). enqueued q (a .t .start)) (c .before .before .new .ensures))
+    sound-start (now (a .sheet)) (now (a .work)) (r .0) (a .t) (r .1) (r .2) _ (c .before .before .before .before .before .before .prepare .ensures) (c .before .before .before .if1 .taken) (c .before .enqueue-untested .result) (c .before .enqueue-untested .ensures ∙ ap (λ (q : Queue). enqueued q (a .t .start)) (c .before .before .new .ensures))
 
 returns : tie.Need-returns
 returns c =
     let a = c .before .before .before .before .before .before .before .before .before .before .before .before .before .args in
     let r = c .before .before .before .before .before .before .before .before .before .before .before .before .before .pre in
     subst (λ x. Made (now (a .sheet)) (now (a .work)) x) (sym (c .before .before .relax-heads .ensures))
-    (made-from (now (a .sheet)) (now (a .work)) (r .0) (a .t) (r .1) (r .2) _ (c .before .before .before .before .before .before .before .before .before .prepare .ensures) (c .before .before .before .before .before .before .if1 .taken) (c .before .before .before .before .put .result) (c .before .before .before .before .put .ensures ∙ ap (λ (q : Queue). enqueued q (a .t .start)) (c .before .before .before .before .before .new .ensures)))
+    (made-from (now (a .sheet)) (now (a .work)) (r .0) (a .t) (r .1) (r .2) _ (c .before .before .before .before .before .before .before .before .before .prepare .ensures) (c .before .before .before .before .before .before .if1 .taken) (c .before .before .before .before .enqueue-untested .result) (c .before .before .before .before .enqueue-untested .ensures ∙ ap (λ (q : Queue). enqueued q (a .t .start)) (c .before .before .before .before .before .new .ensures)))
 
 same-length : tie.Need-same-length
 same-length c = returns c .size
@@ -70,7 +70,7 @@ make-spec =
     mul-work-2
     slice-write-work
     new-requires
-    put-requires
+    enqueue-untested-requires
     relax-heads-requires
     same-length
     returns

@@ -1,9 +1,11 @@
 use mathlib.Core.Path.{sym, _∙_, subst}
 use Prim.Native.Nat.{ℕ, _≤_}
+use lib.ListN.{length}
 use denote.Ref.{now}
 use Rattle.machine.specs.Input.{inputNumber}
 use Rattle.machine.proofs.Testing.{accepted-number, refused-number, input-most}
 use Rattle.shortest_distance.proofs.Outcomes.{outcome-input}
+use Rattle.shortest_distance.proofs.Promises.{promised-by}
 use borrow.Author.Needs.{needs}
 use Rattle.shortest_distance.proofs.shortest_distance.Statement.{statement}
 use Rattle.shortest_distance.proofs.shortest_distance.Tie as tie
@@ -29,7 +31,7 @@ returns c =
     let k = c .before .k .given .0 .0 in
     let refused = refused-number bytes (inputNumber bytes) k (sym (c .before .before .before .input .ensures) ∙ c .before .k .given .1) in
     let o = outcome-input bytes (now (a .work)) (now (a .result)) k (refused .0) (refused .1) (subst (λ (n : ℕ). n ≤ 6) (refused .0) (input-most bytes)) in
-    (o .answer-is, o .work-is, o .result-is)
+    (o .answer-is, (o .work-is, (o .result-is, tt)))
 
 same-length : tie.Need-same-length
 same-length c = search needs
@@ -38,7 +40,10 @@ same-length-2 : tie.Need-same-length-2
 same-length-2 c = search needs
 
 returns-2 : tie.Need-returns-2
-returns-2 c = search needs
+returns-2 c =
+    let a = c .before .before .before .before .before .before .before .before .before .before .before .before .before .before .args in
+    let e = c .before .before .before .before .distances-of .ensures in
+    (e .0, (e .1 .0, (e .1 .1, promised-by (now (a .sheet)) (length (now (a .work))) (now (a .result)) _ _ (e .0) (e .1 .1))))
 
 pub shortest-distance-spec : {M : Type 1} → statement M
 shortest-distance-spec =

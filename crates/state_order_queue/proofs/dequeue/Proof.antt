@@ -18,13 +18,16 @@ returns-2 : tie.Need-returns-2
 unfolding dequeued
 returns-2 c = simp (sym (c .before .before .before .is-valid .ensures), not-false (c .before .before .before .is-valid .result) (c .before .before .if1 .left), sym (c .before .holds-none .ensures), c .if2 .taken)
 
-take-requires : tie.Need-take-requires
-take-requires c κs = sym (c .before .before .before .is-valid .ensures) ∙ not-false (c .before .before .before .is-valid .result) (c .before .before .if1 .left)
+dequeue-untested-requires : tie.Need-dequeue-untested-requires
+dequeue-untested-requires c κs = (
+  sym (c .before .before .before .is-valid .ensures) ∙ not-false (c .before .before .before .is-valid .result) (c .before .before .if1 .left),
+  sym (c .before .holds-none .ensures) ∙ c .if2 .left,
+)
 
 returns-3 : tie.Need-returns-3
-returns-3 c = simp (c .take .ensures, sym (c .before .before .before .before .is-valid .ensures), not-false (c .before .before .before .before .is-valid .result) (c .before .before .before .if1 .left), sym (c .before .before .holds-none .ensures), c .before .if2 .left)
+returns-3 c = simp (c .dequeue-untested .ensures, sym (c .before .before .before .before .is-valid .ensures), not-false (c .before .before .before .before .is-valid .result) (c .before .before .before .if1 .left), sym (c .before .before .holds-none .ensures), c .before .if2 .left)
 
 pub dequeue-spec : {M : Type 1} → statement M
 dequeue-spec =
     tie.close
-    (tie.spec is-valid-requires returns holds-none-requires returns-2 take-requires returns-3)
+    (tie.spec is-valid-requires returns holds-none-requires returns-2 dequeue-untested-requires returns-3)

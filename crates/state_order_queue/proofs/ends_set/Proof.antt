@@ -1,7 +1,11 @@
+use mathlib.Core.Path.{sym, ap, _∙_}
+use mathlib.Core.Bool.{Bool, false, _&&_}
 use native.Mathlib.Omega.{arith}
-use borrow.Author.Tests.{lt-ltb, le-ltb}
+use denote.Ref.{now}
+use lib.ListN.{getD}
+use borrow.Author.Tests.{lt-ltb}
 use borrow.Author.Needs.{needs}
-use Rattle.state_order_queue.proofs.Records.{ends-bound}
+use Rattle.state_order_queue.proofs.Records.{ends-bound, ends-flags}
 use Rattle.state_order_queue.proofs.ends_set.Statement.{statement}
 use Rattle.state_order_queue.proofs.ends_set.Tie as tie
 
@@ -23,14 +27,20 @@ cast-last c = search needs
 element-copy-out-last : tie.Need-element-copy-out-last
 element-copy-out-last c = ends-bound _ _ _ (c .before .before .before .back .given .1) (c .before .before .before .before .before .pre) .1
 
-both-requires : tie.Need-both-requires
-both-requires c κs = search needs
-
 returns-2 : tie.Need-returns-2
 returns-2 c = search needs
 
 returns-3 : tie.Need-returns-3
-returns-3 c = simp (c .both .ensures, c .before .before .before .before .before .back .given .1, le-ltb _ _ (c .before .before .before .if1 .left))
+returns-3 c =
+    let args = c .before .before .before .before .before .before .before .args in
+    let b = c .before .before .before .before .before .back .given .0 .0 in
+    sym (ends-flags (args .front) b (args .back) (now (args .flags)) (c .before .before .before .before .before .back .given .1) (c .before .before .before .if1 .left) ∙ ap (λ (t : Bool). t && getD (now (args .flags)) b false) (c .if2 .taken))
+
+returns-4 : tie.Need-returns-4
+returns-4 c =
+    let args = c .before .before .before .before .before .before .before .args in
+    let b = c .before .before .before .before .before .back .given .0 .0 in
+    c .if2 .left ∙ sym (ends-flags (args .front) b (args .back) (now (args .flags)) (c .before .before .before .before .before .back .given .1) (c .before .before .before .if1 .left) ∙ ap (λ (t : Bool). t && getD (now (args .flags)) b false) (c .if2 .left))
 
 pub ends-set-spec : {M : Type 1} → statement M
 ends-set-spec =
@@ -42,6 +52,6 @@ ends-set-spec =
     element-copy-out-first
     cast-last
     element-copy-out-last
-    both-requires
     returns-2
-    returns-3)
+    returns-3
+    returns-4)
