@@ -2,8 +2,11 @@
 // reading must answer (0: accepted), the bytes, the links that a link reader must give one by one
 // before it gives none, and what the case is, with a space between. tools/sheet_cases.py made them.
 // Prints the lines that differ, and how many there were.
+ghost use mathlib.Core.Path.{_≡_};
+ghost use mathlib.Core.Bool.{true};
 ghost use Prim.Native.Nat.{_+_, _≤_};
 ghost use lib.ListN.{length};
+ghost use Rattle.replay_sheets.specs.Given.{SameFields, Given, Reads};
 
 mod readers;
 
@@ -29,6 +32,7 @@ fn answer(sheet: &[u8]) -> u32 {
 // Whether a link has the four fields that stand at an index.
 fn same_fields(link: Link, links: &[u8], at: usize) -> bool
     requires { ⌜ at + 16 ≤ length (now links) ⌝ }
+    ensures { λ r. ⌜ (r ≡ true → SameFields link (now (links .entry)) at) ⌝ }
 {
     if link.ilabel != word(links, at) {
         return false;
@@ -45,6 +49,7 @@ fn same_fields(link: Link, links: &[u8], at: usize) -> bool
 // Whether a reader gave the link whose fields stand at an index, or none where the links end there.
 fn given(step: Step, links: &[u8], at: usize) -> bool
     requires { ⌜ at ≤ length (now links) ⌝ }
+    ensures { λ r. ⌜ (r ≡ true → Given step (now (links .entry)) at) ⌝ }
 {
     match step {
         Step::Link(link) => {
@@ -58,7 +63,9 @@ fn given(step: Step, links: &[u8], at: usize) -> bool
 }
 
 // Whether a link reader gives these links, and then none for good.
-fn reads(sheet: &[u8], links: &[u8]) -> bool {
+fn reads(sheet: &[u8], links: &[u8]) -> bool
+    ensures { λ r. ⌜ (r ≡ true → Reads (now (sheet .entry)) (now (links .entry))) ⌝ }
+{
     let mut place = readers::started(sheet);
     let mut at = 0usize;
     while 16 <= links.len() - at {
