@@ -108,7 +108,7 @@ fn replay(text: &[u8]) {
 }
 
 fn main() {
-    let mut text = [0u8; 1048576];
+    let mut text = [0u8; 655360];
     let n = io::read_full(STDIN_FILENO, &mut text);
     replay(&text[..n]);
 }
