@@ -1,62 +1,43 @@
-//! The least and the median time of many runs.
+//! The least times of calls that are made again and again, in turn.
 
-use std::fmt;
 use std::hint::black_box;
 use std::time::{Duration, Instant};
 
-/// Times in microseconds.
-#[derive(Clone, Copy)]
-pub struct Times {
-    pub least: f64,
-    pub median: f64,
-}
+/// One call on the machine with a number.
+pub type Run<'a> = Box<dyn FnMut(usize) -> Duration + 'a>;
 
-impl Times {
-    pub fn lesser(self, other: Self) -> Self {
-        Self {
-            least: self.least.min(other.least),
-            median: self.median.min(other.median),
-        }
-    }
-}
-
-impl fmt::Display for Times {
-    fn fmt(&self, f: &mut fmt::Formatter) -> fmt::Result {
-        write!(f, "{:.1} ({:.1})", self.least, self.median)
-    }
-}
-
-pub type Run<'a> = Box<dyn FnMut() -> Duration + 'a>;
-
-/// One run. What it leaves is dropped when the clock has stopped.
-pub fn timed<'a, T>(mut call: impl FnMut() -> T + 'a) -> Run<'a> {
-    Box::new(move || {
+/// A call under the clock. What it leaves is dropped when the clock has stopped.
+pub fn timed<'a, T>(mut call: impl FnMut(usize) -> T + 'a) -> Run<'a> {
+    Box::new(move |machine| {
         let begun = Instant::now();
-        let left = black_box(call());
+        let left = black_box(call(machine));
         let time = begun.elapsed();
         drop(left);
         time
     })
 }
 
-/// Makes the runs in turn, so that what else the machine does falls on all of them, until the time is
-/// up; each at least a few times.
-pub fn rounds(runs: &mut [Run], time: Duration) -> Vec<Times> {
-    let mut all = vec![vec![]; runs.len()];
+/// How often each call is made at the least.
+const FEWEST: usize = 3;
+
+/// Makes the calls in turn on the first machine, then on the next, round and round until the time is up, so that what else the
+/// computer does falls on all of them. For each call the mean, over the machines, of its least time, in microseconds.
+pub fn rounds(runs: &mut [Run], machines: usize, time: Duration) -> Vec<f64> {
+    let mut least = vec![vec![Duration::MAX; machines]; runs.len()];
     let begun = Instant::now();
-    while begun.elapsed() < time || all[0].len() < 9 {
-        for (run, times) in runs.iter_mut().zip(&mut all) {
-            times.push(run());
+    let mut round = 0;
+    while round < FEWEST || begun.elapsed() < time {
+        for machine in 0..machines {
+            for (run, least) in runs.iter_mut().zip(&mut least) {
+                least[machine] = least[machine].min(run(machine));
+            }
         }
+        round += 1;
     }
-    all.into_iter().map(told).collect()
+    least.iter().map(|times| mean(times)).collect()
 }
 
-fn told(mut times: Vec<Duration>) -> Times {
-    times.sort();
-    let micros = |time: Duration| time.as_secs_f64() * 1e6;
-    Times {
-        least: micros(times[0]),
-        median: micros(times[times.len() / 2]),
-    }
+fn mean(times: &[Duration]) -> f64 {
+    let sum: Duration = times.iter().sum();
+    sum.as_secs_f64() * 1e6 / times.len() as f64
 }

@@ -12,33 +12,38 @@ mod table;
 use std::time::Duration;
 
 use contest::Call;
-use oracle::bytes;
 use port::Port;
 
 const USAGE: &str = "usage:
-  bench MILLISECONDS               prints the tables; each row takes about twice so long
+  bench MILLISECONDS               prints the tables; each part of a row takes about twice so long
   bench repeat MACHINE CALL TIMES  makes one call of the library again and again, for a profile: a
                                    machine of the first table, and distances or n";
 
 /// Each kind of machine with each call; how the cost grows with n; how it grows with the links.
 fn print_tables(time: Duration) {
     let lists = |ns: &[u32]| ns.iter().map(|n| Call::List(*n)).collect::<Vec<_>>();
-    let calls = [vec![Call::Distances], lists(&[1, 2, 10, 64])].concat();
+    let distances = vec![Call::Distances];
+    let few = [distances.clone(), lists(&[1, 10])].concat();
+    let calls = [distances, lists(&[1, 2, 10, 64])].concat();
     let kinds = sheets::kinds();
-    table::print(&table::measured(&kinds, &calls, time));
-    let ns = lists(&[1, 2, 4, 8, 16, 32, 64]);
-    table::print(&table::measured(&kinds[..1], &ns, time));
-    let calls = [vec![Call::Distances], lists(&[1, 10])].concat();
-    table::print(&table::measured(&sheets::growing(), &calls, time));
+    let tables = [
+        table::measured(&kinds, &calls, time),
+        table::measured(&[kinds[0].first()], &lists(&[2, 4, 8, 16, 32, 64]), time),
+        table::measured(&sheets::growing(), &few, time),
+    ];
+    table::print("Kinds of machines", &tables[0], true);
+    table::print("Growth with n", &tables[1], false);
+    table::print("Growth with the links", &tables[2], false);
+    table::print_goals(&tables);
 }
 
 fn repeat(name: &str, call: &str, times: usize) -> Option<()> {
-    let sheet = sheets::kinds().into_iter().find(|s| s.name == name)?;
-    let mut port = Port::new(bytes::sheet(&sheet.machine));
+    let kind = sheets::kinds().into_iter().find(|kind| kind.name == name)?;
+    let mut port = Port::new(&kind.machines);
     for _ in 0..times {
         match call {
-            "distances" => drop(port.distances()),
-            n => drop(port.list(n.parse().ok()?)),
+            "distances" => drop(port.distances(0)),
+            n => drop(port.list(0, n.parse().ok()?)),
         }
     }
     Some(())

@@ -1,66 +1,58 @@
-//! The library, in areas that are made once and used again.
+//! The library through its Rust crate, in areas that are kept and in areas that are made anew for each call.
 
-use yeldmur::ffi;
+use std::hint::black_box;
 
-/// The largest n.
-const MOST: u32 = 64;
+use oracle::bytes;
+use oracle::machine::Machine;
+use yeldmur::{raw, Areas, Sheet};
 
-/// The bytes of a sheet, and areas long enough for each call on it.
+/// Sheets, and areas that serve them all.
 pub struct Port {
-    sheet: Vec<u8>,
-    work: Vec<u32>,
-    result: Vec<u8>,
+    sheets: Vec<Sheet>,
+    areas: Areas,
+    plain: Vec<u32>,
 }
 
 impl Port {
-    pub fn new(sheet: Vec<u8>) -> Self {
-        let (slots, bytes) = sizes(&sheet, MOST);
-        let (nodes, _) = sizes(&sheet, 1);
+    pub fn new(machines: &[Machine]) -> Self {
+        let sheet = |machine| Sheet::read(bytes::sheet(machine)).expect("a sheet");
         Self {
-            work: vec![0; 8 * slots.max(nodes)],
-            result: vec![0; bytes.max(4 * nodes)],
-            sheet,
+            sheets: machines.iter().map(sheet).collect(),
+            areas: Areas::new(),
+            plain: vec![],
         }
     }
 
-    pub fn slots(&self, n: u32) -> usize {
-        sizes(&self.sheet, n).0
+    /// Clears as many words as a list for n needs, and does nothing else: the least that a call which leaves them zero costs.
+    pub fn clear(&mut self, machine: usize, n: u32) {
+        let sheet = &self.sheets[machine];
+        let counts = [sheet.node_count(), sheet.link_count(), sheet.final_count()];
+        let needed = raw::areas_of(counts[0], counts[1], counts[2], n).expect("accepted");
+        if self.plain.len() < needed.words() {
+            self.plain = vec![1; needed.words()];
+        }
+        black_box(&mut self.plain[..needed.words()]).fill(0);
     }
 
     /// How many distances there are.
-    pub fn distances(&mut self) -> usize {
-        let mut values = 0;
-        let number =
-            ffi::shortest_distance(&self.sheet, &mut self.work, &mut self.result, &mut values);
-        assert_eq!(number, 0);
-        values as usize
+    pub fn distances(&mut self, machine: usize) -> usize {
+        self.areas
+            .distances(&self.sheets[machine])
+            .expect("accepted")
+            .len()
     }
 
-    /// The states and links of the list's machine, and the entries taken.
-    pub fn list(&mut self, n: u32) -> [u32; 3] {
-        let mut counts = [0; 3];
-        let [states, links, taken] = &mut counts;
-        let number = ffi::shortest_path(
-            &self.sheet,
-            n,
-            &mut self.work,
-            &mut self.result,
-            states,
-            links,
-            taken,
-        );
-        assert_eq!(number, 0);
-        counts
+    /// How many readings are listed, and how many entries were taken.
+    pub fn list(&mut self, machine: usize, n: u32) -> (usize, u32) {
+        let list = self.areas.list(&self.sheets[machine], n).expect("accepted");
+        (list.len(), list.taken())
     }
 
-    /// Clears so many slots, and does nothing else: the least that a call which leaves them zero costs.
-    pub fn clear(&mut self, slots: usize) {
-        std::hint::black_box(&mut self.work[..8 * slots]).fill(0);
+    pub fn distances_anew(&self, machine: usize) -> Vec<f32> {
+        yeldmur::distances(&self.sheets[machine]).expect("accepted")
     }
-}
 
-fn sizes(sheet: &[u8], n: u32) -> (usize, usize) {
-    let (mut slots, mut bytes) = (0, 0);
-    assert_eq!(ffi::areas(sheet, n, &mut slots, &mut bytes), 0);
-    (slots as usize, bytes as usize)
+    pub fn list_anew(&self, machine: usize, n: u32) -> yeldmur::List<'_> {
+        yeldmur::list(&self.sheets[machine], n).expect("accepted")
+    }
 }

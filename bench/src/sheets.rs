@@ -3,18 +3,32 @@
 use oracle::machine::{weight, Link, Machine, Node};
 use oracle::random::Random;
 
-pub struct Sheet {
+/// Machines of one kind, drawn alike.
+pub struct Kind {
     pub name: &'static str,
-    pub machine: Machine,
+    pub machines: Vec<Machine>,
 }
+
+impl Kind {
+    /// The first machine alone.
+    pub fn first(&self) -> Self {
+        Self {
+            name: self.name,
+            machines: self.machines[..1].to_vec(),
+        }
+    }
+}
+
+/// How many machines of a kind are called in turn.
+const TEN: u64 = 10;
 
 /// How far a link reaches that is called short.
 const SHORT: usize = 4;
 
 /// A chain through all nodes, and other links at random, each to one of so many nodes that follow its
 /// source. Weights are drawn from those given, in sixty-fourths. The last node is final.
-fn tangle(nodes: usize, links: usize, reach: usize, weights: &[i32]) -> Machine {
-    let mut random = Random::new(1);
+fn tangle(seed: u64, nodes: usize, links: usize, reach: usize, weights: &[i32]) -> Machine {
+    let mut random = Random::new(seed);
     let mut made = vec![Node::default(); nodes];
     for number in 0..links {
         let (source, next) = if number + 1 < nodes {
@@ -46,9 +60,12 @@ fn without_reading(mut machine: Machine) -> Machine {
     machine
 }
 
-fn named(sheets: Vec<(&'static str, Machine)>) -> Vec<Sheet> {
-    let sheet = |(name, machine)| Sheet { name, machine };
-    sheets.into_iter().map(sheet).collect()
+/// Machines for the seeds from 1 to this one.
+fn kind(name: &'static str, seeds: u64, made: impl Fn(u64) -> Machine) -> Kind {
+    Kind {
+        name,
+        machines: (1..=seeds).map(made).collect(),
+    }
 }
 
 /// All weights from 1/64 to 64.
@@ -57,39 +74,41 @@ fn any() -> Vec<i32> {
 }
 
 /// The largest machines, in kinds; machines as large as the largest in use; and a small one.
-pub fn kinds() -> Vec<Sheet> {
+pub fn kinds() -> Vec<Kind> {
     let (any, ties) = (any(), [0]);
-    named(vec![
-        ("largest, short links", tangle(4096, 16384, SHORT, &any)),
-        ("largest, long links", tangle(4096, 16384, 4096, &any)),
-        (
-            "largest, short links, all ties",
-            tangle(4096, 16384, SHORT, &ties),
-        ),
-        (
-            "largest, long links, all ties",
-            tangle(4096, 16384, 4096, &ties),
-        ),
-        (
-            "largest, no reading",
-            without_reading(tangle(4096, 16384, SHORT, &any)),
-        ),
-        ("in use, short links", tangle(1312, 5000, SHORT, &any)),
-        ("in use, long links", tangle(1312, 5000, 1312, &any)),
-        ("40 nodes, 100 links", tangle(40, 100, SHORT, &any)),
-    ])
+    let largest = |seed, reach, weights: &[i32]| tangle(seed, 4096, 16384, reach, weights);
+    vec![
+        kind("largest, short links", TEN, |s| largest(s, SHORT, &any)),
+        kind("largest, long links", TEN, |s| largest(s, 4096, &any)),
+        kind("largest, short links, all ties", TEN, |s| {
+            largest(s, SHORT, &ties)
+        }),
+        kind("largest, long links, all ties", TEN, |s| {
+            largest(s, 4096, &ties)
+        }),
+        kind("largest, no reading", TEN, |s| {
+            without_reading(largest(s, SHORT, &any))
+        }),
+        kind("in use, short links", TEN, |s| {
+            tangle(s, 1312, 5000, SHORT, &any)
+        }),
+        kind("in use, long links", TEN, |s| {
+            tangle(s, 1312, 5000, 1312, &any)
+        }),
+        kind("40 nodes, 100 links", TEN, |s| {
+            tangle(s, 40, 100, SHORT, &any)
+        }),
+    ]
 }
 
 /// Short links, more of them each time.
-pub fn growing() -> Vec<Sheet> {
+pub fn growing() -> Vec<Kind> {
     let any = any();
-    named(vec![
-        ("2,049 nodes, 2,048 links", tangle(2049, 2048, SHORT, &any)),
-        ("2,049 nodes, 4,096 links", tangle(2049, 4096, SHORT, &any)),
-        ("2,049 nodes, 8,192 links", tangle(2049, 8192, SHORT, &any)),
-        (
-            "2,049 nodes, 16,384 links",
-            tangle(2049, 16384, SHORT, &any),
-        ),
-    ])
+    let grown = |name, links| kind(name, 1, |s| tangle(s, 2049, links, SHORT, &any));
+    vec![
+        grown("2,049 nodes, 2,048 links", 2048),
+        grown("2,049 nodes, 4,096 links", 4096),
+        grown("2,049 nodes, 8,192 links", 8192),
+        grown("2,049 nodes, 16,384 links", 16384),
+    ]
 }
