@@ -2,8 +2,15 @@
  * proved. Link with libyeldmur.a, which `rt staticlib yeldmur` writes.
  *
  * A slice is a pointer and a count of its elements, and not of bytes. No pointer is NULL, also where
- * the count is 0; a pointer to 32-bit or 64-bit numbers is aligned for them; and no two of a call's
- * areas and numbers overlap. The calls keep nothing, and take no memory but the areas and the stack.
+ * the count is 0, as that of the work area may be for n = 0: malloc(0) may give NULL, so that a caller
+ * asks for one element more, or hands over any other address that is aligned. A pointer to 32-bit or
+ * 64-bit numbers is aligned for them, and no two of a call's areas and numbers overlap. The calls keep
+ * nothing, and take no memory but the areas and up to YELDMUR_STACK bytes of stack.
+ *
+ * Weights are summed in single precision, and every sum is exact. So an answer is the same in every
+ * rounding mode of fenv.h, but for the sign of a distance of 0 in which weights cancel: it is negative
+ * zero where the caller rounds downward. No weight or sum is denormal, so that flushing these to zero
+ * changes nothing. The calls leave the floating-point environment as it is, and raise no flag.
  *
  * Each call returns 0 or the number of a refusal. A refusal leaves the numbers behind `size`,
  * `values`, `states`, `links`, `taken`, `slots` and `bytes` as they were. In 1 to 20 no area changes.
@@ -48,6 +55,10 @@ enum {
 /* The words of a work slot. */
 #define YELDMUR_SLOT 8u
 
+/* Bytes of stack that are enough for a call: measured at the limits with a painted stack, where the
+ * queue's record takes most of it, 12 KB, and the heap's recursion about 80 bytes a level. */
+#define YELDMUR_STACK 20480u
+
 /* The start of a sheet that has none, and the word of a link that repeats no input link. */
 #define YELDMUR_NONE 0xffffffffu
 
@@ -85,6 +96,13 @@ uint32_t yeldmur_shortest_path(const uint8_t *sheet, size_t sheet_bytes, uint32_
  * words and a result area of so many bytes, or longer ones, it refuses nothing. */
 uint32_t yeldmur_areas(const uint8_t *sheet, size_t sheet_bytes, uint32_t n,
                        uint64_t *slots, uint64_t *bytes);
+
+/* The areas for yeldmur_shortest_path for n on every accepted sheet with at most so many nodes, links and
+ * nodes with mark 1: tests 5 and 7 of these counts alone. Of a sheet's own N, T and F it tells what
+ * yeldmur_areas tells. More `finals` than nodes count as that many nodes, so that YELDMUR_NONE stands
+ * for an F that is not known. */
+uint32_t yeldmur_areas_of(uint32_t nodes, uint32_t links, uint32_t finals, uint32_t n,
+                          uint64_t *slots, uint64_t *bytes);
 
 #ifdef __cplusplus
 }

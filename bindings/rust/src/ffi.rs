@@ -1,4 +1,4 @@
-//! The five functions of the static library. All that is `unsafe` in this crate stands here: each slice goes over as
+//! The six functions of the static library. All that is `unsafe` in this crate stands here: each slice goes over as
 //! its pointer and its length, each number to be told as a pointer. The functions have no requirements; that they stay inside the
 //! slices is proved, and so is every value that they leave there. A function returns 0 or the number of the refusal,
 //! and with a refusal the numbers to be told keep their values.
@@ -43,6 +43,14 @@ extern "C" {
     fn yeldmur_areas(
         sheet: *const u8,
         sheet_bytes: usize,
+        n: u32,
+        slots: *mut u64,
+        bytes: *mut u64,
+    ) -> u32;
+    fn yeldmur_areas_of(
+        nodes: u32,
+        links: u32,
+        finals: u32,
         n: u32,
         slots: *mut u64,
         bytes: *mut u64,
@@ -134,4 +142,17 @@ pub fn areas(sheet: &[u8], n: u32, slots: &mut u64, bytes: &mut u64) -> u32 {
     // SAFETY: the pointer and the length are of one slice, lent for the call, that is only read; `slots`
     // and `bytes`, which are written to, are lent mutably, so that they overlap nothing.
     unsafe { yeldmur_areas(sheet.as_ptr(), sheet.len(), n, slots, bytes) }
+}
+
+/// The same for every accepted sheet with at most so many nodes, links and final nodes: tests 5 and 7 of these counts.
+pub fn areas_of(
+    nodes: u32,
+    links: u32,
+    finals: u32,
+    n: u32,
+    slots: &mut u64,
+    bytes: &mut u64,
+) -> u32 {
+    // SAFETY: `slots` and `bytes`, which are written to, are lent mutably, so that they do not overlap.
+    unsafe { yeldmur_areas_of(nodes, links, finals, n, slots, bytes) }
 }

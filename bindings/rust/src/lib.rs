@@ -51,7 +51,11 @@ pub use list::{distances, list, Areas, List, Reading};
 pub use refusal::Refusal;
 pub use sheet::{Link, Sheet};
 
-// has the example in README.md run as a test
+// has the examples in both README.md files run as tests
 #[cfg(doctest)]
 #[doc = include_str!("../README.md")]
 struct Readme;
+
+#[cfg(doctest)]
+#[doc = include_str!("../../../README.md")]
+struct RepositoryReadme;

@@ -50,7 +50,7 @@ impl Areas {
         sheet: &Sheet,
     ) -> Result<impl ExactSizeIterator<Item = f32> + '_, Refusal> {
         // n = 1 needs the same slots, and its result has more than four bytes for each node
-        self.fit(sheet, 1)?;
+        self.fit(sheet, 1);
         let count = raw::shortest_distance(sheet.bytes(), &mut self.work, &mut self.result)?;
         let result = &self.result;
         Ok((0..count as usize).map(move |node| weight(result, 4 * node)))
@@ -64,21 +64,24 @@ impl Areas {
     }
 
     fn make(&mut self, sheet: &Sheet, n: u32) -> Result<Listed, Refusal> {
-        self.fit(sheet, n)?;
+        self.fit(sheet, n);
         raw::shortest_path(sheet.bytes(), n, &mut self.work, &mut self.result)
     }
 
-    // Neither 20 nor 21 can come in areas of this size. A longer area is made anew, not grown: nothing in the old one is
-    // needed, and zeros are had cheaply.
-    fn fit(&mut self, sheet: &Sheet, n: u32) -> Result<(), Refusal> {
-        let needed = raw::areas(sheet.bytes(), n)?;
+    // Neither 20 nor 21 can come in areas of this size. Where the counts or n are refused the areas stay as they are: the call that
+    // follows tests the whole sheet, and its number is the one that counts. A longer area is made anew, not grown: nothing in the
+    // old one is needed, and zeros are had cheaply.
+    fn fit(&mut self, sheet: &Sheet, n: u32) {
+        let counts = (sheet.node_count(), sheet.link_count(), sheet.final_count());
+        let Ok(needed) = raw::areas_of(counts.0, counts.1, counts.2, n) else {
+            return;
+        };
         if self.work.len() < needed.words() {
             self.work = vec![0; needed.words()];
         }
         if self.result.len() < needed.bytes {
             self.result = vec![0; needed.bytes];
         }
-        Ok(())
     }
 }
 

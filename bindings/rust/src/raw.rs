@@ -12,7 +12,7 @@ use crate::Refusal;
 /// The 32-bit words of a slot of the work area.
 pub const SLOT: usize = 8;
 
-/// What a list is made in: the figures that [`areas`] gives.
+/// What a list is made in: the figures that [`areas`] and [`areas_of`] give.
 #[derive(Clone, Copy, Debug, PartialEq, Eq)]
 pub struct Needed {
     /// The slots of the work area, of eight words each: with fewer the call is refused with 20.
@@ -117,8 +117,23 @@ pub fn shortest_path(
 pub fn areas(sheet: &[u8], n: u32) -> Result<Needed, Refusal> {
     let (mut slots, mut bytes) = (0, 0);
     told(ffi::areas(sheet, n, &mut slots, &mut bytes))?;
-    Ok(Needed {
+    Ok(needed(slots, bytes))
+}
+
+/// Areas in which no list for n is refused, of any accepted sheet with at most so many nodes, links and final nodes: tests 5 and 7
+/// of these counts. It looks at no sheet; of a sheet's own counts it tells what [`areas`] tells. More final nodes than nodes count as
+/// that many nodes.
+pub fn areas_of(nodes: u32, links: u32, finals: u32, n: u32) -> Result<Needed, Refusal> {
+    let (mut slots, mut bytes) = (0, 0);
+    told(ffi::areas_of(
+        nodes, links, finals, n, &mut slots, &mut bytes,
+    ))?;
+    Ok(needed(slots, bytes))
+}
+
+fn needed(slots: u64, bytes: u64) -> Needed {
+    Needed {
         slots: slots as usize,
         bytes: bytes as usize,
-    })
+    }
 }

@@ -31,6 +31,8 @@ pub struct Sheet {
     bytes: Vec<u8>,
     // the number of each node's first link, from which a link's source is found
     firsts: Vec<u32>,
+    // how many nodes are final
+    finals: u32,
 }
 
 impl Sheet {
@@ -38,8 +40,7 @@ impl Sheet {
     pub fn read(bytes: impl Into<Vec<u8>>) -> Result<Sheet, Refusal> {
         let bytes = bytes.into();
         raw::read_sheet(&bytes)?;
-        let firsts = firsts(&bytes);
-        Ok(Sheet { bytes, firsts })
+        Ok(Sheet::passed(bytes))
     }
 
     /// Writes a sheet: its links, a final weight or none for each node, and the start or none. Refusals 1 to 4.
@@ -63,8 +64,18 @@ impl Sheet {
             start,
             &mut bytes,
         )?;
+        Ok(Sheet::passed(bytes))
+    }
+
+    // Of bytes that have passed tests 1 to 4.
+    fn passed(bytes: Vec<u8>) -> Sheet {
         let firsts = firsts(&bytes);
-        Ok(Sheet { bytes, firsts })
+        let finals = final_count(&bytes);
+        Sheet {
+            bytes,
+            firsts,
+            finals,
+        }
     }
 
     /// The sheet's bytes.
@@ -85,6 +96,11 @@ impl Sheet {
     /// How many links there are.
     pub fn link_count(&self) -> u32 {
         link_count(&self.bytes)
+    }
+
+    /// How many nodes are final, reached or not.
+    pub fn final_count(&self) -> u32 {
+        self.finals
     }
 
     /// The start, or none.
@@ -161,6 +177,14 @@ fn node_count(bytes: &[u8]) -> u32 {
 
 fn link_count(bytes: &[u8]) -> u32 {
     word(bytes, bytes.len() - 8)
+}
+
+// A mark is 0 or 1.
+fn final_count(bytes: &[u8]) -> u32 {
+    let links = link_count(bytes);
+    (0..node_count(bytes))
+        .map(|node| word(bytes, node_place(links, node) + 4))
+        .sum()
 }
 
 // The bytes have passed test 1, so that the counts add up to the link count and the sum fits.

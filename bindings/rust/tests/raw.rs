@@ -5,7 +5,7 @@ mod common;
 
 use common::{bytes, A, NONE};
 use yeldmur::raw::{self, Needed, SLOT};
-use yeldmur::Refusal;
+use yeldmur::{ffi, Refusal};
 
 const WORD: u32 = 0xDEAD_BEEF;
 const BYTE: u8 = 0xA5;
@@ -34,6 +34,7 @@ fn areas_of_a() {
     let a = bytes(&A);
     for n in 0..=64 {
         let needed = raw::areas(&a, n).unwrap();
+        assert_eq!(raw::areas_of(4, 5, 1, n), Ok(needed));
         assert_eq!(needed.slots, slots_of_a(n as usize));
         assert_eq!(needed.words(), 8 * needed.slots);
         let mut work = vec![WORD; needed.words()];
@@ -41,6 +42,42 @@ fn areas_of_a() {
         let listed = raw::shortest_path(&a, n, &mut work, &mut result).unwrap();
         assert!(listed.result_len() <= needed.bytes);
         assert!(cleared(&work, needed.slots));
+    }
+}
+
+#[test]
+fn areas_of_counts() {
+    let most = raw::areas_of(4096, 16384, 4096, 64).unwrap();
+    assert_eq!(most.slots, 4096 + 16384 + 2 * 4096 + 2 + 64 * 16385);
+    for (counts, number) in [
+        ([4097, 0, 0, 0], 5),
+        ([0, 16385, 0, 0], 5),
+        ([4097, 16385, 0, 65], 5),
+        ([4096, 16384, 0, 65], 7),
+        ([0, 0, 0, u32::MAX], 7),
+    ] {
+        let [nodes, links, finals, n] = counts;
+        let refused = raw::areas_of(nodes, links, finals, n);
+        assert_eq!(refused.unwrap_err().number(), number);
+        let (mut slots, mut bytes) = (11, 12);
+        let told = ffi::areas_of(nodes, links, finals, n, &mut slots, &mut bytes);
+        assert_eq!((told, slots, bytes), (number, 11, 12));
+    }
+    // no sheet has more final nodes than nodes
+    let any = raw::areas_of(4, 5, u32::MAX, 2);
+    assert_eq!(any, raw::areas_of(4, 5, 4, 2));
+    assert_eq!(any.unwrap().slots, 4 + 5 + 2 * 4 + 2 + 2 * 6);
+}
+
+// Areas for more of each count serve a smaller sheet.
+#[test]
+fn areas_of_larger_counts() {
+    let a = bytes(&A);
+    for n in [0, 1, 2, 3, 64] {
+        let needed = raw::areas_of(5, 7, 2, n).unwrap();
+        let mut work = vec![WORD; needed.words()];
+        let mut result = vec![BYTE; needed.bytes];
+        assert!(raw::shortest_path(&a, n, &mut work, &mut result).is_ok());
     }
 }
 

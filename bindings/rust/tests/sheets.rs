@@ -16,6 +16,7 @@ fn again(sheet: &Sheet) -> Sheet {
 fn what_a_holds() {
     let a = sheet_a();
     assert_eq!((a.node_count(), a.link_count(), a.start()), (4, 5, Some(0)));
+    assert_eq!(a.final_count(), 1);
     let links = links_a();
     assert_eq!(a.links().collect::<Vec<_>>(), links);
     assert_eq!(a.links().len(), 5);

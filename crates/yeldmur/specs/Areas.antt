@@ -1,10 +1,14 @@
 -- Areas with which a list is never refused for want of room: the slots are those that it needs, the bytes a bound. Definitions only.
 use mathlib.Core.Path.{_≡_}
+use mathlib.Core.Bool.{not, _&&_, cond}
 use mathlib.Core.List.{List}
-use Prim.Native.Nat.{ℕ, zero, suc, _+_, _*_, _≤_}
-use lib.ListN.{length}
+use Prim.Native.Nat.{ℕ, zero, suc, _+_, _*_, _≤_, _<_}
+use lib.Dec.{leb, ltb}
+use lib.ListN.{length, getD}
+use Rattle.tropical_weight.specs.Limits.{nodeLimit, linkLimit, listLimit}
 use Rattle.sheet.specs.Machine.{Machine, machine}
 use Rattle.machine.specs.Readings.{marked}
+use Rattle.machine.specs.Input.{inputNumber}
 use Rattle.shortest_path.specs.Outcome.{listNumber}
 
 -- the bytes of a result with so many states and links: 12 a state, 16 and a word a link, and the trailer
@@ -32,3 +36,23 @@ bytesEnough sheet n = bytesFor (machine sheet) n
 -- no list for n is refused in areas of so many slots of eight words, and bytes, or longer ones
 abbrev pub Enough : List ℕ → ℕ → ℕ → ℕ → Type 0
 Enough sheet n slots bytes = (words room : ℕ) → 8 * slots ≤ words → bytes ≤ room → listNumber sheet n words room ≡ 0
+
+-- ---- for counts in place of a sheet
+-- the first number of 5 and 7 whose test fails, or 0
+abbrev pub countsNumber : ℕ → ℕ → ℕ → ℕ
+countsNumber nodes links n = cond (not (leb nodes nodeLimit && leb links linkLimit)) 5 (cond (ltb listLimit n) 7 0)
+
+-- final nodes are no more than nodes
+abbrev pub finalsOf : ℕ → ℕ → ℕ
+finalsOf nodes finals = cond (ltb nodes finals) nodes finals
+
+-- no list for n is refused in such areas, of any accepted sheet with at most so many nodes, links and final nodes
+abbrev pub Serves : ℕ → ℕ → ℕ → ℕ → ℕ → ℕ → Type 0
+Serves nodes links finals n slots bytes =
+    (sheet : List ℕ)
+    → ((i : ℕ) → getD sheet i 0 < 256)
+    → inputNumber sheet ≡ 0
+    → length (machine sheet .finals) ≤ nodes
+    → length (machine sheet .links) ≤ links
+    → marked (machine sheet .finals) ≤ finals
+    → Enough sheet n slots bytes

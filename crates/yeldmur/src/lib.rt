@@ -15,12 +15,16 @@ ghost use Rattle.shortest_distance.specs.Promise.{Least};
 ghost use Rattle.shortest_path.specs.Outcome.{slotsNeeded, testedNumber, listNumber, listAnswer, workAfter, resultAfter};
 ghost use Rattle.shortest_path.specs.Promise.{Keeps};
 ghost use Rattle.yeldmur.specs.Told.{writtenTold, distancesTold, listedTold};
-ghost use Rattle.yeldmur.specs.Areas.{bytesOf, bytesEnough, Enough};
+ghost use Rattle.list_answer.specs.ListAnswer.{slotsOf};
+ghost use Rattle.yeldmur.specs.Areas.{bytesOf, bytesEnough, Enough, countsNumber, finalsOf, Serves};
 use list_answer::Listed;
 use sheet::read::Tested;
+use sheet::refusal;
 use sheet::write::Written;
 use shortest_distance::Distances;
+use tropical_weight::LINK_LIMIT;
 use tropical_weight::LIST_LIMIT;
+use tropical_weight::NODE_LIMIT;
 
 // Tests 1 to 4 of a byte string as a sheet.
 #[no_mangle]
@@ -121,23 +125,58 @@ fn bytes_enough(nodes: u32, links: u32, finals: u32, n: u32) -> u32
     12 * (entries + 1) + 20 * (entries + n) + 20
 }
 
+// The final nodes of a sheet with at most so many nodes and final nodes.
+fn finals_of(nodes: u32, finals: u32) -> u32
+    ensures { λ r. ⌜ (r ≡ finalsOf nodes finals) × (r ≤ nodes) ⌝ }
+{
+    if nodes < finals { nodes } else { finals }
+}
+
+// The areas for a list for n of every accepted sheet with at most so many nodes, links and final nodes:
+// the work slots and bytes of one that has just these. Tests 5 and 7.
+#[no_mangle]
+pub extern "C" fn yeldmur_areas_of(
+    nodes: u32,
+    links: u32,
+    finals: u32,
+    n: u32,
+    slots: &mut u64,
+    bytes: &mut u64,
+) -> u32
+    ensures { λ r. ⌜ r ≡ countsNumber nodes links n ⌝ }
+    ensures { λ r. ⌜ now (slots .exit) ≡ cond (eqb r 0) (slotsOf nodes links (finalsOf nodes finals) n) (now (slots .entry)) ⌝ }
+    ensures { λ r. ⌜ now (bytes .exit) ≡ cond (eqb r 0) (bytesOf nodes links (finalsOf nodes finals) n) (now (bytes .entry)) ⌝ }
+    ensures { λ r. ⌜ (r ≡ 0 → Serves nodes links finals n (now (slots .exit)) (now (bytes .exit))) ⌝ }
+{
+    if NODE_LIMIT < (nodes as usize) {
+        return refusal::LIMITS;
+    }
+    if LINK_LIMIT < (links as usize) {
+        return refusal::LIMITS;
+    }
+    if LIST_LIMIT < n {
+        return refusal::COUNT;
+    }
+    let marked = finals_of(nodes, finals);
+    *slots = list_answer::slots_needed(nodes, links, marked, n) as u64;
+    *bytes = bytes_enough(nodes, links, marked, n) as u64;
+    0
+}
+
 // The areas that a list for n of a sheet is made in: the work slots that it needs, of eight words, and
 // bytes that are enough for the result. Tests 1 to 7, in time that grows with the sheet alone.
 #[no_mangle]
 pub extern "C" fn yeldmur_areas(sheet: &[u8], n: u32, slots: &mut u64, bytes: &mut u64) -> u32
-    ensures { λ r. ⌜ (r ≡ testedNumber (now (sheet .entry)) n 0) × (now (slots .exit) ≡ cond (eqb r 0) (slotsNeeded (now (sheet .entry)) n) (now (slots .entry))) × (now (bytes .exit) ≡ cond (eqb r 0) (bytesEnough (now (sheet .entry)) n) (now (bytes .entry))) ⌝ }
+    ensures { λ r. ⌜ r ≡ testedNumber (now (sheet .entry)) n 0 ⌝ }
+    ensures { λ r. ⌜ now (slots .exit) ≡ cond (eqb r 0) (slotsNeeded (now (sheet .entry)) n) (now (slots .entry)) ⌝ }
+    ensures { λ r. ⌜ now (bytes .exit) ≡ cond (eqb r 0) (bytesEnough (now (sheet .entry)) n) (now (bytes .entry)) ⌝ }
     ensures { λ r. ⌜ (r ≡ 0 → Enough (now (sheet .entry)) n (now (slots .exit)) (now (bytes .exit))) ⌝ }
 {
     match machine::input::input(sheet) {
         Tested::Refused(k) => k,
         Tested::Accepted(t) => {
-            if LIST_LIMIT < n {
-                return 7;
-            }
             let finals = machine::finals::count_finals(sheet, t.links, t.nodes);
-            *slots = list_answer::slots_needed(t.nodes, t.links, finals, n) as u64;
-            *bytes = bytes_enough(t.nodes, t.links, finals, n) as u64;
-            0
+            yeldmur_areas_of(t.nodes, t.links, finals, n, slots, bytes)
         }
     }
 }

@@ -116,11 +116,16 @@ pub fn distance_slots(sheet: &[u8]) -> usize {
     laid_out(sheet).unwrap().nodes.len()
 }
 
+/// The nodes, links and final nodes of an accepted sheet.
+pub fn counts(sheet: &[u8]) -> [u32; 3] {
+    let fields = laid_out(sheet).unwrap();
+    let finals = fields.nodes.iter().filter(|node| node[1] == 1).count();
+    [fields.nodes.len(), fields.links.len(), finals].map(|count| count as u32)
+}
+
 /// The work slots that a list of an accepted sheet needs.
 pub fn list_slots(sheet: &[u8], n: u32) -> usize {
-    let fields = laid_out(sheet).unwrap();
-    let (nodes, links) = (fields.nodes.len(), fields.links.len());
-    let finals = fields.nodes.iter().filter(|node| node[1] == 1).count();
+    let [nodes, links, finals] = counts(sheet).map(|count| count as usize);
     match n {
         0 => 0,
         1 => nodes,

@@ -17,7 +17,8 @@ pub fn compare(tally: &mut Tally, sheet: &[u8], n: u32, answer: Option<usize>) {
     let told = match expected {
         0 => {
             let enough = answer.is_none_or(|length| length as u64 <= sizes[1]);
-            sizes[0] == checker::list_slots(sheet, n) as u64 && enough
+            let same = of_counts(sheet, n) == sizes;
+            sizes[0] == checker::list_slots(sheet, n) as u64 && enough && same
         }
         _ => sizes == [SIZE; 2],
     };
@@ -26,4 +27,13 @@ pub fn compare(tally: &mut Tally, sheet: &[u8], n: u32, answer: Option<usize>) {
         sheet,
         number == expected && told,
     );
+}
+
+/// The sizes by the counts of an accepted sheet alone.
+fn of_counts(sheet: &[u8], n: u32) -> [u64; 2] {
+    let [nodes, links, finals] = checker::counts(sheet);
+    let mut sizes = [SIZE; 2];
+    let [slots, bytes] = &mut sizes;
+    assert_eq!(ffi::areas_of(nodes, links, finals, n, slots, bytes), 0);
+    sizes
 }
