@@ -2,12 +2,11 @@
 use mathlib.Core.Bool.{Bool, true, false, cond}
 use mathlib.Core.List.{List, _++_}
 use Prim.Native.Nat.{ℕ, zero, suc, _+_, _*_}
-use lib.Dec.{eqb, ltb}
+use lib.Dec.{ltb}
 use lib.ListN.{length, drop}
 use Rattle.sheet.specs.Machine.{Machine}
 use Rattle.machine.specs.Readings.{marked}
 use Rattle.search.specs.ListMachine.{Result, resultBytes}
-use Rattle.slots.specs.Slots.{nothing}
 use Rattle.list_answer.specs.declared.Listed.{Listed}
 use Rattle.list_answer.specs.declared.Listed.the-variants as Listed
 
@@ -25,10 +24,6 @@ abbrev pub listedOver : Result → List ℕ → List ℕ
 listedOver r old = cond (ltb (length old) (length (resultBytes r))) old (resultBytes r ++ drop (length (resultBytes r)) old)
 
 -- ---- what a list needs
--- the node that the old start becomes, or nothing
-abbrev pub endWord : ℕ → ℕ
-endWord start = cond (eqb start nothing) nothing (start + 1)
-
 -- work slots, for N nodes, T links and F final nodes: none for n = 0, N for n = 1, otherwise N + T + 2 × F + 2 + n × (T + 1)
 abbrev pub slotsOf : ℕ → ℕ → ℕ → ℕ → ℕ
 slotsOf nodes links finals zero = 0

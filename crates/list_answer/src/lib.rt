@@ -5,6 +5,7 @@ ghost use lib.ListN.{length};
 ghost use Rattle.tropical_weight.specs.Limits.{nodeLimit, linkLimit, listLimit};
 ghost use Rattle.search.specs.ListMachine.{empty};
 ghost use Rattle.list_answer.specs.ListAnswer.{listedIn, listedOver, slotsOf};
+use sheet::refusal;
 use sheet::tr::TRAILER;
 use sheet::words::put_words;
 use slots::NOTHING;
@@ -36,7 +37,7 @@ pub fn put_none(result: &mut [u8]) -> Listed
     ensures { λ _. ⌜ now (result .exit) ≡ listedOver empty (now (result .entry)) ⌝ }
 {
     if result.len() < TRAILER {
-        return Listed::Refused(21);
+        return Listed::Refused(refusal::RESULT);
     }
     let trailer = [0, 0, 0, 0, NOTHING];
     put_words(result, 0, &trailer);

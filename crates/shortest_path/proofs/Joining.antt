@@ -8,8 +8,9 @@ use native.Mathlib.Nat.{mul-le-mul-right}
 use native.Mathlib.Numerals.{add-one}
 use native.Mathlib.Omega.{arith}
 use lib.Dec.{eqb}
+use lib.IntN.{ℤ}
 use lib.ListN.{length, getD}
-use borrow.Author.Tests.{eq-eqb, ne-eqb}
+use borrow.Author.Tests.{eq-eqb, ne-eqb, eqb-false}
 use Rattle.tropical_weight.specs.Limits.{weightLimit, listLimit}
 use Rattle.tropical_weight.specs.Tropical.{Tropical, fin, inf}
 use Rattle.sheet.specs.declared.tr.Trailer.{Trailer}
@@ -23,7 +24,7 @@ use Rattle.machine.specs.Input.{inputNumber}
 use Rattle.machine.specs.Climbs.{Small}
 use Rattle.machine.specs.Distance.{total}
 use Rattle.machine.specs.Parents.{best}
-use Rattle.machine.specs.Readings.{Reading, marked}
+use Rattle.machine.specs.Readings.{Reading, IsReading, readingCost, marked}
 use Rattle.machine.proofs.Accepted.{passes, small-machine}
 use Rattle.machine.proofs.Parents.{best-infinite, best-finite}
 use Rattle.search.specs.Reversed.{reversed}
@@ -38,7 +39,7 @@ use Rattle.search.proofs.Trims.{trimmed-is}
 use Rattle.slots.specs.Slots.{nothing, infinite}
 use Rattle.search_slots.specs.Slots.{listedWord, distanceWord, visitsWord}
 use Rattle.list_answer.proofs.SlotsNeeded.{slots-many}
-use Rattle.list_answer.specs.ListAnswer.{endWord, slotsOf, slotsFor, listedIn, listedOver}
+use Rattle.list_answer.specs.ListAnswer.{slotsOf, slotsFor, listedIn, listedOver}
 use Rattle.machine.specs.Finals.{finalsAt, finalCount}
 use Rattle.reversed_machine.specs.Laid.{Reversal}
 use Rattle.shortest_distance.proofs.Accepted.{links-are, nodes-are}
@@ -53,7 +54,7 @@ use Rattle.list_machine.proofs.Writings.{listable, list-answers, list-leaves}
 use Rattle.list_machine.proofs.Sources.{sourced}
 use Rattle.tropical_weight.proofs.Semiring.{isFinite, not-finite}
 use Rattle.shortest_distance.proofs.Offers.{bits-finite}
-use Rattle.shortest_path.proofs.Lying.{endField, lies, fan-few}
+use Rattle.shortest_path.proofs.Lying.{lies, fan-few}
 
 -- n = 0 gives the empty machine
 pub zero-empty : (m : Machine) → resultFor m 0 ≡ empty
@@ -110,71 +111,10 @@ module _ (bytes : List ℕ) (below : Below 256 bytes) (ok : inputNumber bytes �
     slots-are = slots-many (length (m .finals)) (length (m .links)) (marked (m .finals)) n lo ∙ omega (arith, allowed-is, links-is, nodes-is, finals-is)
 
     abbrev pub places : Places
-    places = record { nodes = 8 * (1 + finals + n * (t .links + 1)); links = 8 * (1 + finals + n * (t .links + 1)) + 8 * (t .nodes + 1); inputs = t .links; end = endWord (t .start) }
+    places = record { nodes = 8 * (1 + finals + n * (t .links + 1)); links = 8 * (1 + finals + n * (t .links + 1)) + 8 * (t .nodes + 1); inputs = t .links; end = t .start + 1 }
 
     -- ---- once the machine is reversed
     module _ (old part : List ℕ) (long : 8 * slotsFor m n ≤ length old) (rev : Reversal m (places .nodes) (places .links) old part) where
-      end-is : endWord (t .start) ≡ endField (m .start)
-      unfolding machineOf partsOf
-      end-is = ap (λ (t : Trailer). endWord (t .start)) same ∙ go (eqb (trailerAt bytes .start) nothing)
-        where
-          go : (c : Bool) → cond c nothing (trailerAt bytes .start + 1) ≡ endField (cond c none (some (trailerAt bytes .start)))
-          go true = refl
-          go false = add-one (trailerAt bytes .start)
-
-      laid : Storing.Laid places (suc (length (m .finals))) (reversed m) part
-      laid = lies m (a .climbs) b (a .few-nodes) places part links-is end-is (rev .laid)
-
-      sized : Sized places (noneW part)
-      sized = record {
-        heap-few = omega arith;
-        room = omega arith;
-        after = omega arith;
-        inside = omega (arith, rev .laid .room);
-        small = omega (arith, product, few-links, few-finals);
-        each = λ i h. absurd (omega arith);
-        numbers = λ i h. absurd (omega arith);
-      }
-
-      pub begins : Begins places part
-      begins = record { sized = sized; free = omega arith; node = omega (arith, rev .laid .room) }
-
-      fresh : (q : ℕ) → q < suc (length (m .finals)) → visitsWord part (places .nodes) q ≡ 0
-      fresh q h = rev .fresh q (omega arith)
-
-      fans : (v : ℕ) → v < suc (length (m .finals)) → length (reversed m .out v) ≤ t .links + finals
-      fans v h = omega (arith, fan-few m (a .climbs) b (a .few-nodes) places part links-is end-is (rev .laid) v h, links-is, finals-is)
-
-      room-is : 8 * mostTaken m n ≤ places .nodes
-      room-is = omega (arith, allowed-is)
-
-      small-is : mostTaken m n < 4294967295
-      small-is = omega (arith, allowed-is, product, few-links, few-finals)
-
-      pub going : (k : ℕ) → stoppedW n (afterW places n (t .links + finals) k (begunW places part)) ≡ false → Ready places n (afterW places n (t .links + finals) k (begunW places part))
-      going = readies m (a .climbs) b (a .few-nodes) n places (t .links + finals) fans room-is small-is part laid sized fresh
-
-      abbrev pub done : Words
-      done = afterW places n (t .links + finals) (1 + finals + n * (t .links + 1)) (begunW places part)
-
-      pub found : Stores places (suc (length (m .finals))) (reversed m) (search m n) done
-      unfolding search
-      found =
-          subst (λ k. Stores places (suc (length (m .finals))) (reversed m) (search m n) (afterW places n (t .links + finals) k (begunW places part))) (sym allowed-is)
-          (stores-after m (a .climbs) b (a .few-nodes) n places (t .links + finals) fans room-is small-is part laid sized fresh (mostTaken m n))
-
-      pub holding : Holding (done .part) (search m n)
-      holding = record {
-        slots = omega (arith, found .entries-count, found .sized .room, found .sized .after, found .sized .inside);
-        listed-slots = omega (arith, found .listed-few, found .entries-count, found .sized .room, found .sized .after, found .sized .inside);
-        held = found .entries;
-        held-listed = λ k h. sym (getD-listBelow (length (search m n .listed)) (listedWord (done .part)) k 0 h) ∙ ap (λ l. getD l k 0) (found .listed);
-      }
-
-      pub source : Sourced m (search m n)
-      unfolding search
-      source = sourced m (a .climbs) n (omega (arith, few-listed m (a .climbs) n, put-room m (a .climbs) n (search m n) (holds-after m (a .climbs) n (mostTaken m n)), allowed-is, product, few-links, few-finals))
-
       -- ---- whether there is a reading
       total-at : distanceWord part (places .nodes) 0 ≡ bitsOf (total m)
       total-at = rev .laid .distances 0 (omega arith)
@@ -190,35 +130,104 @@ module _ (bytes : List ℕ) (below : Below 256 bytes) (ok : inputNumber bytes �
           turned true q = q
           turned false q = refl
 
-      pub some-there : (getD part (places .nodes) 0 ≡ infinite → ⊥) → resultFor m n ≡ listResult m (search m n)
-      unfolding resultFor
-      some-there e = go (total m) refl (sym (ne-eqb (getD part (places .nodes) 0) infinite e) ∙ word-is)
+      -- where there is one the machine has a start, which the trailer names
+      reading : (getD part (places .nodes) 0 ≡ infinite → ⊥) → (k : ℤ) × (total m ≡ fin k)
+      reading e = go (total m) refl (sym (ne-eqb (getD part (places .nodes) 0) infinite e) ∙ word-is)
         where
-          many : (k : ℕ) → 2 ≤ k → (x : Reading) → resultBy m k (some x) ≡ trimmed m (search m k)
-          many zero h x = absurd (omega arith)
-          many (suc zero) h x = absurd (omega arith)
-          many (suc (suc k)) h x = refl
-
-          go : (d : Tropical) → total m ≡ d → false ≡ not (isFinite d) → resultBy m n (best m) ≡ listResult m (search m n)
+          go : (d : Tropical) → total m ≡ d → false ≡ not (isFinite d) → (k : ℤ) × (total m ≡ fin k)
           go inf q h = absurd (not-both h refl)
-          go (fin k) q h =
-              let x = best-finite m (a .climbs) k q in
-              ap (resultBy m n) (x .1) ∙ many n lo (x .0) ∙ trimmed-is m (search m n) (numbered m (a .climbs) n) (some-listed m a n (omega arith) (x .0) (x .2))
-
-      -- ---- the list written
-      pub listed-done : Listable bytes (t .links) (done .part) (done .counts .entries) (done .counts .listed)
-      listed-done =
-          subst (λ k. Listable bytes k (done .part) (done .counts .entries) (done .counts .listed)) (sym (ap (λ (t : Trailer). t .links) same))
-          (subst (λ k. Listable bytes (statedLinks bytes) (done .part) k (done .counts .listed)) (sym (found .entries-count))
-          (subst (λ k. Listable bytes (statedLinks bytes) (done .part) (length (search m n .entries)) k) (sym (found .listed-count)) (listable bytes below ok (search m n) (numbered m (a .climbs) n) (done .part) holding source)))
+          go (fin k) q h = (k, q)
 
       module _ (there : getD part (places .nodes) 0 ≡ infinite → ⊥) where
+        found-best : (x : Reading) × (best m ≡ some x) × IsReading m x × (readingCost m x ≡ total m)
+        found-best = let r = reading there in best-finite m (a .climbs) (r .0) (r .1)
+
+        pub start-is : (m .start ≡ some (t .start)) × (t .start ≡ nothing → ⊥)
+        unfolding machineOf partsOf
+        start-is =
+            let e = ap (λ (t : Trailer). t .start) same in
+            let s = go (trailerAt bytes .start) (eqb (trailerAt bytes .start) nothing) refl (found-best .2 .starts) in
+            (s .0 ∙ ap some (sym e), λ z. s .1 (sym e ∙ z))
+          where
+            go : (s : ℕ) (c : Bool) → eqb s nothing ≡ c → cond c none (some s) ≡ some (found-best .2 .from) → (cond c none (some s) ≡ some s) × (s ≡ nothing → ⊥)
+            go s true q e = let z : _≡_ {A = ℕ} 0 1 = cc in absurd (omega arith)
+            go s false q e = (refl, λ z. eqb-false s nothing q z)
+
+        laid : Storing.Laid places (suc (length (m .finals))) (reversed m) part
+        laid = lies m (a .climbs) b (a .few-nodes) places part links-is (t .start) (start-is .0) (add-one (t .start)) (rev .laid)
+
+        sized : Sized places (noneW part)
+        sized = record {
+          heap-few = omega arith;
+          room = omega arith;
+          after = omega arith;
+          inside = omega (arith, rev .laid .room);
+          small = omega (arith, product, few-links, few-finals);
+          each = λ i h. absurd (omega arith);
+          numbers = λ i h. absurd (omega arith);
+        }
+
+        pub begins : Begins places part
+        begins = record { sized = sized; free = omega arith; node = omega (arith, rev .laid .room) }
+
+        fresh : (q : ℕ) → q < suc (length (m .finals)) → visitsWord part (places .nodes) q ≡ 0
+        fresh q h = rev .fresh q (omega arith)
+
+        fans : (v : ℕ) → v < suc (length (m .finals)) → length (reversed m .out v) ≤ t .links + finals
+        fans v h = omega (arith, fan-few m (a .climbs) b (a .few-nodes) places part links-is (t .start) (start-is .0) (add-one (t .start)) (rev .laid) v h, links-is, finals-is)
+
+        room-is : 8 * mostTaken m n ≤ places .nodes
+        room-is = omega (arith, allowed-is)
+
+        small-is : mostTaken m n < 4294967295
+        small-is = omega (arith, allowed-is, product, few-links, few-finals)
+
+        pub going : (k : ℕ) → stoppedW n (afterW places n (t .links + finals) k (begunW places part)) ≡ false → Ready places n (afterW places n (t .links + finals) k (begunW places part))
+        going = readies m (a .climbs) b (a .few-nodes) n places (t .links + finals) fans room-is small-is part laid sized fresh
+
+        abbrev pub done : Words
+        done = afterW places n (t .links + finals) (1 + finals + n * (t .links + 1)) (begunW places part)
+
+        pub found : Stores places (suc (length (m .finals))) (reversed m) (search m n) done
+        unfolding search
+        found =
+            subst (λ k. Stores places (suc (length (m .finals))) (reversed m) (search m n) (afterW places n (t .links + finals) k (begunW places part))) (sym allowed-is)
+            (stores-after m (a .climbs) b (a .few-nodes) n places (t .links + finals) fans room-is small-is part laid sized fresh (mostTaken m n))
+
+        pub holding : Holding (done .part) (search m n)
+        holding = record {
+          slots = omega (arith, found .entries-count, found .sized .room, found .sized .after, found .sized .inside);
+          listed-slots = omega (arith, found .listed-few, found .entries-count, found .sized .room, found .sized .after, found .sized .inside);
+          held = found .entries;
+          held-listed = λ k h. sym (getD-listBelow (length (search m n .listed)) (listedWord (done .part)) k 0 h) ∙ ap (λ l. getD l k 0) (found .listed);
+        }
+
+        pub source : Sourced m (search m n)
+        unfolding search
+        source = sourced m (a .climbs) n (omega (arith, few-listed m (a .climbs) n, put-room m (a .climbs) n (search m n) (holds-after m (a .climbs) n (mostTaken m n)), allowed-is, product, few-links, few-finals))
+
+        pub some-there : resultFor m n ≡ listResult m (search m n)
+        unfolding resultFor
+        some-there = ap (resultBy m n) (found-best .1) ∙ many n lo (found-best .0) ∙ trimmed-is m (search m n) (numbered m (a .climbs) n) (some-listed m a n (omega arith) (found-best .0) (found-best .2))
+          where
+            many : (k : ℕ) → 2 ≤ k → (x : Reading) → resultBy m k (some x) ≡ trimmed m (search m k)
+            many zero h x = absurd (omega arith)
+            many (suc zero) h x = absurd (omega arith)
+            many (suc (suc k)) h x = refl
+
+        -- ---- the list written
+        pub listed-done : Listable bytes (t .links) (done .part) (done .counts .entries) (done .counts .listed)
+        listed-done =
+            subst (λ k. Listable bytes k (done .part) (done .counts .entries) (done .counts .listed)) (sym (ap (λ (t : Trailer). t .links) same))
+            (subst (λ k. Listable bytes (statedLinks bytes) (done .part) k (done .counts .listed)) (sym (found .entries-count))
+            (subst (λ k. Listable bytes (statedLinks bytes) (done .part) (length (search m n .entries)) k) (sym (found .listed-count)) (listable bytes below ok (search m n) (numbered m (a .climbs) n) (done .part) holding source)))
+
         pub answers : (room : ℕ) → listAnswer (done .counts .listed) (keptCount (done .counts .entries) (done .counts .listed) (done .part)) (done .counts .taken) room ≡ listedIn (resultFor m n) room
         answers room =
             (λ i. listAnswer (found .listed-count i) (keptCount (found .entries-count i) (found .listed-count i) (done .part)) (found .taken-count i) room)
-            ∙ list-answers bytes below ok (search m n) (numbered m (a .climbs) n) (done .part) holding source room ∙ ap (λ r. listedIn r room) (sym (some-there there))
+            ∙ list-answers bytes below ok (search m n) (numbered m (a .climbs) n) (done .part) holding source room ∙ ap (λ r. listedIn r room) (sym some-there)
 
         pub leaves : (old : List ℕ) → listAfter bytes (t .links) (done .part) (done .counts .entries) (done .counts .listed) old ≡ listedOver (resultFor m n) old
         leaves old =
             (λ i. listAfter bytes (ap (λ (t : Trailer). t .links) same i) (done .part) (found .entries-count i) (found .listed-count i) old)
-            ∙ list-leaves bytes below ok (search m n) (numbered m (a .climbs) n) (done .part) holding source old ∙ ap (λ r. listedOver r old) (sym (some-there there))
+            ∙ list-leaves bytes below ok (search m n) (numbered m (a .climbs) n) (done .part) holding source old ∙ ap (λ r. listedOver r old) (sym some-there)

@@ -30,11 +30,6 @@ use Rattle.reversed_machine.specs.Laid.{backCount, Laid}
 use Rattle.n_shortest.proofs.Storing as Storing
 use Rattle.n_shortest.proofs.Storing.{ChainIs}
 
--- the word of the old start's node, or nothing where there is no start
-abbrev pub endField : Option ℕ → ℕ
-endField none = nothing
-endField (some s) = suc s
-
 -- ---- the old start
 swapped : (a b : ℕ) → eqb a b ≡ eqb b a
 swapped a b = elim (ℕ-discrete a b) [
@@ -42,12 +37,9 @@ swapped a b = elim (ℕ-discrete a b) [
   | no n ↦ ne-eqb a b n ∙ sym (ne-eqb b a (λ e. n (sym e)))
 ]
 
--- nothing is the number of no node
-end-is : (m : Machine) (q : ℕ) → q < nothing → (o : Option ℕ) → m .start ≡ o → eqb q (endField o) ≡ isEnd m q
-end-is m zero h none e = ne-eqb 0 nothing (λ z. omega arith)
-end-is m zero h (some s) e = ne-eqb 0 (suc s) (λ z. omega arith)
-end-is m (suc v) h none e = ne-eqb (suc v) nothing (λ z. omega arith) ∙ ap (λ (x : Option ℕ). isAt x v) (sym e)
-end-is m (suc v) h (some s) e = eqb·suc-suc v s ∙ swapped v s ∙ ap (λ (x : Option ℕ). isAt x v) (sym e)
+end-is : (m : Machine) (s q : ℕ) → m .start ≡ some s → eqb q (suc s) ≡ isEnd m q
+end-is m s zero e = ne-eqb 0 (suc s) (λ z. omega arith)
+end-is m s (suc v) e = eqb·suc-suc v s ∙ swapped v s ∙ ap (λ (x : Option ℕ). isAt x v) (sym e)
 
 -- ---- the numbers along a chain
 chain-few : (part : List ℕ) (links n k : ℕ) → length (chainOf part links k n) ≤ n
@@ -70,8 +62,8 @@ repeated-is inputs T k e = ap (λ (n : ℕ). repeated n k) e ∙ go (ltb k T)
 one-term : (w : Tropical) → Within weightLimit w → Within sumLimit w
 one-term w h = within-mono weightLimit sumLimit w (lit≤ tt) h
 
-module _ (m : Machine) (c : Climbs m) (b : Small weightLimit m) (few : length (m .finals) ≤ nodeLimit) (p : Places) (part : List ℕ) (inputs : p .inputs ≡ length (m .links)) (end : p .end ≡ endField (m .start))
-    (laid : Laid m (p .nodes) (p .links) part) where
+module _ (m : Machine) (c : Climbs m) (b : Small weightLimit m) (few : length (m .finals) ≤ nodeLimit) (p : Places) (part : List ℕ) (inputs : p .inputs ≡ length (m .links))
+    (s : ℕ) (starts : m .start ≡ some s) (end : p .end ≡ suc s) (laid : Laid m (p .nodes) (p .links) part) where
   abbrev size : ℕ
   size = suc (length (m .finals))
 
@@ -131,5 +123,5 @@ module _ (m : Machine) (c : Climbs m) (b : Small weightLimit m) (few : length (m
     within = togo-within m c b few;
     chains = λ q h. subst (ChainIs p size (reversed m) part (headWord part (p .nodes) q)) (out-is q h) (chain-is (backCount m) (headWord part (p .nodes) q) (head-enough (headWord part (p .nodes) q) (laid .heads q (omega arith))));
     leads = λ q x h. (leads-in m c q x h, weight-within q x h);
-    ends = λ q h. ap (eqb q) end ∙ end-is m q (omega arith) (m .start) refl;
+    ends = λ q h. ap (eqb q) end ∙ end-is m s q starts;
   }

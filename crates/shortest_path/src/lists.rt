@@ -9,7 +9,7 @@ ghost use Rattle.sheet.specs.Records.{trailerAt};
 ghost use Rattle.machine.specs.Input.{inputNumber};
 ghost use Rattle.search.specs.ListMachine.{resultFor};
 ghost use Rattle.machine.specs.Finals.{finalCount};
-ghost use Rattle.list_answer.specs.ListAnswer.{endWord, slotsFor, listedIn, listedOver};
+ghost use Rattle.list_answer.specs.ListAnswer.{slotsFor, listedIn, listedOver};
 use list_answer::Listed;
 use list_machine::trim;
 use n_shortest::n_best;
@@ -17,18 +17,7 @@ use reversed_machine::reverse;
 use sheet::tr::Trailer;
 use single_path::single;
 use slots::INFINITE;
-use slots::NOTHING;
 use slots::SLOT;
-
-// The node that the old start becomes, or nothing.
-fn end_of(start: u32) -> u32
-    ensures { λ r. ⌜ r ≡ endWord start ⌝ }
-{
-    if start == NOTHING {
-        return NOTHING;
-    }
-    start + 1
-}
 
 // The n cheapest readings of an accepted sheet with so many final nodes, n from 2.
 pub fn list_many(
@@ -41,7 +30,8 @@ pub fn list_many(
 ) -> Listed
     requires { ⌜ (inputNumber (now sheet) ≡ 0) × (t ≡ trailerAt (now sheet)) × (finals ≡ finalCount (now sheet) (t .links) (t .nodes)) ⌝ }
     requires { ⌜ (2 ≤ n) × (n ≤ listLimit) × (8 * slotsFor (machineOf (partsOf (now sheet))) n ≤ length (now part)) ⌝ }
-    ensures { λ r. ⌜ (r ≡ listedIn (resultFor (machineOf (partsOf (now (sheet .entry)))) n) (length (now (result .entry)))) × (now (result .exit) ≡ listedOver (resultFor (machineOf (partsOf (now (sheet .entry)))) n) (now (result .entry))) ⌝ }
+    ensures { λ r. ⌜ r ≡ listedIn (resultFor (machineOf (partsOf (now (sheet .entry)))) n) (length (now (result .entry))) ⌝ }
+    ensures { λ _. ⌜ now (result .exit) ≡ listedOver (resultFor (machineOf (partsOf (now (sheet .entry)))) n) (now (result .entry)) ⌝ }
 {
     let links = t.links;
     let allowed = 1 + finals + n * (links + 1);
@@ -49,14 +39,16 @@ pub fn list_many(
     let chains = heads + SLOT * ((t.nodes as usize) + 1);
     reverse::measure(sheet, t, part, heads);
     reverse::reverse(sheet, t, finals, part, heads, chains);
+    // without a reading the least total is infinite; with one there is a start
     if part[heads] == INFINITE {
         return list_answer::put_none(result);
     }
+    let end = t.start + 1;
     let p = n_best::Places {
         nodes: heads,
         links: chains,
         inputs: links,
-        end: end_of(t.start),
+        end,
     };
     let c = n_best::n_shortest_path(part, p, n, links + finals, allowed);
     trim::write_list(
@@ -81,7 +73,8 @@ pub fn list_in(
 ) -> Listed
     requires { ⌜ (inputNumber (now sheet) ≡ 0) × (t ≡ trailerAt (now sheet)) × (finals ≡ finalCount (now sheet) (t .links) (t .nodes)) ⌝ }
     requires { ⌜ (n ≤ listLimit) × (8 * slotsFor (machineOf (partsOf (now sheet))) n ≤ length (now part)) ⌝ }
-    ensures { λ r. ⌜ (r ≡ listedIn (resultFor (machineOf (partsOf (now (sheet .entry)))) n) (length (now (result .entry)))) × (now (result .exit) ≡ listedOver (resultFor (machineOf (partsOf (now (sheet .entry)))) n) (now (result .entry))) ⌝ }
+    ensures { λ r. ⌜ r ≡ listedIn (resultFor (machineOf (partsOf (now (sheet .entry)))) n) (length (now (result .entry))) ⌝ }
+    ensures { λ _. ⌜ now (result .exit) ≡ listedOver (resultFor (machineOf (partsOf (now (sheet .entry)))) n) (now (result .entry)) ⌝ }
 {
     if n == 0 {
         return list_answer::put_none(result);

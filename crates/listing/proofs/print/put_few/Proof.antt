@@ -35,7 +35,7 @@ trailer-of-requires : tie.Need-trailer-of-requires
 trailer-of-requires c κs =
     let root = c .before .before .before .before .before .before .before .before .before .before in
     let a = root .args in
-    omega (arith, in-sheet-trailer (now (a .sheet)) (made-input (now (a .sheet)) (λ i. omega (arith, c .before .before .before .before .before .before .before .before .before .shared-slice-known .given i)) (a .n) (root .pre .1) (root .pre .0) (c .before .nodes .given .0 .0) (c .before .nodes .given .0 .1 .0) (c .before .nodes .given .0 .1 .1 .0) (sym (c .before .nodes .given .1) ∙ c .before .before .before .before .before .shortest-path .ensures .0 .0) .passed))
+    omega (arith, in-sheet-trailer (now (a .sheet)) (made-input (now (a .sheet)) (λ i. omega (arith, c .before .before .before .before .before .before .before .before .before .shared-slice-known .given i)) (a .n) (root .pre .1) (root .pre .0) (c .before .nodes .given .0 .0) (c .before .nodes .given .0 .1 .0) (c .before .nodes .given .0 .1 .1 .0) (sym (c .before .nodes .given .1) ∙ c .before .before .before .before .before .shortest-path .ensures .0) .passed))
 
 slice-aggregate-put-list : tie.Need-slice-aggregate-put-list
 slice-aggregate-put-list c = search needs
@@ -44,9 +44,9 @@ put-list-requires : tie.Need-put-list-requires
 put-list-requires c κs =
     let root = c .before .before .before .before .before .before .before .before .before .before .before .before .before in
     let a = root .args in
-    let made = made-input (now (a .sheet)) (λ i. omega (arith, c .before .before .before .before .before .before .before .before .before .before .before .before .shared-slice-known .given i)) (a .n) (root .pre .1) (root .pre .0) (c .before .before .before .before .nodes .given .0 .0) (c .before .before .before .before .nodes .given .0 .1 .0) (c .before .before .before .before .nodes .given .0 .1 .1 .0) (sym (c .before .before .before .before .nodes .given .1) ∙ c .before .before .before .before .before .before .before .before .shortest-path .ensures .0 .0) in
+    let made = made-input (now (a .sheet)) (λ i. omega (arith, c .before .before .before .before .before .before .before .before .before .before .before .before .shared-slice-known .given i)) (a .n) (root .pre .1) (root .pre .0) (c .before .before .before .before .nodes .given .0 .0) (c .before .before .before .before .nodes .given .0 .1 .0) (c .before .before .before .before .nodes .given .0 .1 .1 .0) (sym (c .before .before .before .before .nodes .given .1) ∙ c .before .before .before .before .before .before .before .before .shortest-path .ensures .0) in
     let most = sizes (now (a .sheet)) (λ i. omega (arith, c .before .before .before .before .before .before .before .before .before .before .before .before .shared-slice-known .given i)) (a .n) (root .pre .1) (root .pre .0) (made .passed) .1 in
-    (held (now (a .sheet)) (λ i. omega (arith, c .before .before .before .before .before .before .before .before .before .before .before .before .shared-slice-known .given i)) (a .n) (root .pre .1) (root .pre .0) (c .before .before .trailer-of .result) (c .before .before .trailer-of .ensures) _ _ _ made (replicate resultBytesMost 0) _ (length-replicate {A = ℕ} resultBytesMost 0) (c .before .before .before .before .before .before .before .before .shortest-path .ensures .0 .2), root .pre .0, omega (arith, most, made .nodes-are), root .pre .2)
+    (held (now (a .sheet)) (λ i. omega (arith, c .before .before .before .before .before .before .before .before .before .before .before .before .shared-slice-known .given i)) (a .n) (root .pre .1) (root .pre .0) (c .before .before .trailer-of .result) (c .before .before .trailer-of .ensures) _ _ _ made (replicate resultBytesMost 0) _ (length-replicate {A = ℕ} resultBytesMost 0) (c .before .before .before .before .before .before .before .before .shortest-path .ensures .2), root .pre .0, omega (arith, most, made .nodes-are), root .pre .2)
 
 same-length : tie.Need-same-length
 same-length c = search needs
@@ -56,7 +56,7 @@ returns c =
     let root = c .before .before .before .before .before .before .before .before .before .before .before .before .before .before in
     let a = root .args in
     let k = c .before .before .before .before .before .k .given .0 .0 in
-    let refused = refused-input (now (a .sheet)) (λ i. omega (arith, c .before .before .before .before .before .before .before .before .before .before .before .before .before .shared-slice-known .given i)) (a .n) (root .pre .1) (root .pre .0) k (sym (c .before .before .before .before .before .k .given .1) ∙ c .before .before .before .before .before .before .before .before .before .shortest-path .ensures .0 .0) in
+    let refused = refused-input (now (a .sheet)) (λ i. omega (arith, c .before .before .before .before .before .before .before .before .before .before .before .before .before .shared-slice-known .given i)) (a .n) (root .pre .1) (root .pre .0) k (sym (c .before .before .before .before .before .k .given .1) ∙ c .before .before .before .before .before .before .before .before .before .shortest-path .ensures .0) in
     (puts-same (sym (printed-refused (a .n) (now (a .sheet)) (root .pre .1) (root .pre .0) k (refused .1) (refused .0))) (c .before .before .put-refused .ensures .0), omega (arith, c .before .before .put-refused .ensures .1))
 
 same-length-2 : tie.Need-same-length-2
@@ -66,7 +66,7 @@ returns-2 : tie.Need-returns-2
 returns-2 c =
     let root = c .before .before .before .before .before .before .before .before .before .before .before .before .before .before .before .before in
     let a = root .args in
-    let made = made-input (now (a .sheet)) (λ i. omega (arith, c .before .before .before .before .before .before .before .before .before .before .before .before .before .before .before .shared-slice-known .given i)) (a .n) (root .pre .1) (root .pre .0) (c .before .before .before .before .before .before .before .nodes .given .0 .0) (c .before .before .before .before .before .before .before .nodes .given .0 .1 .0) (c .before .before .before .before .before .before .before .nodes .given .0 .1 .1 .0) (sym (c .before .before .before .before .before .before .before .nodes .given .1) ∙ c .before .before .before .before .before .before .before .before .before .before .before .shortest-path .ensures .0 .0) in
+    let made = made-input (now (a .sheet)) (λ i. omega (arith, c .before .before .before .before .before .before .before .before .before .before .before .before .before .before .before .shared-slice-known .given i)) (a .n) (root .pre .1) (root .pre .0) (c .before .before .before .before .before .before .before .nodes .given .0 .0) (c .before .before .before .before .before .before .before .nodes .given .0 .1 .0) (c .before .before .before .before .before .before .before .nodes .given .0 .1 .1 .0) (sym (c .before .before .before .before .before .before .before .nodes .given .1) ∙ c .before .before .before .before .before .before .before .before .before .before .before .shortest-path .ensures .0) in
     (puts-same (ap (λ (k : ℕ). firstLine (length (listFor (machine (now (a .sheet))) (a .n))) k ++ readingLines (machine (now (a .sheet))) 1 (listFor (machine (now (a .sheet))) (a .n))) (made .taken-is) ∙ printed-listed (a .n) (now (a .sheet)) (root .pre .1) (root .pre .0) (made .passed)) (c .before .before .put-list .ensures .0), c .before .before .put-list .ensures .1)
 
 pub put-few-spec : {M : Type 1} → statement M

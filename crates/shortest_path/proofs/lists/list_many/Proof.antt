@@ -9,9 +9,9 @@ use Rattle.sheet.specs.Sheet.{partsOf}
 use Rattle.sheet.specs.Machine.{machineOf}
 use Rattle.reversed_machine.specs.Laid.{Reversal}
 use Rattle.reversed_machine.proofs.Reversals.{reversal}
-use Rattle.shortest_path.proofs.Joining.{few-finals, few-links, few-nodes, product, slots-are, begins, going, none-there, listed-done, answers, leaves}
+use Rattle.shortest_path.proofs.Joining.{few-finals, few-links, few-nodes, product, slots-are, start-is, begins, going, none-there, listed-done, answers, leaves}
 use Rattle.search.specs.ListMachine.{empty}
-use Rattle.list_answer.specs.ListAnswer.{endWord, listedIn, listedOver}
+use Rattle.list_answer.specs.ListAnswer.{listedIn, listedOver}
 use Rattle.n_shortest.specs.declared.n_best.Places.{Places}
 use Rattle.n_shortest.specs.SearchWords.{Words, afterW, begunW, stoppedW, Ready, Begins}
 use Rattle.list_machine.specs.TrimWords.{keptCount, listAnswer, listAfter, Listable}
@@ -102,8 +102,14 @@ returns c =
     let e = none-there (now (args .sheet)) (λ i. omega (arith, c .before .before .before .before .before .before .before .before .before .before .before .before .before .before .before .before .before .shared-slice-known .given i)) (root .pre .0 .0) (args .t) (root .pre .0 .1) (args .finals) (root .pre .0 .2) (args .n) (root .pre .1 .0) (root .pre .1 .1) old part (omega (arith, root .pre .1 .2, c .before .before .before .before .before .before .before .before .before .before .before .before .measure .kept .1 .1 .0)) (turned (c .before .before .before .before .before .before .before .before)) (c .before .before .before .before .if1 .taken) in
     (c .before .before .put-none .ensures .0 ∙ ap (λ r. listedIn r (length (now (args .result)))) (sym e), c .before .before .put-none .ensures .1 ∙ ap (λ r. listedOver r (now (args .result))) (sym e))
 
-end-of-requires : tie.Need-end-of-requires
-end-of-requires c κs = search needs
+add-end : tie.Need-add-end
+add-end c =
+    let root = c .before .before .before .before .before .before .before .before .before .before .before .before .before .before .before in
+    let args = root .args in
+    let old = c .before .before .before .before .before .before .before .before .before .measure .last .1 .1 .0 in
+    let part = c .before .before .before .before .before .reverse .last .1 .1 .1 .0 in
+    let start = start-is (now (args .sheet)) (λ i. omega (arith, c .before .before .before .before .before .before .before .before .before .before .before .before .before .before .shared-slice-known .given i)) (root .pre .0 .0) (args .t) (root .pre .0 .1) (args .finals) (root .pre .0 .2) (args .n) (root .pre .1 .0) (root .pre .1 .1) old part (omega (arith, root .pre .1 .2, c .before .before .before .before .before .before .before .before .before .measure .kept .1 .1 .0)) (turned (c .before .before .before .before .before)) (c .before .if1 .left) in
+    omega (arith, start .1)
 
 add-n-shortest-path : tie.Need-add-n-shortest-path
 add-n-shortest-path c = let f = few (c .before .before .before .before .before .before .before .before .before .before .before .before .before .before .before) in omega (arith, f .0, f .1, f .2, f .3, f .4)
@@ -114,11 +120,8 @@ n-shortest-path-requires c κs =
     let args = root .args in
     let old = c .before .before .before .before .before .before .before .before .before .before .measure .last .1 .1 .0 in
     let part = c .before .before .before .before .before .before .reverse .last .1 .1 .1 .0 in
-    let heads = 8 * (1 + args .finals + args .n * (args .t .links + 1)) in
-    let at : ℕ → Places = λ e. record { nodes = heads; links = heads + 8 * (args .t .nodes + 1); inputs = args .t .links; end = e } in
-    subst (λ e. Begins (at e) part × ((k : ℕ) → stoppedW (args .n) (afterW (at e) (args .n) (args .t .links + args .finals) k (begunW (at e) part)) ≡ false → Ready (at e) (args .n) (afterW (at e) (args .n) (args .t .links + args .finals) k (begunW (at e) part))))
-    (sym (c .before .end-of .ensures))
-    (begins (now (args .sheet)) (λ i. omega (arith, c .before .before .before .before .before .before .before .before .before .before .before .before .before .before .before .shared-slice-known .given i)) (root .pre .0 .0) (args .t) (root .pre .0 .1) (args .finals) (root .pre .0 .2) (args .n) (root .pre .1 .0) (root .pre .1 .1) old part (omega (arith, root .pre .1 .2, c .before .before .before .before .before .before .before .before .before .before .measure .kept .1 .1 .0)) (turned (c .before .before .before .before .before .before)), going (now (args .sheet)) (λ i. omega (arith, c .before .before .before .before .before .before .before .before .before .before .before .before .before .before .before .shared-slice-known .given i)) (root .pre .0 .0) (args .t) (root .pre .0 .1) (args .finals) (root .pre .0 .2) (args .n) (root .pre .1 .0) (root .pre .1 .1) old part (omega (arith, root .pre .1 .2, c .before .before .before .before .before .before .before .before .before .before .measure .kept .1 .1 .0)) (turned (c .before .before .before .before .before .before)))
+    let there = c .before .before .if1 .left in
+    (begins (now (args .sheet)) (λ i. omega (arith, c .before .before .before .before .before .before .before .before .before .before .before .before .before .before .before .shared-slice-known .given i)) (root .pre .0 .0) (args .t) (root .pre .0 .1) (args .finals) (root .pre .0 .2) (args .n) (root .pre .1 .0) (root .pre .1 .1) old part (omega (arith, root .pre .1 .2, c .before .before .before .before .before .before .before .before .before .before .measure .kept .1 .1 .0)) (turned (c .before .before .before .before .before .before)) there, going (now (args .sheet)) (λ i. omega (arith, c .before .before .before .before .before .before .before .before .before .before .before .before .before .before .before .shared-slice-known .given i)) (root .pre .0 .0) (args .t) (root .pre .0 .1) (args .finals) (root .pre .0 .2) (args .n) (root .pre .1 .0) (root .pre .1 .1) old part (omega (arith, root .pre .1 .2, c .before .before .before .before .before .before .before .before .before .before .measure .kept .1 .1 .0)) (turned (c .before .before .before .before .before .before)) there)
 
 cast-write-list : tie.Need-cast-write-list
 cast-write-list c = search needs
@@ -133,11 +136,11 @@ write-list-requires c κs =
     let old = c .before .before .before .before .before .before .before .before .before .before .before .before .before .before .before .before .before .measure .last .1 .1 .0 in
     let part = c .before .before .before .before .before .before .before .before .before .before .before .before .before .reverse .last .1 .1 .1 .0 in
     let heads = 8 * (1 + args .finals + args .n * (args .t .links + 1)) in
-    let ended : ℕ → Words = λ e. let p : Places = record { nodes = heads; links = heads + 8 * (args .t .nodes + 1); inputs = args .t .links; end = e } in afterW p (args .n) (args .t .links + args .finals) (1 + args .finals + args .n * (args .t .links + 1)) (begunW p part) in
+    let ended : Words = let p : Places = record { nodes = heads; links = heads + 8 * (args .t .nodes + 1); inputs = args .t .links; end = args .t .start + 1 } in afterW p (args .n) (args .t .links + args .finals) (1 + args .finals + args .n * (args .t .links + 1)) (begunW p part) in
     let made = c .before .before .before .before .before .before .n-shortest-path in
-    let whole : _≡_ {A = Words} (record { part = made .last .0; counts = made .result }) (ended (endWord (args .t .start))) = (λ i. record { part = made .ensures .1 i; counts = made .ensures .0 i }) ∙ ap ended (c .before .before .before .before .before .before .before .before .end-of .ensures) in
+    let whole : _≡_ {A = Words} (record { part = made .last .0; counts = made .result }) ended = λ i. record { part = made .ensures .1 i; counts = made .ensures .0 i } in
     subst (λ (w : Words). Listable (now (args .sheet)) (args .t .links) (w .part) (w .counts .entries) (w .counts .listed)) (sym whole)
-    (listed-done (now (args .sheet)) (λ i. omega (arith, c .before .before .before .before .before .before .before .before .before .before .before .before .before .before .before .before .before .before .before .before .before .before .shared-slice-known .given i)) (root .pre .0 .0) (args .t) (root .pre .0 .1) (args .finals) (root .pre .0 .2) (args .n) (root .pre .1 .0) (root .pre .1 .1) old part (omega (arith, root .pre .1 .2, c .before .before .before .before .before .before .before .before .before .before .before .before .before .before .before .before .before .measure .kept .1 .1 .0)) (turned (c .before .before .before .before .before .before .before .before .before .before .before .before .before)))
+    (listed-done (now (args .sheet)) (λ i. omega (arith, c .before .before .before .before .before .before .before .before .before .before .before .before .before .before .before .before .before .before .before .before .before .before .shared-slice-known .given i)) (root .pre .0 .0) (args .t) (root .pre .0 .1) (args .finals) (root .pre .0 .2) (args .n) (root .pre .1 .0) (root .pre .1 .1) old part (omega (arith, root .pre .1 .2, c .before .before .before .before .before .before .before .before .before .before .before .before .before .before .before .before .before .measure .kept .1 .1 .0)) (turned (c .before .before .before .before .before .before .before .before .before .before .before .before .before)) (c .before .before .before .before .before .before .before .before .before .if1 .left))
 
 same-length-3 : tie.Need-same-length-3
 same-length-3 c = search needs
@@ -152,9 +155,9 @@ returns-2 c =
     let old = c .before .before .before .before .before .before .before .before .before .before .before .before .before .before .before .before .before .before .before .before .before .before .measure .last .1 .1 .0 in
     let part = c .before .before .before .before .before .before .before .before .before .before .before .before .before .before .before .before .before .before .reverse .last .1 .1 .1 .0 in
     let heads = 8 * (1 + args .finals + args .n * (args .t .links + 1)) in
-    let ended : ℕ → Words = λ e. let p : Places = record { nodes = heads; links = heads + 8 * (args .t .nodes + 1); inputs = args .t .links; end = e } in afterW p (args .n) (args .t .links + args .finals) (1 + args .finals + args .n * (args .t .links + 1)) (begunW p part) in
+    let ended : Words = let p : Places = record { nodes = heads; links = heads + 8 * (args .t .nodes + 1); inputs = args .t .links; end = args .t .start + 1 } in afterW p (args .n) (args .t .links + args .finals) (1 + args .finals + args .n * (args .t .links + 1)) (begunW p part) in
     let made = c .before .before .before .before .before .before .before .before .before .before .before .n-shortest-path in
-    let whole : _≡_ {A = Words} (record { part = made .last .0; counts = made .result }) (ended (endWord (args .t .start))) = (λ i. record { part = made .ensures .1 i; counts = made .ensures .0 i }) ∙ ap ended (c .before .before .before .before .before .before .before .before .before .before .before .before .before .end-of .ensures) in
+    let whole : _≡_ {A = Words} (record { part = made .last .0; counts = made .result }) ended = λ i. record { part = made .ensures .1 i; counts = made .ensures .0 i } in
     let there = c .before .before .before .before .before .before .before .before .before .before .before .before .before .before .if1 .left in
     let long = length (now (args .result)) in (
       c .before .before .before .before .write-list .ensures .0 ∙ ap (λ (w : Words). listAnswer (w .counts .listed) (keptCount (w .counts .entries) (w .counts .listed) (w .part)) (w .counts .taken) long) whole
@@ -185,7 +188,7 @@ list-many-spec =
     same-length
     same-length-2
     returns
-    end-of-requires
+    add-end
     add-n-shortest-path
     n-shortest-path-requires
     cast-write-list
