@@ -22,7 +22,7 @@ returns c =
     let root = c .before .before .before .before in
     let args = root .args in
     let o = outcome-7 (now (args .sheet)) (args .n) (now (args .work)) (now (args .result)) (root .pre .0) (c .if1 .taken) in
-    (o .answer-is, o .work-is, o .result-is)
+    (o .answer-is, (o .work-is, o .result-is))
 
 count-finals-requires : tie.Need-count-finals-requires
 count-finals-requires c κs =
@@ -57,7 +57,7 @@ returns-2 c =
     let args = root .args in
     let few : length (now (args .work)) / 8 < slotsNeeded (now (args .sheet)) (args .n) = subst (λ (k : ℕ). length (now (args .work)) / 8 < k) (needed (c .before)) (c .if2 .taken) in
     let o = outcome-20 (now (args .sheet)) (args .n) (now (args .work)) (now (args .result)) (root .pre .0) (c .before .before .before .if1 .left) few in
-    (o .answer-is, o .work-is, o .result-is)
+    (o .answer-is, (o .work-is, o .result-is))
 
 cast-words : tie.Need-cast-words
 cast-words c = search needs
@@ -99,7 +99,7 @@ returns-3 c =
     let size : length part ≡ 8 * k = c .before .before .before .before .before .before .before .before .list-in .kept .1 .1 .1 .1 .0 ∙ length-take-le (8 * k) (now (args .work)) (omega (arith, c .before .before .before .before .before .before .before .before .before .before .before .if2 .left)) in
     let made = part ++ drop (8 * k) (now (args .work)) in
     let o = outcome-made (now (args .sheet)) (args .n) (now (args .work)) (now (args .result)) (root .pre .0) (c .before .before .before .before .before .before .before .before .before .before .before .before .before .before .if1 .left) (omega (arith, same, c .before .before .before .before .before .before .before .before .before .before .before .if2 .left)) made (beyond-part part (now (args .work)) k _ same size) in
-    (c .before .before .before .before .before .before .before .before .list-in .ensures .0 ∙ o .answer-is, c .before .before .clear .ensures ∙ ap (λ (k : ℕ). cleared k made) same ∙ o .work-is, c .before .before .before .before .before .before .before .before .list-in .ensures .1 ∙ o .result-is)
+    (c .before .before .before .before .before .before .before .before .list-in .ensures .0 ∙ o .answer-is, (c .before .before .clear .ensures ∙ ap (λ (k : ℕ). cleared k made) same ∙ o .work-is, c .before .before .before .before .before .before .before .before .list-in .ensures .1 ∙ o .result-is))
 
 pub lists-of-spec : {M : Type 1} → statement M
 lists-of-spec =

@@ -34,7 +34,7 @@ returns c =
     let k = c .before .k .given .0 .0 in
     let refused = refused-number bytes (inputNumber bytes) k (sym (c .before .before .before .input .ensures) ∙ c .before .k .given .1) in
     let o = outcome-input bytes (a .n) (now (a .work)) (now (a .result)) k (refused .0) (refused .1) (subst (λ (n : ℕ). n ≤ 6) (refused .0) (input-most bytes)) in
-    (o .answer-is, o .work-is, o .result-is, tt)
+    (o .answer-is, (o .work-is, (o .result-is, tt)))
 
 same-length : tie.Need-same-length
 same-length c = search needs
@@ -47,7 +47,7 @@ returns-2 c =
     let a = c .before .before .before .before .before .before .before .before .before .before .before .before .before .before .args in
     let e = c .before .before .before .before .lists-of .ensures in
     let p = promised (now (a .sheet)) (λ i. omega (arith, c .before .before .before .before .before .before .before .before .before .before .before .before .before .shared-slice-known .given i)) (a .n) (length (now (a .work))) (now (a .result)) in
-    (e .0, e .1, e .2, subst (λ l. Promised (now (a .sheet)) (a .n) (c .before .before .before .before .lists-of .result) l) (sym (e .2)) (subst (λ r. Promised (now (a .sheet)) (a .n) r (resultAfter (now (a .sheet)) (a .n) (length (now (a .work))) (now (a .result)))) (sym (e .0)) p))
+    (e .0, (e .1 .0, (e .1 .1, subst (λ l. Promised (now (a .sheet)) (a .n) (c .before .before .before .before .lists-of .result) l) (sym (e .1 .1)) (subst (λ r. Promised (now (a .sheet)) (a .n) r (resultAfter (now (a .sheet)) (a .n) (length (now (a .work))) (now (a .result)))) (sym (e .0)) p))))
 
 pub shortest-path-spec : {M : Type 1} → statement M
 shortest-path-spec =

@@ -46,7 +46,7 @@ put-list-requires c κs =
     let a = root .args in
     let made = made-input (now (a .sheet)) (λ i. omega (arith, c .before .before .before .before .before .before .before .before .before .before .before .before .shared-slice-known .given i)) (a .n) (root .pre .1) (root .pre .0) (c .before .before .before .before .nodes .given .0 .0) (c .before .before .before .before .nodes .given .0 .1 .0) (c .before .before .before .before .nodes .given .0 .1 .1 .0) (sym (c .before .before .before .before .nodes .given .1) ∙ c .before .before .before .before .before .before .before .before .shortest-path .ensures .0) in
     let most = sizes (now (a .sheet)) (λ i. omega (arith, c .before .before .before .before .before .before .before .before .before .before .before .before .shared-slice-known .given i)) (a .n) (root .pre .1) (root .pre .0) (made .passed) .1 in
-    (held (now (a .sheet)) (λ i. omega (arith, c .before .before .before .before .before .before .before .before .before .before .before .before .shared-slice-known .given i)) (a .n) (root .pre .1) (root .pre .0) (c .before .before .trailer-of .result) (c .before .before .trailer-of .ensures) _ _ _ made (replicate resultBytesMost 0) _ (length-replicate {A = ℕ} resultBytesMost 0) (c .before .before .before .before .before .before .before .before .shortest-path .ensures .2), root .pre .0, omega (arith, most, made .nodes-are), root .pre .2)
+    (held (now (a .sheet)) (λ i. omega (arith, c .before .before .before .before .before .before .before .before .before .before .before .before .shared-slice-known .given i)) (a .n) (root .pre .1) (root .pre .0) (c .before .before .trailer-of .result) (c .before .before .trailer-of .ensures) _ _ _ made (replicate resultBytesMost 0) _ (length-replicate {A = ℕ} resultBytesMost 0) (c .before .before .before .before .before .before .before .before .shortest-path .ensures .1 .1 .0), root .pre .0, omega (arith, most, made .nodes-are), root .pre .2)
 
 same-length : tie.Need-same-length
 same-length c = search needs
