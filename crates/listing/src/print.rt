@@ -118,7 +118,13 @@ fn refusal(sheet: &[u8], n: u32) -> u32
 {
     match input(sheet) {
         Tested::Refused(k) => k,
-        Tested::Accepted(_) => { if LIST_LIMIT < n { 7 } else { 20 } }
+        Tested::Accepted(_) => {
+            if LIST_LIMIT < n {
+                sheet::refusal::COUNT
+            } else {
+                sheet::refusal::WORK
+            }
+        }
     }
 }
 
@@ -129,12 +135,12 @@ pub fn print(read: &[u8], out: &mut [u8]) -> usize
     ensures { λ r. ⌜ Counts r (now (out .exit)) ⌝ }
 {
     if read.len() == 0 {
-        return text::put_refused(out, 0, 1);
+        return text::put_refused(out, 0, sheet::refusal::LAYOUT);
     }
     let n = read[0] as u32;
     let sheet = &read[1..];
     if SHEET_MOST < sheet.len() {
-        return text::put_refused(out, 0, 20);
+        return text::put_refused(out, 0, sheet::refusal::WORK);
     }
     if LIST_MOST < n {
         return text::put_refused(out, 0, refusal(sheet, n));

@@ -13,6 +13,8 @@ use lib.Seq.{drop-cons}
 use borrow.Author.Tests.{eq-eqb, ne-eqb, eqb-true, eqb-false, lt-ltb, le-ltb}
 use Rattle.tropical_weight.specs.Tropical.{Tropical}
 use Rattle.sheet.specs.Below.{sumBelow}
+use Rattle.tropical_weight.specs.Limits.{unit}
+use Rattle.tropical_weight.specs.Grid.{ofT}
 use Rattle.sheet.specs.Words.{word}
 use Rattle.sheet.specs.Records.{countAt, firstLink, markAt, finalAt}
 use Rattle.sheet.specs.Machine.{Machine, weightOf}
@@ -24,7 +26,7 @@ use Rattle.search_slots.specs.Slots.{headWord, nextWord, weightWord, chainWord}
 use Rattle.machine.specs.Finals.{finalCount}
 use Rattle.reversed_machine.specs.ReverseWords.{linkPut, linksPut, linksReversed, finalPut, finalsReversed, chained, backOf}
 use Rattle.machine.proofs.FinalCount.{count-plain, count-final, count-mono}
-use Rattle.reversed_machine.proofs.Granted.{Tells}
+use Rattle.machine.proofs.SheetFields.{SheetFields}
 use Rattle.reversed_machine.proofs.Fronts.{front-size, front-next, front-weight, front-chain, front-head, front-spared, Lists, Same, lists-lower, lists-kept, lists-first, Filled, filled-kept, filled-by}
 
 -- ---- the definitions, a link or a node more
@@ -47,7 +49,7 @@ module _ (m : Machine) where
   zero-next : (v : ℕ) (o : Option Tropical) → v < length (m .finals) → final m v ≡ o → outOfZero (drop v (m .finals)) v ≡ outOfZero (o ∷ drop (suc v) (m .finals)) v
   zero-next v o h e = ap (λ fs. outOfZero fs v) (drop-cons (m .finals) v none h ∙ ap (λ x. x ∷ drop (suc v) (m .finals)) e)
 
-module _ (bytes : List ℕ) (T N : ℕ) (m : Machine) (s : Tells bytes T N m) (nodes links : ℕ) (apart : nodes + 8 * (N + 1) ≤ links) where
+module _ (bytes : List ℕ) (T N : ℕ) (m : Machine) (s : SheetFields bytes T N m) (nodes links : ℕ) (apart : nodes + 8 * (N + 1) ≤ links) where
   -- ---- the links from number l on are in their chains
   pub record Passed (l : ℕ) (part : List ℕ) : Type 0 where
     pub room : links + 8 * T ≤ length part
@@ -122,7 +124,7 @@ module _ (bytes : List ℕ) (T N : ℕ) (m : Machine) (s : Tells bytes T N m) (n
           (front-chain nodes links (nx + 1) l (v + 1) (word bytes (16 * l + 8)) part below fits (nodes + 8 * (nx + 1) + 2) refl ∙ same)
           (front-next nodes links (nx + 1) l (v + 1) (word bytes (16 * l + 8)) part below fits (nodes + 8 * (nx + 1) + 2) refl)
           (front-weight nodes links (nx + 1) l (v + 1) (word bytes (16 * l + 8)) part below fits (nodes + 8 * (nx + 1) + 2) refl)
-          start (omega arith) (omega (arith, inside)) (s .link-value l h))
+          start (omega arith) (omega (arith, inside)) (s .link-value l h ∙ ap (ofT unit) (sym (s .weight-at l h))))
       | no n ↦ filled-kept links T T N (suc l) part new later k (omega arith) b (p .slots k (omega arith) b)
     ]
 

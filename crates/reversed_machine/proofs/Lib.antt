@@ -1,8 +1,7 @@
 pub mod Passing
-pub mod Granted
 pub mod Fronts
 pub mod Chains
-pub mod Spared
+pub mod Untouched
 pub mod Totals
 pub mod Reversals
 pub mod Keeping

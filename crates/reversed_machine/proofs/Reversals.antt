@@ -20,14 +20,14 @@ use Rattle.machine.specs.Readings.{marked}
 use Rattle.shortest_distance.proofs.Accepted.{reads, nodes-are, links-are}
 use Rattle.slots.specs.Slots.{nothing}
 use Rattle.search_slots.specs.Slots.{distanceWord, headWord, visitsWord, chainWord}
-use Rattle.machine.specs.Finals.{finalCount}
+use Rattle.machine.specs.Finals.{finalsAt, finalCount}
 use Rattle.reversed_machine.specs.ReverseWords.{headsCleared, linksReversed, finalsReversed, leastTotal, chainsPut, reversedWords, chainOf, backOf}
 use Rattle.reversed_machine.specs.Laid.{backCount, Measured, Laid, Reversal}
 use Rattle.machine.proofs.FinalCount.{count-none, count-most}
-use Rattle.reversed_machine.proofs.Granted.{stated, Tells, tells}
+use Rattle.machine.proofs.SheetFields.{SheetFields, fields-own}
 use Rattle.reversed_machine.proofs.Fronts.{Lists, Same, lists-lower, lists-kept, lists-length, lists-read, lists-first, Filled, filled-kept}
 use Rattle.reversed_machine.proofs.Chains.{Passed, Ended, links-reversed, finals-reversed}
-use Rattle.reversed_machine.proofs.Spared.{cleared-size, cleared-spared, cleared-words, Free, reversed-size, finals-size, reversed-free, finals-free}
+use Rattle.reversed_machine.proofs.Untouched.{cleared-size, cleared-spared, cleared-words, Free, reversed-size, finals-size, reversed-free, finals-free}
 use Rattle.reversed_machine.proofs.Totals.{least-exact}
 
 -- ---- after the passes, by the machine's own numbers
@@ -41,16 +41,15 @@ module _ (bytes : List ℕ) (e : inputNumber bytes ≡ 0) (nodes links : ℕ) (p
   abbrev N : ℕ
   N = length (machineOf (partsOf bytes) .finals)
 
-  abbrev s : Tells bytes (length (machineOf (partsOf bytes) .links)) (length (machineOf (partsOf bytes) .finals)) (machineOf (partsOf bytes))
-  s = tells bytes e
+  abbrev s : SheetFields bytes (length (machineOf (partsOf bytes) .links)) (length (machineOf (partsOf bytes) .finals)) (machineOf (partsOf bytes))
+  s = fields-own bytes e
 
   whole : T + finalCount bytes T N ≡ backCount (machineOf (partsOf bytes))
+  unfolding finalsAt
   whole = ap (λ fs. T + marked fs) (s .finals-are)
 
   few-links : backCount (machineOf (partsOf bytes)) < nothing
-  few-links =
-      let g = stated bytes e in
-      omega (arith, sym whole, count-most bytes T N, g .nodes-few, g .links-few, nodes-are bytes e, links-are bytes e)
+  few-links = omega (arith, sym whole, count-most bytes T N, s .few-nodes, s .few-links)
 
   module _ (apart : nodes + 8 * (N + 1) ≤ links) (room : links + 8 * backCount (machineOf (partsOf bytes)) ≤ length part) (measured : Measured (machineOf (partsOf bytes)) nodes part) where
     abbrev heads : List ℕ

@@ -28,7 +28,7 @@ use Rattle.machine.proofs.Bounds.{dist-within, dist-limit}
 use Rattle.search_slots.specs.Slots.{distanceWord}
 use Rattle.sheet.specs.Records.{markAt, finalAt}
 use Rattle.reversed_machine.specs.ReverseWords.{totalWith, leastTotal}
-use Rattle.reversed_machine.proofs.Granted.{Tells}
+use Rattle.machine.proofs.SheetFields.{SheetFields}
 
 covered : unit ≤ finest
 covered = lit≤ tt
@@ -52,7 +52,7 @@ module _ (m : Machine) (climbs : Climbs m) (small : Small weightLimit m) (few : 
   unfolding listBelow plusAll
   least-next v = plusAll-append (listBelow v (totalAt m)) (totalAt m v ∷ []) ∙ ap (λ x. plusAll (listBelow v (totalAt m)) ⊕ x) (⊕-comm (totalAt m v) inf ∙ zero-⊕ (totalAt m v))
 
-  module _ (bytes : List ℕ) (T N : ℕ) (s : Tells bytes T N m) (nodes : ℕ) (part : List ℕ) (measured : (v : ℕ) → v < N → distanceWord part nodes (v + 1) ≡ bitsOf (dist m v)) where
+  module _ (bytes : List ℕ) (T N : ℕ) (s : SheetFields bytes T N m) (nodes : ℕ) (part : List ℕ) (measured : (v : ℕ) → v < N → distanceWord part nodes (v + 1) ≡ bitsOf (dist m v)) where
     least-at : (n : ℕ) → n ≤ N → leastTotal bytes nodes T n part ≡ ofT unit (plusAll (listBelow n (totalAt m)))
     unfolding leastTotal listBelow plusAll
     least-at zero h = refl

@@ -43,7 +43,7 @@ use Rattle.list_answer.specs.ListAnswer.{slotsOf, slotsFor, listedIn, listedOve
 use Rattle.machine.specs.Finals.{finalsAt, finalCount}
 use Rattle.reversed_machine.specs.Laid.{Reversal}
 use Rattle.shortest_distance.proofs.Accepted.{links-are, nodes-are}
-use Rattle.reversed_machine.proofs.Granted.{tells}
+use Rattle.machine.proofs.SheetFields.{fields-own}
 use Rattle.n_shortest.specs.declared.n_best.Places.{Places}
 use Rattle.n_shortest.specs.SearchWords.{Words, afterW, begunW, noneW, stoppedW, Sized, Ready, Begins}
 use Rattle.n_shortest.proofs.Storing as Storing
@@ -54,7 +54,7 @@ use Rattle.list_machine.proofs.Writings.{listable, list-answers, list-leaves}
 use Rattle.list_machine.proofs.Sources.{sourced}
 use Rattle.tropical_weight.proofs.Semiring.{isFinite, not-finite}
 use Rattle.shortest_distance.proofs.Offers.{bits-finite}
-use Rattle.shortest_path.proofs.Lying.{lies, fan-few}
+use Rattle.shortest_path.proofs.SearchReads.{lies, fan-few}
 
 -- n = 0 gives the empty machine
 pub zero-empty : (m : Machine) → resultFor m 0 ≡ empty
@@ -82,7 +82,8 @@ module _ (bytes : List ℕ) (below : Below 256 bytes) (ok : inputNumber bytes �
   nodes-is = ap (λ (t : Trailer). t .nodes) same ∙ sym (nodes-are bytes ok)
 
   pub finals-is : finals ≡ marked (m .finals)
-  finals-is = counted ∙ (λ i. marked (finalsAt bytes (links-is i) (nodes-is i))) ∙ ap marked (tells bytes ok .finals-are)
+  unfolding finalsAt
+  finals-is = counted ∙ (λ i. marked (finalsAt bytes (links-is i) (nodes-is i))) ∙ ap marked (fields-own bytes ok .finals-are)
 
   pub few-nodes : t .nodes ≤ 4096
   few-nodes = omega (arith, nodes-is, a .few-nodes)

@@ -1,4 +1,4 @@
-pub mod Lying
+pub mod SearchReads
 pub mod Joining
 pub mod Outcomes
 pub mod Promises

@@ -6,18 +6,19 @@ use denote.Ref.{now}
 use borrow.Author.Needs.{needs}
 use Rattle.machine.proofs.FinalCount.{count-most}
 use Rattle.reversed_machine.proofs.Passing.{passes-made}
-use Rattle.reversed_machine.proofs.Granted.{Grants, granted}
+use Rattle.sheet.specs.Machine.{machine}
+use Rattle.machine.proofs.SheetFields.{SheetFields, fields-for}
 use Rattle.reversed_machine.proofs.reverse.reverse.Statement.{statement}
 use Rattle.reversed_machine.proofs.reverse.reverse.Tie as tie
 
--- what the sheet grants, and how many final nodes there are
-grant : (c : tie.Start) → Grants (now (c .args .sheet)) (c .args .t .links) (c .args .t .nodes) × (c .args .finals ≤ c .args .t .nodes)
+-- what the sheet gives, and how many final nodes there are
+grant : (c : tie.Start) → SheetFields (now (c .args .sheet)) (c .args .t .links) (c .args .t .nodes) (machine (now (c .args .sheet))) × (c .args .finals ≤ c .args .t .nodes)
 grant c =
     let args = c .args in
-    (granted (now (args .sheet)) (c .pre .0 .0) (args .t) (c .pre .0 .1), omega (arith, c .pre .0 .2, count-most (now (args .sheet)) (args .t .links) (args .t .nodes)))
+    (fields-for (now (args .sheet)) (c .pre .0 .0) (args .t) (c .pre .0 .1), omega (arith, c .pre .0 .2, count-most (now (args .sheet)) (args .t .links) (args .t .nodes)))
 
 add-clear-heads : tie.Need-add-clear-heads
-add-clear-heads c = omega (arith, grant (c .before .before .before) .0 .nodes-few)
+add-clear-heads c = omega (arith, grant (c .before .before .before) .0 .few-nodes)
 
 clear-heads-requires : tie.Need-clear-heads-requires
 clear-heads-requires c κs = search needs
@@ -26,14 +27,14 @@ reverse-links-requires : tie.Need-reverse-links-requires
 reverse-links-requires c κs =
     let g = grant (c .before .before .before .before .before .before .before) .0 in
     let kept = c .before .before .before .clear-heads .kept .0 in
-    ((g .laid-out, g .counted, g .inside), (omega (arith, kept), omega (arith, kept)))
+    ((g .laid-out, g .counted, λ l h. omega (arith, g .next-at l h, g .next-in l h)), (omega (arith, kept), omega (arith, kept)))
 
 reverse-finals-requires : tie.Need-reverse-finals-requires
 reverse-finals-requires c κs =
     let g = grant (c .before .before .before .before .before .before .before .before .before .before .before) in
     let start = c .before .before .before .before .before .before .before .before .before .before .before in
     let kept = c .before .before .before .reverse-links .kept .1 .1 .1 .0 ∙ c .before .before .before .before .before .before .before .clear-heads .kept .0 in
-    (g .0 .laid-out, start .pre .0 .2, omega (arith, g .0 .links-few, g .0 .nodes-few, g .1), omega (arith, kept, start .pre .1), omega (arith, kept, start .pre .1))
+    (g .0 .laid-out, start .pre .0 .2, omega (arith, g .0 .few-links, g .0 .few-nodes, g .1), omega (arith, kept, start .pre .1), omega (arith, kept, start .pre .1))
 
 least-total-requires : tie.Need-least-total-requires
 least-total-requires c κs =

@@ -20,7 +20,7 @@ use Rattle.search_slots.specs.Slots.{headWord, visitsWord}
 use Rattle.machine.specs.Finals.{finalCount}
 use Rattle.reversed_machine.specs.ReverseWords.{headsCleared, chained, linkPut, linksPut, linksReversed, finalPut, finalsReversed}
 use Rattle.machine.proofs.FinalCount.{count-final, count-mono}
-use Rattle.reversed_machine.proofs.Granted.{Tells}
+use Rattle.machine.proofs.SheetFields.{SheetFields}
 
 -- ---- heads cleared
 module _ (nodes : ℕ) (part : List ℕ) where
@@ -106,7 +106,7 @@ module _ (bytes : List ℕ) (nodes links : ℕ) where
       one false = simp length-set
 
   -- ---- free words
-  module _ (T N : ℕ) (m : Machine) (s : Tells bytes T N m) (top : ℕ) (whole : T + finalCount bytes T N ≡ top) where
+  module _ (T N : ℕ) (m : Machine) (s : SheetFields bytes T N m) (top : ℕ) (whole : T + finalCount bytes T N ≡ top) where
     links-free : (v first n : ℕ) (part : List ℕ) → first + n ≤ T → (i : ℕ) → Free nodes links N top i → getD (linksPut bytes nodes links v first n part) i 0 ≡ getD part i 0
     unfolding linksPut
     links-free v first zero part h i f = refl
