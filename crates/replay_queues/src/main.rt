@@ -77,7 +77,7 @@ fn replay(text: &[u8]) {
 }
 
 fn main() {
-    let mut text = [0u8; 524288];
+    let mut text = [0u8; 262144];
     let n = io::read_full(STDIN_FILENO, &mut text);
     replay(&text[..n]);
 }

@@ -1,7 +1,12 @@
 // A queue's record as words, little-endian: front, 0 or 1 for back none or some, back, and each node
 // whose flag is set.
-ghost use Prim.Native.Nat.{_≤_};
-ghost use lib.ListN.{length};
+ghost use mathlib.Core.Path.{_≡_};
+ghost use mathlib.Core.Bool.{true, false};
+ghost use Prim.Native.Nat.{ℕ, _≤_, _<_};
+ghost use lib.ListN.{length, getD};
+ghost use Rattle.tropical_weight.specs.Limits.{nodeLimit};
+ghost use Rattle.state_order_queue.specs.declared.Back.the-variants as Back;
+ghost use Rattle.replay_queues.specs.Same.{Same};
 use sheet::words::word;
 use state_order_queue::Back;
 use state_order_queue::Queue;
@@ -38,7 +43,9 @@ pub fn record_of(words: &[u8]) -> Queue
 }
 
 // Whether every flag is the same.
-fn same_flags(a: &[bool; NODE_LIMIT], b: &[bool; NODE_LIMIT]) -> bool {
+fn same_flags(a: &[bool; NODE_LIMIT], b: &[bool; NODE_LIMIT]) -> bool
+    ensures { λ r. ⌜ (r ≡ true → (v : ℕ) → v < nodeLimit → getD (now (a .entry)) v false ≡ getD (now (b .entry)) v false) ⌝ }
+{
     let mut v = 0usize;
     while v < NODE_LIMIT {
         if a[v] != b[v] {
@@ -50,21 +57,27 @@ fn same_flags(a: &[bool; NODE_LIMIT], b: &[bool; NODE_LIMIT]) -> bool {
 }
 
 // Whether both are none, or the same node.
-fn same_back(a: Back, b: Back) -> bool {
+fn same_back(a: Back, b: Back) -> bool
+    ensures { λ r. ⌜ (r ≡ true → a ≡ b) ⌝ }
+{
     match a {
         Back::None => is_none(b),
         Back::At(v) => is_at(b, v),
     }
 }
 
-fn is_none(back: Back) -> bool {
+fn is_none(back: Back) -> bool
+    ensures { λ r. ⌜ (r ≡ true → back ≡ Back.None) ⌝ }
+{
     match back {
         Back::None => true,
         Back::At(_) => false,
     }
 }
 
-fn is_at(back: Back, v: u32) -> bool {
+fn is_at(back: Back, v: u32) -> bool
+    ensures { λ r. ⌜ (r ≡ true → back ≡ Back.At v) ⌝ }
+{
     match back {
         Back::None => false,
         Back::At(b) => b == v,
@@ -72,7 +85,9 @@ fn is_at(back: Back, v: u32) -> bool {
 }
 
 // Whether both records have the same ends and flags.
-pub fn same(a: Queue, b: Queue) -> bool {
+pub fn same(a: Queue, b: Queue) -> bool
+    ensures { λ r. ⌜ (r ≡ true → Same a b) ⌝ }
+{
     if a.front != b.front {
         return false;
     }

@@ -1,5 +1,5 @@
 -- The slots of the work area: set up, left zero, scanned and written out. Assumes nothing.
-use mathlib.Core.Path.{_≡_, refl, sym, ap, _∙_}
+use mathlib.Core.Path.{_≡_, refl, sym, ap, _∙_, subst}
 use mathlib.Core.Logic.{_⊎_, inl, inr}
 use mathlib.Core.List.{List, [], _∷_, _++_}
 use mathlib.Core.Bool.{Bool, true, false, cond}
@@ -39,37 +39,25 @@ prepared-other bytes links v work i h =
     getD-set-other (set p (8 * v) infinite) (8 * v + 1) i (sumBelow v (countAt bytes links)) 0 (λ e. omega arith)
     ∙ getD-set-other p (8 * v) i infinite 0 (λ e. omega arith)
 
-pub prepared-distance : (bytes : List ℕ) (links n : ℕ) (work : List ℕ) (v : ℕ) → v < n → 8 * n ≤ length work
-    → distanceWord (prepared bytes links n work) v ≡ infinite
+-- slot v is set up
+abbrev SetUp : List ℕ → ℕ → List ℕ → ℕ → Type 0
+SetUp bytes links work v = (distanceWord work v ≡ infinite) × (firstWord work v ≡ sumBelow v (countAt bytes links))
+
+pub prepared-words : (bytes : List ℕ) (links n : ℕ) (work : List ℕ) (v : ℕ) → v < n → 8 * n ≤ length work → SetUp bytes links (prepared bytes links n work) v
 unfolding prepared
-prepared-distance bytes links zero work v h fits = absurd (omega arith)
-prepared-distance bytes links (suc n) work v h fits = go (eq-or-lt-of-le (let k : v ≤ n = omega arith in k)) (λ l. prepared-distance bytes links n work v l (omega arith))
+prepared-words bytes links zero work v h fits = absurd (omega arith)
+prepared-words bytes links (suc n) work v h fits = go (eq-or-lt-of-le (let k : v ≤ n = omega arith in k)) (λ l. prepared-words bytes links n work v l (omega arith))
   where
     p : List ℕ
     p = prepared bytes links n work
 
-    go : (v ≡ n) ⊎ (v < n) → (v < n → distanceWord p v ≡ infinite) → distanceWord (prepared bytes links (suc n) work) v ≡ infinite
-    go (inl e) r =
-        ap (λ (k : ℕ). distanceWord (prepared bytes links (suc n) work) k) e
-        ∙ getD-set-other (set p (8 * n) infinite) (8 * n + 1) (8 * n) (sumBelow n (countAt bytes links)) 0 (λ e. omega arith)
-        ∙ getD-set-same p (8 * n) infinite 0 (omega (arith, length-prepared bytes links n work))
-    go (inr l) r = prepared-other bytes links n work (8 * v) (omega arith) ∙ r l
-
-pub prepared-first : (bytes : List ℕ) (links n : ℕ) (work : List ℕ) (v : ℕ) → v < n → 8 * n ≤ length work
-    → firstWord (prepared bytes links n work) v ≡ sumBelow v (countAt bytes links)
-unfolding prepared
-prepared-first bytes links zero work v h fits = absurd (omega arith)
-prepared-first bytes links (suc n) work v h fits = go (eq-or-lt-of-le (let k : v ≤ n = omega arith in k)) (λ l. prepared-first bytes links n work v l (omega arith))
-  where
-    p : List ℕ
-    p = prepared bytes links n work
-
-    go : (v ≡ n) ⊎ (v < n) → (v < n → firstWord p v ≡ sumBelow v (countAt bytes links)) → firstWord (prepared bytes links (suc n) work) v ≡ sumBelow v (countAt bytes links)
-    go (inl e) r =
-        ap (λ (k : ℕ). firstWord (prepared bytes links (suc n) work) k) e
-        ∙ getD-set-same (set p (8 * n) infinite) (8 * n + 1) (sumBelow n (countAt bytes links)) 0 (omega (arith, length-set p (8 * n) infinite, length-prepared bytes links n work))
-        ∙ ap (λ (k : ℕ). sumBelow k (countAt bytes links)) (sym e)
-    go (inr l) r = prepared-other bytes links n work (8 * v + 1) (omega arith) ∙ r l
+    go : (v ≡ n) ⊎ (v < n) → (v < n → SetUp bytes links p v) → SetUp bytes links (prepared bytes links (suc n) work) v
+    go (inl e) r = subst (SetUp bytes links (prepared bytes links (suc n) work)) (sym e) (
+      getD-set-other (set p (8 * n) infinite) (8 * n + 1) (8 * n) (sumBelow n (countAt bytes links)) 0 (λ e. omega arith)
+          ∙ getD-set-same p (8 * n) infinite 0 (omega (arith, length-prepared bytes links n work)),
+      getD-set-same (set p (8 * n) infinite) (8 * n + 1) (sumBelow n (countAt bytes links)) 0 (omega (arith, length-set p (8 * n) infinite, length-prepared bytes links n work)),
+    )
+    go (inr l) r = (prepared-other bytes links n work (8 * v) (omega arith) ∙ r l .0, prepared-other bytes links n work (8 * v + 1) (omega arith) ∙ r l .1)
 
 -- ---- what lies beyond the slots
 beyond : (bytes : List ℕ) (links n : ℕ) (work : List ℕ) (k : ℕ) → 8 * n ≤ k → drop k (prepared bytes links n work) ≡ drop k work

@@ -30,7 +30,7 @@ use Rattle.state_order_queue.specs.Queues.{emptied, enqueued}
 use Rattle.shortest_distance.specs.NodeSlots.{prepared}
 use Rattle.shortest_distance.specs.Relaxation.{State, relaxHeads}
 use Rattle.shortest_distance.specs.Sound.{Sound, Made}
-use Rattle.shortest_distance.proofs.Areas.{length-prepared, prepared-distance, prepared-beyond}
+use Rattle.shortest_distance.proofs.Areas.{length-prepared, prepared-words, prepared-beyond}
 use Rattle.tropical_weight.proofs.Semiring.{isFinite}
 use Rattle.shortest_distance.proofs.Offers.{bits-inf}
 use Rattle.shortest_distance.proofs.Rows.{Holds, Final, heads}
@@ -67,7 +67,7 @@ module _ (bytes old : List ℕ) (e : inputNumber bytes ≡ 0) (room : 8 * stated
     made-none : Made bytes old (prepared bytes (statedLinks bytes) (statedNodes bytes) old)
     made-none = record {
       each = λ v b.
-          prepared-distance bytes (statedLinks bytes) (statedNodes bytes) old v (subst (λ (n : ℕ). v < n) (read-fields bytes .nodes-are) b) room
+          prepared-words bytes (statedLinks bytes) (statedNodes bytes) old v (subst (λ (n : ℕ). v < n) (read-fields bytes .nodes-are) b) room .0
           ∙ sym (ap bitsOf (unreached-inf (machine bytes) (reads bytes e .climbs) v (unreached v)) ∙ bits-inf);
       size = length-prepared bytes (statedLinks bytes) (statedNodes bytes) old;
       beyond = ap (λ (n : ℕ). drop (8 * n) (prepared bytes (statedLinks bytes) (statedNodes bytes) old)) (read-fields bytes .nodes-are) ∙ prepared-beyond bytes (statedLinks bytes) (statedNodes bytes) old ∙ sym (ap (λ (n : ℕ). drop (8 * n) old) (read-fields bytes .nodes-are));

@@ -27,7 +27,7 @@ use Rattle.state_order_queue.proofs.Sets.{emptied-full, emptied-valid, enqueued
 use Rattle.slots.specs.Slots.{infinite}
 use Rattle.shortest_distance.specs.NodeSlots.{distanceWord, prepared, heightIn}
 use Rattle.shortest_distance.specs.Relaxation.{State}
-use Rattle.shortest_distance.proofs.Areas.{length-prepared, prepared-distance, prepared-first, prepared-beyond}
+use Rattle.shortest_distance.proofs.Areas.{length-prepared, prepared-words, prepared-beyond}
 use Rattle.tropical_weight.proofs.Semiring.{isFinite}
 use Rattle.shortest_distance.proofs.Offers.{bits-inf, bits-finite}
 use Rattle.shortest_distance.proofs.Rows.{Reads, Holds, Final}
@@ -63,7 +63,7 @@ module _ (bytes : List ℕ) (links : ℕ) (m : Machine) (r : Reads bytes links m
           ∙ sym (ap bitsOf (row-start v e) ∙ bits-one)
       | no n ↦
           getD-set-other (prepared bytes links (length (m .finals)) old) (8 * s) (8 * v) 0 0 (λ e. n (omega arith))
-          ∙ prepared-distance bytes links (length (m .finals)) old v b room
+          ∙ prepared-words bytes links (length (m .finals)) old v b room .0
           ∙ sym (ap bitsOf (row-blank v n b) ∙ bits-inf)
     ]
 
@@ -88,7 +88,7 @@ module _ (bytes : List ℕ) (links : ℕ) (m : Machine) (r : Reads bytes links m
     pub begun-holds : Holds bytes links m r old 0 0 begun
     begun-holds = record {
       distances = distance-begun;
-      firsts = λ v b. getD-set-other (prepared bytes links (length (m .finals)) old) (8 * s) (8 * v + 1) 0 0 (λ e. omega arith) ∙ prepared-first bytes links (length (m .finals)) old v b room;
+      firsts = λ v b. getD-set-other (prepared bytes links (length (m .finals)) old) (8 * s) (8 * v + 1) 0 0 (λ e. omega arith) ∙ prepared-words bytes links (length (m .finals)) old v b room .1;
       room = simp length-set (subst (λ (n : ℕ). 8 * length (m .finals) ≤ n) (sym (length-prepared bytes links (length (m .finals)) old)) room);
       size = simp length-set (length-prepared bytes links (length (m .finals)) old);
       beyond = drop-set-lt (8 * length (m .finals)) (prepared bytes links (length (m .finals)) old) (8 * s) 0 (omega arith) ∙ prepared-beyond bytes links (length (m .finals)) old;
