@@ -8,14 +8,14 @@ use native.Mathlib.Nat.{eq-or-lt-of-le}
 use native.Mathlib.Numerals.{add-one}
 use native.Mathlib.Omega.{arith}
 use lib.Dec.{eqb}
-use lib.ListN.{length, getD, set, replicate, drop, length-set, length-replicate, replicate-append-replicate}
-use lib.Seq.{sets, drop-cons, append-snoc, set-at, getD-set-same, getD-set-other, drop-set-lt}
+use lib.ListN.{length, getD, set, drop, length-set}
+use lib.Seq.{sets, getD-set-same, getD-set-other, drop-set-lt}
 use Rattle.sheet.specs.Below.{sumBelow, listBelow}
 use Rattle.sheet.specs.Words.{bytesOf, bytesOfAll}
 use Rattle.sheet.proofs.Below.{length-listBelow}
 use Rattle.sheet.proofs.Bytes.{sets-append, bytesOfAll-append, length-bytesOfAll, bytesOfAll-one}
 use Rattle.sheet.specs.Records.{countAt}
-use Rattle.slots.specs.Slots.{infinite, cleared}
+use Rattle.slots.specs.Slots.{infinite}
 use Rattle.shortest_distance.specs.NodeSlots.{distanceWord, firstWord, prepared, heightIn, distanceWords}
 
 -- ---- slots set up

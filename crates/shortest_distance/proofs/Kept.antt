@@ -33,7 +33,7 @@ module _ (bytes : List ℕ) (links nodes : ℕ) where
   Kept s = Sound bytes links nodes (s .work) (s .queue)
 
   -- a node put in
-  put-kept : (work : List ℕ) (q : Queue) (v : ℕ) → v < nodes → Sound bytes links nodes work q → Sound bytes links nodes work (enqueued q v)
+  pub put-kept : (work : List ℕ) (q : Queue) (v : ℕ) → v < nodes → Sound bytes links nodes work q → Sound bytes links nodes work (enqueued q v)
   put-kept work q v l h =
       let small : v < nodeLimit = omega (arith, h .few) in
       record {
@@ -53,7 +53,7 @@ module _ (bytes : List ℕ) (links nodes : ℕ) where
       new u (inr e) = h .held u e
 
   -- a distance stored
-  store-kept : (work : List ℕ) (q : Queue) (v x : ℕ) → Sound bytes links nodes work q → Sound bytes links nodes (set work (8 * v) x) q
+  pub store-kept : (work : List ℕ) (q : Queue) (v x : ℕ) → Sound bytes links nodes work q → Sound bytes links nodes (set work (8 * v) x) q
   store-kept work q v x h = record {
     laid-out = h .laid-out;
     slots = omega (arith, h .slots, length-set work (8 * v) x);

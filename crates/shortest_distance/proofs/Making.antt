@@ -1,17 +1,15 @@
 -- Distances made from an accepted sheet, with a start and without. Assumes nothing.
 use mathlib.Core.Path.{_≡_, refl, sym, ap, _∙_, subst}
-use mathlib.Core.Bool.{Bool, true, false, _&&_, _||_, cond}
+use mathlib.Core.Bool.{Bool, true, false, _||_, cond}
 use mathlib.Core.Option.{none, some}
 use mathlib.Core.List.{List}
 use Prim.Native.Nat.{ℕ, _+_, _*_, _≤_, _<_}
 use native.Mathlib.Nat.{le-of-eq}
 use native.Mathlib.Omega.{arith}
-use lib.Dec.{T, leb, ltb, eqb, ltb→lt}
-use lib.Ieee.Fits.{and-l, and-r}
-use lib.ListN.{length, getD, drop, set}
+use lib.Dec.{eqb}
+use lib.ListN.{length, drop, set}
 use borrow.Author.Tests.{le-ltb, ne-eqb}
 use Rattle.tropical_weight.specs.Limits.{nodeLimit}
-use Rattle.tropical_weight.specs.Tropical.{inf}
 use Rattle.sheet.specs.Below.{sumBelow}
 use Rattle.sheet.specs.Words.{word}
 use Rattle.sheet.specs.declared.tr.Trailer.{Trailer}
@@ -20,7 +18,7 @@ use Rattle.sheet.specs.Sheet.{partsOf, noStart, nodeCount, trailerField, stated
 use Rattle.sheet.specs.Machine.{machineOf, bitsOf, machine}
 use Rattle.sheet.proofs.Fields.{read-fields}
 use Rattle.sheet.proofs.Sources.{machine-nodes}
-use Rattle.machine.specs.Distance.{relax, reached}
+use Rattle.machine.specs.Distance.{reached}
 use Rattle.machine.specs.Input.{inputNumber}
 use Rattle.machine.proofs.Accepted.{passes, input-read, next-at, few-nodes}
 use Rattle.machine.proofs.Testing.{in-sheet, counts-total}
@@ -31,11 +29,13 @@ use Rattle.shortest_distance.specs.NodeSlots.{prepared}
 use Rattle.shortest_distance.specs.Relaxation.{State, relaxHeads}
 use Rattle.shortest_distance.specs.Sound.{Sound, Made}
 use Rattle.shortest_distance.proofs.Areas.{length-prepared, prepared-words, prepared-beyond}
-use Rattle.tropical_weight.proofs.Semiring.{isFinite}
 use Rattle.shortest_distance.proofs.Offers.{bits-inf}
 use Rattle.shortest_distance.proofs.Rows.{Holds, Final, heads}
 use Rattle.shortest_distance.proofs.Accepted.{reads, nodes-are}
 use Rattle.shortest_distance.proofs.Starts.{begun-holds}
+use Rattle.shortest_distance.proofs.Kept.{put-kept, store-kept}
+use Rattle.state_order_queue.proofs.Sets.{emptied-full, emptied-valid, emptied-empty, empty-exactly}
+use Rattle.sheet.proofs.Apart.{not-both}
 
 module _ (bytes old : List ℕ) (e : inputNumber bytes ≡ 0) (room : 8 * statedNodes bytes ≤ length old) where
   few : statedNodes bytes ≤ nodeLimit
@@ -91,24 +91,33 @@ module _ (bytes old : List ℕ) (e : inputNumber bytes ≡ 0) (room : 8 * stated
     none-before : sumBelow 0 (countAt bytes (statedLinks bytes)) ≡ 0
     none-before = unfold sumBelow in refl
 
-    held : Holds bytes (statedLinks bytes) (machine bytes) (reads bytes e) old 0 0 first-state
-    held = subst (λ (n : ℕ). Holds bytes (statedLinks bytes) (machine bytes) (reads bytes e) old 0 0 (record { work = set (prepared bytes (statedLinks bytes) n old) (8 * s) 0; queue = enqueued emptied s })) (nodes-are bytes e) (begun-holds bytes (statedLinks bytes) (machine bytes) (reads bytes e) old s a-start in-nodes slots)
-
-    sound : Sound bytes (statedLinks bytes) (statedNodes bytes) (first-state .work) (first-state .queue)
-    sound = record {
+    -- the slots set up, and a new queue
+    set-up : Sound bytes (statedLinks bytes) (statedNodes bytes) (prepared bytes (statedLinks bytes) (statedNodes bytes) old) emptied
+    set-up = record {
       laid-out = laid-out;
-      slots = subst (λ (n : ℕ). 8 * n ≤ length (first-state .work)) (nodes-are bytes e) (held .room);
+      slots = subst (λ (n : ℕ). 8 * statedNodes bytes ≤ n) (sym (length-prepared bytes (statedLinks bytes) (statedNodes bytes) old)) room;
       few = few;
       counted = counted;
       inside = λ l b. subst (λ (n : ℕ). word bytes (16 * l + 12) < n) (read-fields bytes .nodes-are) (subst (λ (n : ℕ). n < nodeCount (partsOf bytes)) (read-fields bytes .next-is l b) (next-at (partsOf bytes) (passes bytes e) l (subst (λ (n : ℕ). l < n) (sym (read-fields bytes .links-are)) b)));
-      firsts = λ v b. held .firsts v (subst (λ (n : ℕ). v < n) (sym (nodes-are bytes e)) b);
-      full = held .full;
-      valid = held .valid;
-      held = λ v q. subst (λ (n : ℕ). v < n) (nodes-are bytes e) (flagged v (isFinite (getD (relax (machine bytes) 0) v inf)) (subst T (sym (sym (held .flags v) ∙ q)) tt));
+      firsts = λ v b. prepared-words bytes (statedLinks bytes) (statedNodes bytes) old v b room .1;
+      full = emptied-full;
+      valid = emptied-valid;
+      held = λ v q. absurd (not-both q (empty-exactly emptied emptied-full emptied-valid .0 emptied-empty v));
     }
-      where
-        flagged : (v : ℕ) (b : Bool) → T (leb 0 v && (ltb v (length (machine bytes .finals)) && b)) → v < length (machine bytes .finals)
-        flagged v b t = ltb→lt v (length (machine bytes .finals)) (and-l (ltb v (length (machine bytes .finals))) b (and-r (leb 0 v) (ltb v (length (machine bytes .finals)) && b) t))
+
+    sound : Sound bytes (statedLinks bytes) (statedNodes bytes) (first-state .work) (first-state .queue)
+    sound =
+        let area = prepared bytes (statedLinks bytes) (statedNodes bytes) old in
+        store-kept bytes (statedLinks bytes) (statedNodes bytes) area (enqueued emptied s) s 0 (put-kept bytes (statedLinks bytes) (statedNodes bytes) area emptied s h set-up)
+
+    abbrev begun-at : ℕ → State
+    begun-at n = record { work = set (prepared bytes (statedLinks bytes) n old) (8 * s) 0; queue = enqueued emptied s }
+
+    held : Holds bytes (statedLinks bytes) (machine bytes) (reads bytes e) old 0 0 first-state
+    held =
+        subst (λ (n : ℕ). Holds bytes (statedLinks bytes) (machine bytes) (reads bytes e) old 0 0 (begun-at n)) (nodes-are bytes e)
+        (begun-holds bytes (statedLinks bytes) (machine bytes) (reads bytes e) old s a-start in-nodes slots
+        (subst (λ (n : ℕ). Sound bytes (statedLinks bytes) n (begun-at n .work) (begun-at n .queue)) (sym (nodes-are bytes e)) sound))
 
     made-some : Made bytes old (relaxHeads bytes (statedLinks bytes) (statedNodes bytes) first-state .work)
     made-some =

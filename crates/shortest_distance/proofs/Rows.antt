@@ -29,11 +29,13 @@ use Rattle.machine.specs.Climbs.{Climbs, Small}
 use Rattle.machine.specs.Distance.{relax, dist}
 use Rattle.machine.proofs.Relax.{row-size, relax-is}
 use Rattle.machine.proofs.Bounds.{row-within, step-within}
-use Rattle.state_order_queue.specs.Queues.{holds, isValid, isEmpty, enqueued, dequeued}
-use Rattle.state_order_queue.proofs.Sets.{enqueued-full, enqueued-holds, enqueued-valid, dequeued-full, dequeued-valid, empty-exactly, front-held, front-least, dequeued-holds}
+use Rattle.state_order_queue.specs.Queues.{holds, isEmpty, enqueued, dequeued}
+use Rattle.state_order_queue.proofs.Sets.{enqueued-holds, empty-exactly, front-held, front-least, dequeued-holds}
 use Rattle.shortest_distance.specs.NodeSlots.{distanceWord, firstWord}
 use Rattle.shortest_distance.specs.Relaxation.{State, relaxedWord, reaches, relaxLink, relaxLinks, relaxHead, relaxHeads}
+use Rattle.shortest_distance.specs.Sound.{Sound}
 use Rattle.shortest_distance.proofs.Offers.{relaxed-is, reaches-is}
+use Rattle.shortest_distance.proofs.Kept.{link-kept, head-taken}
 
 -- A sheet's records as the code reads them, and the machine that they are of.
 pub record Reads (bytes : List ℕ) (links : ℕ) (m : Machine) : Type 0 where
@@ -97,15 +99,13 @@ module _ (bytes : List ℕ) (links : ℕ) (m : Machine) (r : Reads bytes links m
       ∙ ap (relax m) (next-first bytes links v)
       ∙ skip-links v (countAt bytes links v) (omega arith) (omega arith) (ap (λ (x : List Tropical). getD x v inf) same ∙ e v (omega arith) (omega arith)) ∙ same
 
-  -- ---- what the slots and the queue hold: the row after l links, and the nodes from k on that it reaches; beyond the slots the area is as it was
+  -- ---- what the slots and the queue hold beside what `Sound` says: the row after l links, and the nodes from k on that it reaches; beyond the slots the
+  -- area is as it was
   pub record Holds (l k : ℕ) (s : State) : Type 0 where
     pub distances : (v : ℕ) → v < length (m .finals) → distanceWord (s .work) v ≡ bitsOf (getD (relax m l) v inf)
-    pub firsts : (v : ℕ) → v < length (m .finals) → firstWord (s .work) v ≡ first v
-    pub room : 8 * length (m .finals) ≤ length (s .work)
+    pub sound : Sound bytes links (length (m .finals)) (s .work) (s .queue)
     pub size : length (s .work) ≡ length old
     pub beyond : drop (8 * length (m .finals)) (s .work) ≡ drop (8 * length (m .finals)) old
-    pub full : length (s .queue .flags) ≡ nodeLimit
-    pub valid : isValid (s .queue) ≡ true
     pub flags : (v : ℕ) → holds (s .queue) v ≡ leb k v && (ltb v (length (m .finals)) && isFinite (getD (relax m l) v inf))
 
   -- ---- one link of node u
@@ -168,16 +168,8 @@ module _ (bytes : List ℕ) (links : ℕ) (m : Machine) (r : Reads bytes links m
       small-next = omega (arith, nx-in, r .few)
 
       new-flag : (t : Bool) (v : ℕ) → holds (cond t (enqueued (s .queue) nx) (s .queue)) v ≡ (t && eqb v nx) || holds (s .queue) v
-      new-flag true v = enqueued-holds (s .queue) nx (h .full) small-next v
+      new-flag true v = enqueued-holds (s .queue) nx (h .sound .full) small-next v
       new-flag false v = refl
-
-      keeps-full : (t : Bool) → length (cond t (enqueued (s .queue) nx) (s .queue) .flags) ≡ nodeLimit
-      keeps-full true = enqueued-full (s .queue) nx ∙ h .full
-      keeps-full false = h .full
-
-      keeps-valid : (t : Bool) → isValid (cond t (enqueued (s .queue) nx) (s .queue)) ≡ true
-      keeps-valid true = enqueued-valid (s .queue) nx (h .full) small-next (h .valid)
-      keeps-valid false = h .valid
 
       -- the flag of the next node
       held-next : holds (s .queue) nx ≡ isFinite x
@@ -211,7 +203,7 @@ module _ (bytes : List ℕ) (links : ℕ) (m : Machine) (r : Reads bytes links m
       distance-after v k = elim (ℕ-discrete v nx) [
         | yes e ↦
             ap (λ (j : ℕ). distanceWord (after s .work) j) e
-            ∙ getD-set-same (s .work) (8 * nx) (bitsOf (x ⊕ d ⊗ w)) 0 (omega (arith, h .room, nx-in))
+            ∙ getD-set-same (s .work) (8 * nx) (bitsOf (x ⊕ d ⊗ w)) 0 (omega (arith, h .sound .slots, nx-in))
             ∙ ap bitsOf (sym (ap (λ (j : ℕ). getD (relax m (suc l)) j inf) e ∙ row-new))
         | no n ↦ getD-set-other (s .work) (8 * nx) (8 * v) (bitsOf (x ⊕ d ⊗ w)) 0 (λ e. n (omega arith)) ∙ h .distances v k ∙ ap bitsOf (sym (row-other l v n))
       ]
@@ -219,12 +211,9 @@ module _ (bytes : List ℕ) (links : ℕ) (m : Machine) (r : Reads bytes links m
       pub link-step : Holds (suc l) (suc u) (relaxLink (linkAt bytes l) (ofT unit d) s)
       link-step = subst (λ (y : State). Holds (suc l) (suc u) y) (sym state-is) (record {
         distances = distance-after;
-        firsts = λ v k. getD-set-other (s .work) (8 * nx) (8 * v + 1) (bitsOf (x ⊕ d ⊗ w)) 0 (λ e. omega arith) ∙ h .firsts v k;
-        room = simp length-set (h .room);
+        sound = subst (λ (y : State). Sound bytes links (length (m .finals)) (y .work) (y .queue)) state-is (link-kept bytes links (length (m .finals)) (linkAt bytes l) (ofT unit d) s (subst (λ (n : ℕ). n < length (m .finals)) (sym (r .next-at l in-links)) nx-in) (h .sound));
         size = simp length-set (h .size);
         beyond = drop-set-lt (8 * length (m .finals)) (s .work) (8 * nx) (bitsOf (x ⊕ d ⊗ w)) (omega (arith, nx-in)) ∙ h .beyond;
-        full = keeps-full (not (isFinite x) && isFinite (d ⊗ w));
-        valid = keeps-valid (not (isFinite x) && isFinite (d ⊗ w));
         flags = flag-after;
       })
 
@@ -261,7 +250,7 @@ module _ (bytes : List ℕ) (links : ℕ) (m : Machine) (r : Reads bytes links m
 
       head : (k ≤ u) × (u < length (m .finals))
       head =
-          let t : T (leb k u && (ltb u (length (m .finals)) && isFinite (getD (relax m (first k)) u inf))) = subst T (sym (sym (h .flags u) ∙ front-held (s .queue) (h .full) (h .valid) filled)) tt in
+          let t : T (leb k u && (ltb u (length (m .finals)) && isFinite (getD (relax m (first k)) u inf))) = subst T (sym (sym (h .flags u) ∙ front-held (s .queue) (h .sound .full) (h .sound .valid) filled)) tt in
           let t₁ = and-r (leb k u) (ltb u (length (m .finals)) && isFinite (getD (relax m (first k)) u inf)) t in
           (leb→le k u (and-l (leb k u) (ltb u (length (m .finals)) && isFinite (getD (relax m (first k)) u inf)) t), ltb→lt u (length (m .finals)) (and-l (ltb u (length (m .finals))) (isFinite (getD (relax m (first k)) u inf)) t₁))
 
@@ -270,7 +259,7 @@ module _ (bytes : List ℕ) (links : ℕ) (m : Machine) (r : Reads bytes links m
       below-clear v b = go (holds (s .queue) v) refl
         where
           go : (t : Bool) → holds (s .queue) v ≡ t → t ≡ false
-          go true e = absurd (omega (arith, front-least (s .queue) (h .full) (h .valid) filled v e))
+          go true e = absurd (omega (arith, front-least (s .queue) (h .sound .full) (h .sound .valid) filled v e))
           go false e = refl
 
       rows : relax m (first u) ≡ relax m (first k)
@@ -280,7 +269,7 @@ module _ (bytes : List ℕ) (links : ℕ) (m : Machine) (r : Reads bytes links m
           ∙ skip-nodes (u - k) k (omega (arith, head .0, head .1)) (λ v a b. unreached v a (omega (arith, head .0, head .1)) (below-clear v (omega (arith, head .0))))
 
       flag-taken : (v : ℕ) → holds (dequeued (s .queue)) v ≡ leb (suc u) v && (ltb v (length (m .finals)) && isFinite (getD (relax m (first u)) v inf))
-      flag-taken v = dequeued-holds (s .queue) (h .full) (h .valid) filled v ∙ cases (split-at u v)
+      flag-taken v = dequeued-holds (s .queue) (h .sound .full) (h .sound .valid) filled v ∙ cases (split-at u v)
         where
           low : v ≤ u → leb (suc u) v && (ltb v (length (m .finals)) && isFinite (getD (relax m (first u)) v inf)) ≡ false
           low a = ap (λ (t : Bool). t && (ltb v (length (m .finals)) && isFinite (getD (relax m (first u)) v inf))) (lt-leb (suc u) v (omega arith))
@@ -298,12 +287,9 @@ module _ (bytes : List ℕ) (links : ℕ) (m : Machine) (r : Reads bytes links m
       held : Holds (first u) (suc u) (record { work = s .work; queue = dequeued (s .queue) })
       held = record {
         distances = λ v b. h .distances v b ∙ ap (λ (y : List Tropical). bitsOf (getD y v inf)) (sym rows);
-        firsts = h .firsts;
-        room = h .room;
+        sound = head-taken bytes links (length (m .finals)) s (h .sound) filled;
         size = h .size;
         beyond = h .beyond;
-        full = dequeued-full (s .queue) (h .full);
-        valid = dequeued-valid (s .queue) (h .full) (h .valid);
         flags = flag-taken;
       }
 
@@ -312,7 +298,7 @@ module _ (bytes : List ℕ) (links : ℕ) (m : Machine) (r : Reads bytes links m
           let distance : ofBits binary32 (distanceWord (s .work) u) ≡ ofT unit (getD (relax m (first u)) u inf) = ap (ofBits binary32) (held .distances u (head .1)) ∙ bits-back unit covered (getD (relax m (first u)) u inf) in
           let all = links-step u (head .1) (countAt bytes links u) (omega arith) (record { work = s .work; queue = dequeued (s .queue) }) held .0 in
           subst (λ (y : Float). Holds (first (suc u)) (suc u) (relaxLinks bytes (firstWord (s .work) u) y (countAt bytes links u) (record { work = s .work; queue = dequeued (s .queue) }))) (sym distance)
-          (subst (λ (j : ℕ). Holds (first (suc u)) (suc u) (relaxLinks bytes j (ofT unit (getD (relax m (first u)) u inf)) (countAt bytes links u) (record { work = s .work; queue = dequeued (s .queue) }))) (sym (h .firsts u (head .1)))
+          (subst (λ (j : ℕ). Holds (first (suc u)) (suc u) (relaxLinks bytes j (ofT unit (getD (relax m (first u)) u inf)) (countAt bytes links u) (record { work = s .work; queue = dequeued (s .queue) }))) (sym (h .sound .firsts u (head .1)))
           (subst (λ (j : ℕ). Holds j (suc u) (relaxLinks bytes (first u) (ofT unit (getD (relax m (first u)) u inf)) (countAt bytes links u) (record { work = s .work; queue = dequeued (s .queue) }))) (sym (next-first bytes links u)) all))
 
   -- ---- all heads: the slots hold Mohri's distances
@@ -338,5 +324,5 @@ module _ (bytes : List ℕ) (links : ℕ) (m : Machine) (r : Reads bytes links m
           let at : k + (length (m .finals) - k) ≡ length (m .finals) = omega arith in
           final-of k s h
           (ap (λ (j : ℕ). relax m (first j)) (sym at)
-          ∙ skip-nodes (length (m .finals) - k) k (omega arith) (λ v c d. unreached k s a h v c (omega arith) (empty-exactly (s .queue) (h .full) (h .valid) .0 e v)))
+          ∙ skip-nodes (length (m .finals) - k) k (omega arith) (λ v c d. unreached k s a h v c (omega arith) (empty-exactly (s .queue) (h .sound .full) (h .sound .valid) .0 e v)))
       go false e f = f e

@@ -4,11 +4,11 @@ use mathlib.Core.Logic.{_⊎_, inl, inr}
 use mathlib.Core.Bool.{Bool, true, false, not, _&&_, _||_, cond, and-false, or-false}
 use mathlib.Core.Option.{some}
 use mathlib.Core.List.{List}
-use Prim.Native.Nat.{ℕ, zero, suc, _+_, _*_, _≤_, _<_}
+use Prim.Native.Nat.{ℕ, zero, suc, _*_, _≤_, _<_}
 use native.Mathlib.Decide.{ℕ-discrete}
 use native.Mathlib.Omega.{arith}
 use lib.Dec.{leb, ltb, eqb}
-use lib.ListN.{length, getD, set, replicate, length-set, length-replicate, getD-replicate, List·getD-eq-default}
+use lib.ListN.{length, getD, set, replicate, length-set, length-replicate, getD-replicate}
 use lib.Seq.{getD-set-same, getD-set-other, drop-set-lt}
 use lib.Ieee.{toBits, round}
 use borrow.Author.Tests.{le-leb, lt-ltb, le-ltb, eq-eqb, ne-eqb}
@@ -23,10 +23,11 @@ use Rattle.machine.specs.Distance.{startRow, relax, dist, reached, heightBelow}
 use Rattle.machine.proofs.Reached.{reached-finite, unreached-inf}
 use Rattle.machine.proofs.Bounds.{dist-limit}
 use Rattle.state_order_queue.specs.Queues.{holds, emptied, enqueued}
-use Rattle.state_order_queue.proofs.Sets.{emptied-full, emptied-valid, enqueued-full, enqueued-holds, enqueued-valid}
+use Rattle.state_order_queue.proofs.Sets.{emptied-full, emptied-valid, emptied-empty, empty-exactly, enqueued-holds}
 use Rattle.slots.specs.Slots.{infinite}
 use Rattle.shortest_distance.specs.NodeSlots.{distanceWord, prepared, heightIn}
 use Rattle.shortest_distance.specs.Relaxation.{State}
+use Rattle.shortest_distance.specs.Sound.{Sound}
 use Rattle.shortest_distance.proofs.Areas.{length-prepared, prepared-words, prepared-beyond}
 use Rattle.tropical_weight.proofs.Semiring.{isFinite}
 use Rattle.shortest_distance.proofs.Offers.{bits-inf, bits-finite}
@@ -68,7 +69,7 @@ module _ (bytes : List ℕ) (links : ℕ) (m : Machine) (r : Reads bytes links m
     ]
 
     no-flags : (v : ℕ) → holds emptied v ≡ false
-    no-flags v = elim (split-at v nodeLimit) [ inl b ↦ getD-replicate nodeLimit v false false b | inr b ↦ List·getD-eq-default (replicate nodeLimit false) false {n = v} (omega (arith, emptied-full)) ]
+    no-flags = empty-exactly emptied emptied-full emptied-valid .0 emptied-empty
 
     flag-begun : (v : ℕ) → holds (enqueued emptied s) v ≡ leb 0 v && (ltb v (length (m .finals)) && isFinite (getD (relax m 0) v inf))
     flag-begun v =
@@ -85,15 +86,12 @@ module _ (bytes : List ℕ) (links : ℕ) (m : Machine) (r : Reads bytes links m
         other v n (inl b) = ap (λ (y : Tropical). ltb v (length (m .finals)) && isFinite y) (row-blank v n b) ∙ and-false (ltb v (length (m .finals)))
         other v n (inr b) = ap (λ (t : Bool). t && isFinite (getD (relax m 0) v inf)) (le-ltb v (length (m .finals)) b)
 
-    pub begun-holds : Holds bytes links m r old 0 0 begun
-    begun-holds = record {
+    pub begun-holds : Sound bytes links (length (m .finals)) (begun .work) (begun .queue) → Holds bytes links m r old 0 0 begun
+    begun-holds sound = record {
       distances = distance-begun;
-      firsts = λ v b. getD-set-other (prepared bytes links (length (m .finals)) old) (8 * s) (8 * v + 1) 0 0 (λ e. omega arith) ∙ prepared-words bytes links (length (m .finals)) old v b room .1;
-      room = simp length-set (subst (λ (n : ℕ). 8 * length (m .finals) ≤ n) (sym (length-prepared bytes links (length (m .finals)) old)) room);
+      sound = sound;
       size = simp length-set (length-prepared bytes links (length (m .finals)) old);
       beyond = drop-set-lt (8 * length (m .finals)) (prepared bytes links (length (m .finals)) old) (8 * s) 0 (omega arith) ∙ prepared-beyond bytes links (length (m .finals)) old;
-      full = enqueued-full emptied s ∙ emptied-full;
-      valid = enqueued-valid emptied s emptied-full small emptied-valid;
       flags = flag-begun;
     }
 
