@@ -18,7 +18,7 @@ pub fn timed<'a, T>(mut call: impl FnMut(usize) -> T + 'a) -> Run<'a> {
 }
 
 /// How often each call is made at the least.
-const FEWEST: usize = 3;
+const FEWEST: usize = 2;
 
 /// Makes the calls in turn on the first machine, then on the next, round and round until the time is up, so that what else the
 /// computer does falls on all of them. For each call the mean, over the machines, of its least time, in microseconds.

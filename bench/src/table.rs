@@ -104,8 +104,8 @@ pub fn print_goals(tables: &[Vec<Row>]) {
     let single = |row: &Row| matches!(row.call, Call::Distances | Call::List(1));
     let read = |row: &Row| single(row) && row.has_reading;
     let unread = |row: &Row| single(row) && !row.has_reading;
-    let searched = |row: &Row| !single(row) && row.one.clearing < 0.1 * row.one.kept;
-    let cleared = |row: &Row| !single(row) && row.one.clearing >= 0.1 * row.one.kept;
+    let searched = |row: &Row| !single(row) && row.one.clearing < 0.5 * row.one.kept;
+    let cleared = |row: &Row| !single(row) && row.one.clearing >= 0.5 * row.one.kept;
     let rust = |times: &Times| times.kept / times.rust;
     let rust_anew = |times: &Times| times.anew / times.rust;
     let openfst = |times: &Times| times.kept / times.openfst.unwrap_or(f64::NAN);
@@ -118,6 +118,6 @@ pub fn print_goals(tables: &[Vec<Row>]) {
     };
     line("distances and n = 1, with a reading", &read);
     line("distances and n = 1, without a reading", &unread);
-    line("lists, n from 2, clearing below a tenth", &searched);
-    line("lists, n from 2, clearing a tenth or more", &cleared);
+    line("lists, clearing below half of the time", &searched);
+    line("lists, clearing half of the time or more", &cleared);
 }
