@@ -1,4 +1,4 @@
--- What the program that replays calls on queues compares, which a reader need not believe. Definitions only.
+-- What the program that replays calls on queues compares of two records. Definitions only.
 use mathlib.Core.Path.{_≡_}
 use mathlib.Core.Bool.{false}
 use Prim.Native.Nat.{ℕ, _<_}
