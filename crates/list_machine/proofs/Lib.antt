@@ -1,7 +1,6 @@
 pub mod Marks
 pub mod Placing
-pub mod Filing
+pub mod AnswerByRoom
 pub mod Trimming
-pub mod SheetWords
 pub mod Writings
 pub mod Sources

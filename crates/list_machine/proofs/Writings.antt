@@ -8,26 +8,25 @@ use Prim.Native.Nat.{ℕ, zero, suc, _+_, _-_, _*_, _≤_, _<_}
 use native.Mathlib.Decide.{ℕ-discrete}
 use native.Mathlib.Omega.{arith}
 use lib.Dec.{eqb, ltb}
-use lib.ListN.{length, getD, take, drop, replicate, length-append, length-map, length-replicate}
+use lib.ListN.{length, getD, take, drop, replicate, length-append}
 use lib.Seq.{take-suc, take-length}
 use borrow.Author.Tests.{eq-eqb, ne-eqb}
-use Rattle.tropical_weight.specs.Limits.{linkLimit, nodeLimit}
 use Rattle.tropical_weight.specs.Tropical.{Tropical, one}
 use Rattle.sheet.specs.Words.{word, bytesOfAll}
 use Rattle.sheet.specs.Sheet.{partsOf, statedLinks, statedNodes, sheetOf, trailerOf}
-use Rattle.sheet.specs.Machine.{Link, Machine, machineOf, bitsOf, linkFields, leaving, nodeFields, partsFor}
+use Rattle.sheet.specs.Machine.{Link, Machine, machineOf, machine, bitsOf, linkFields, leaving, nodeFields, partsFor}
 use Rattle.sheet.proofs.Bytes.{bytesOfAll-append}
-use Rattle.sheet.proofs.Fields.{read-fields, length-read, read-fits}
 use Rattle.sheet.proofs.Round.{Below}
 use Rattle.sheet.proofs.Encoding.{links-are, nodes-are, start-is}
-use Rattle.machine.specs.Readings.{final, finalWeight}
+use Rattle.machine.specs.Readings.{link, final, finalWeight}
 use Rattle.machine.specs.Input.{inputNumber}
-use Rattle.machine.proofs.Accepted.{passes, input-read, few-links, few-nodes}
+use Rattle.machine.proofs.SheetFields.{SheetFields, sheet-fields, final-word}
 use Rattle.machine.proofs.Lists.{getD-mem, map-append}
 use Rattle.search.specs.Search.{Entry, half, finished, Put, first, Search}
 use Rattle.search.specs.ListMachine.{onWay, linkBy, wordFor, resultBytes}
 use Rattle.search.specs.States.{kept, stateOf, later, startLink, entryLink, listMachine, listResult}
 use Rattle.search.proofs.Numbered.{Numbered}
+use Rattle.search.proofs.Readback.{links-long, nodes-long}
 use Rattle.search.proofs.OnWays.{OnWay, cameFrom, way-listed, way-from, way-inside}
 use Rattle.shortest_distance.proofs.Starts.{bits-one}
 use Rattle.slots.specs.Slots.{nothing}
@@ -37,8 +36,6 @@ use Rattle.list_answer.specs.ListAnswer.{listedBy, listedIn, listedOver}
 use Rattle.list_machine.proofs.Marks.{stated-other, from-other, listed-other, new-kept}
 use Rattle.list_machine.proofs.Placing.{length-list, stated-off, stated-on, repeat-off, repeat-on, entry-blank, entry-copied}
 use Rattle.list_machine.proofs.Trimming.{kept-count, state-on, state-off}
-use Rattle.list_machine.proofs.SheetWords.{link-words, final-word}
-use Rattle.list_machine.proofs.SheetWords as Sheet
 
 -- ---- lists
 flat-append : (a b : List Link) → flatMap linkFields (a ++ b) ≡ flatMap linkFields a ++ flatMap linkFields b
@@ -154,16 +151,10 @@ module _ (m : Machine) (s : Search) where
       let rest = one-each (listMachine m s .links) (length (later s)) 2 (λ j h. all-leave (2 + j) ∙ omega (arith, starts-stay (s .listed) (2 + j) (omega arith), entries-on (length (s .entries) - 1) j h)) in
       λ i. start i ∷ 0 ∷ 0 ∷ end i ∷ 1 ∷ bits-one i ∷ rest i
 
-  links-long : length (listMachine m s .links) ≡ length (s .listed) + length (later s)
-  links-long = length-append (map (startLink s) (s .listed)) (map (entryLink m s) (later s)) ∙ omega (arith, length-map (s .listed) (startLink s), length-map (later s) (entryLink m s))
-
-  nodes-long : length (listMachine m s .finals) ≡ 2 + length (later s)
-  nodes-long = omega (arith, length-replicate {A = Option Tropical} (length (later s)) none)
-
   trailer-is : trailerOf (partsFor (listMachine m s)) ≡ trailerWords (length (s .listed) + length (later s)) (2 + length (later s))
   trailer-is =
-      let l = links-are (listMachine m s) ∙ links-long in
-      let n = nodes-are (listMachine m s) ∙ nodes-long in
+      let l = links-are (listMachine m s) ∙ links-long m s in
+      let n = nodes-are (listMachine m s) ∙ nodes-long m s in
       λ i. 0 ∷ 16 * l i ∷ n i ∷ l i ∷ start-is (listMachine m s) i ∷ []
 
 -- ---- the links, and their words
@@ -180,11 +171,13 @@ module _ (bytes : List ℕ) (below : Below 256 bytes) (accepted : inputNumber by
   abbrev e : ℕ → Put
   e i = getD (s .entries) i first
 
-  long : length bytes ≡ 16 * statedLinks bytes + 12 * statedNodes bytes + 20
-  long = length-read bytes (read-fits bytes (input-read bytes accepted .0))
+  fields : SheetFields bytes (statedLinks bytes) (statedNodes bytes) (machine bytes)
+  fields = sheet-fields bytes accepted
 
-  small : statedLinks bytes ≤ linkLimit
-  small = omega (arith, few-links (partsOf bytes) (passes bytes accepted), read-fields bytes .links-are)
+  -- link l by its fields, with other ends
+  link-words : (l to source : ℕ) → l < statedLinks bytes
+      → linkFields (record { source = source; ilabel = link m l .ilabel; olabel = link m l .olabel; weight = link m l .weight; next = to }) ≡ word bytes (16 * l) ∷ word bytes (16 * l + 4) ∷ word bytes (16 * l + 8) ∷ to ∷ []
+  link-words l to source h = sym (λ i. fields .ilabel-at l h i ∷ fields .olabel-at l h i ∷ fields .link-bits below l h i ∷ to ∷ [])
 
   linked : Linked part (length (s .entries)) (length (s .listed))
   linked = record {
@@ -198,7 +191,7 @@ module _ (bytes : List ℕ) (below : Below 256 bytes) (accepted : inputNumber by
 
   -- ---- the words that are read
   input-some : (i l : ℕ) → i < size → e i .input ≡ some l → (inputWord part i ≡ l) × (l < links)
-  input-some i l h q = (x .held i h .input ∙ ap inputField q, omega (arith, y .inputs-in i l h q, Sheet.links-are bytes below accepted))
+  input-some i l h q = (x .held i h .input ∙ ap inputField q, omega (arith, y .inputs-in i l h q, fields .links-are))
 
   input-none : (i : ℕ) → i < size → e i .input ≡ none → inputWord part i ≡ nothing
   input-none i h q = x .held i h .input ∙ ap inputField q
@@ -231,7 +224,7 @@ module _ (bytes : List ℕ) (below : Below 256 bytes) (accepted : inputNumber by
       go (some l) z p q = inl (l, p)
       go none (half v c) p q =
           let f = y .finals-in i v c a b p q in
-          inr (inl (record { old = f .0; cost = c; weight = f .1; none-is = p; half-is = q ∙ ap (λ (u : ℕ). half u c) (f .2); weight-is = f .3; inside = final-word bytes below accepted (f .0) (f .1) (f .3) .0 }))
+          inr (inl (record { old = f .0; cost = c; weight = f .1; none-is = p; half-is = q ∙ ap (λ (u : ℕ). half u c) (f .2); weight-is = f .3; inside = final-word fields below (f .0) (f .1) (f .3) .0 }))
       go none (finished c) p q = inr (inr (record { cost = c; none-is = p; end-is = q }))
 
   pub listable : Listable bytes (statedLinks bytes) part (length (s .entries)) (length (s .listed))
@@ -242,13 +235,13 @@ module _ (bytes : List ℕ) (below : Below 256 bytes) (accepted : inputNumber by
         slot = omega (arith, x .slots);
         from-in = omega (arith, x .slots, linked .came-in i a b);
         input-in = λ h. elim (put-by i a b) [
-          | inl q ↦ omega (arith, long, input-some i (q .0) b (q .1) .0, input-some i (q .0) b (q .1) .1)
+          | inl q ↦ omega (arith, fields .laid-out, input-some i (q .0) b (q .1) .0, input-some i (q .0) b (q .1) .1)
           | inr (inl f) ↦ absurd (h (input-none i b (f .none-is)))
           | inr (inr f) ↦ absurd (h (input-none i b (f .none-is)))
         ];
         node-in = λ z h. elim (put-by i a b) [
-          | inl q ↦ absurd (omega (arith, small, input-some i (q .0) b (q .1) .0, input-some i (q .0) b (q .1) .1))
-          | inr (inl f) ↦ let v = node-half i (suc (f .old)) (f .cost) b (f .half-is) in (omega (arith, v), omega (arith, v, long, f .inside))
+          | inl q ↦ absurd (omega (arith, fields .few-links, input-some i (q .0) b (q .1) .0, input-some i (q .0) b (q .1) .1))
+          | inr (inl f) ↦ let v = node-half i (suc (f .old)) (f .cost) b (f .half-is) in (omega (arith, v), omega (arith, v, fields .laid-out, f .inside))
           | inr (inr f) ↦ absurd (h (node-finished i (f .cost) b (f .end-is)))
         ];
       }
@@ -269,17 +262,14 @@ module _ (bytes : List ℕ) (below : Below 256 bytes) (accepted : inputNumber by
       let w = way-from s n i on in
       ap (stateWord new) (stated-other part size (length (s .listed)) linked (8 * i + 2) (from-other size i) ∙ x .held i h .from) ∙ state-on s n part x (cameFrom s i) (way-inside s n (cameFrom s i) w) w
 
-  few-finals : statedNodes bytes ≤ nodeLimit
-  few-finals = omega (arith, few-nodes (partsOf bytes) (passes bytes accepted), read-fields bytes .nodes-are)
-
   -- the field of its weight, where it was put in by no input link
   final-bits : (i : ℕ) → i < size → (f : Final i) → blankBits bytes links (nodeWord new i) ≡ bitsOf (finalWeight (final m (suc (f .old) - 1)))
   final-bits i h f =
       let back : suc (f .old) - 1 ≡ f .old = omega arith in
       ap (blankBits bytes links) (node-new i ∙ node-half i (suc (f .old)) (f .cost) h (f .half-is))
-      ∙ ap (λ (t : Bool). cond t 0 (word bytes (16 * links + 12 * (suc (f .old) - 1) + 8))) (ne-eqb (suc (f .old)) nothing (λ z. omega (arith, few-finals, f .inside)))
+      ∙ ap (λ (t : Bool). cond t 0 (word bytes (16 * links + 12 * (suc (f .old) - 1) + 8))) (ne-eqb (suc (f .old)) nothing (λ z. omega (arith, fields .few-nodes, f .inside)))
       ∙ ap (λ (v : ℕ). word bytes (16 * links + 12 * v + 8)) back
-      ∙ sym (final-word bytes below accepted (f .old) (f .weight) (f .weight-is) .1)
+      ∙ sym (final-word fields below (f .old) (f .weight) (f .weight-is) .1)
       ∙ sym (ap (λ (o : Option Tropical). bitsOf (finalWeight o)) (ap (final m) back ∙ f .weight-is))
 
   ended-bits : (i : ℕ) → i < size → (f : Ended i) → blankBits bytes links (nodeWord new i) ≡ bitsOf one
@@ -298,9 +288,9 @@ module _ (bytes : List ℕ) (below : Below 256 bytes) (accepted : inputNumber by
       go (inl q) t =
           let r = input-some i (q .0) b (q .1) in
           let w : inputWord new i ≡ q .0 = input-new i ∙ r .0 in
-          entry-copied new i bytes links (λ z. omega (arith, small, w, r .1))
+          entry-copied new i bytes links (λ z. omega (arith, fields .few-links, w, r .1))
           ∙ (λ j. word bytes (16 * w j) ∷ word bytes (16 * w j + 4) ∷ word bytes (16 * w j + 8) ∷ t j ∷ [])
-          ∙ sym (link-words bytes below accepted (q .0) to u (r .1))
+          ∙ sym (link-words (q .0) to u (r .1))
           ∙ ap (λ (o : Option ℕ). linkFields (linkBy m o (e i .entry) u to)) (sym (q .1))
       go (inr (inl f)) t =
           entry-blank new i bytes links (input-new i ∙ input-none i b (f .none-is))

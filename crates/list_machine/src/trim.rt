@@ -6,12 +6,19 @@ ghost use lib.Seq.{sets};
 ghost use Rattle.sheet.specs.Words.{bytesOfAll};
 ghost use Rattle.slots.specs.Slots.{nothing};
 ghost use Rattle.search_slots.specs.Slots.{fromWord, listedWord};
-ghost use Rattle.list_machine.specs.TrimWords.{unmarked, markListed, markFrom, markBack, marks, markOf, markCount, numberOne, states, Linked, startWords, blankBits, entryWords, statedWords, linkWords, nodeWords, repeatWords, inputWords, linksPart, nodesPart, stated, keptCount, wordsPart, listWords, listAnswer, listAfter, Readable, Listable, Writable};
+ghost use Rattle.list_machine.specs.TrimWords.{unmarked, markListed, markFrom, markBack, marks};
+ghost use Rattle.list_machine.specs.TrimWords.{markOf, markCount, numberOne, states, stated, keptCount};
+ghost use Rattle.list_machine.specs.TrimWords.{startWords, blankBits, entryWords, statedWords, linkWords};
+ghost use Rattle.list_machine.specs.TrimWords.{nodeWords, repeatWords, inputWords};
+ghost use Rattle.list_machine.specs.TrimWords.{linksPart, nodesPart, wordsPart, listWords};
+ghost use Rattle.list_machine.specs.TrimWords.{listAnswer, listAfter};
+ghost use Rattle.list_machine.specs.TrimWords.{Linked, Readable, Listable, Writable};
 use list_answer::Listed;
 use search_slots::FROM;
 use search_slots::INPUT;
 use search_slots::LISTED;
 use search_slots::STATE;
+use sheet::refusal;
 use sheet::tr::TRAILER;
 use sheet::tr::Trailer;
 use sheet::words::put_word;
@@ -41,7 +48,8 @@ fn clear_marks(part: &mut [u32], entries: usize)
 
 // Marks the listed entries.
 fn mark_listed(part: &mut [u32], listed: usize)
-    requires { ⌜ (8 * listed ≤ length (now part)) × ((k : ℕ) → k < listed → 8 * listedWord (now part) k + 8 ≤ length (now part)) ⌝ }
+    requires { ⌜ (8 * listed ≤ length (now part))
+        × ((k : ℕ) → k < listed → 8 * listedWord (now part) k + 8 ≤ length (now part)) ⌝ }
     ensures { λ _. ⌜ now (part .exit) ≡ markListed listed (now (part .entry)) ⌝ }
 {
     let mut k = 0usize;
@@ -66,7 +74,8 @@ fn mark_from(part: &mut [u32], i: usize)
 
 // Marks those that marked ones came from, the last first: each comes from an earlier one.
 fn mark_back(part: &mut [u32], entries: usize)
-    requires { ⌜ (0 < entries) × (8 * entries ≤ length (now part)) × ((i : ℕ) → 0 < i → i < entries → 8 * fromWord (now part) i + 8 ≤ length (now part)) ⌝ }
+    requires { ⌜ (0 < entries) × (8 * entries ≤ length (now part))
+        × ((i : ℕ) → 0 < i → i < entries → 8 * fromWord (now part) i + 8 ≤ length (now part)) ⌝ }
     ensures { λ _. ⌜ now (part .exit) ≡ markBack (entries - 1) (now (part .entry)) ⌝ }
 {
     let mut i = entries - 1;
@@ -89,7 +98,8 @@ fn mark(part: &mut [u32], entries: usize, listed: usize)
 // Numbers entry i where it has a mark, and counts it.
 fn number_one(part: &mut [u32], i: usize, count: u32) -> u32
     requires { ⌜ (8 * i + 8 ≤ length (now part)) × (count + 2 < 2 ^ 32) ⌝ }
-    ensures { λ r. ⌜ (r ≡ count + markOf (now (part .entry)) i) × (now (part .exit) ≡ numberOne i count (now (part .entry))) ⌝ }
+    ensures { λ r. ⌜ r ≡ count + markOf (now (part .entry)) i ⌝ }
+    ensures { λ _. ⌜ now (part .exit) ≡ numberOne i count (now (part .entry)) ⌝ }
 {
     let at = SLOT * i + STATE;
     if part[at] == 0 {
@@ -102,7 +112,8 @@ fn number_one(part: &mut [u32], i: usize, count: u32) -> u32
 // Numbers the marked entries as states, and answers how many there are from 2 on.
 fn number(part: &mut [u32], entries: usize) -> u32
     requires { ⌜ (0 < entries) × (8 * entries ≤ length (now part)) × (entries ≤ 2 ^ 28) ⌝ }
-    ensures { λ r. ⌜ (r ≡ markCount (now (part .entry)) (entries - 1)) × (now (part .exit) ≡ states entries (now (part .entry))) ⌝ }
+    ensures { λ r. ⌜ r ≡ markCount (now (part .entry)) (entries - 1) ⌝ }
+    ensures { λ _. ⌜ now (part .exit) ≡ states entries (now (part .entry)) ⌝ }
 {
     let mut count = 0u32;
     let mut i = 1usize;
@@ -116,13 +127,16 @@ fn number(part: &mut [u32], entries: usize) -> u32
 
 // Writes the start's links to the listed entries, in their order.
 fn put_start_links(part: &[u32], listed: usize, result: &mut [u8])
-    requires { ⌜ (8 * listed ≤ length (now part)) × ((k : ℕ) → k < listed → 8 * listedWord (now part) k + 8 ≤ length (now part)) × (16 * listed ≤ length (now result)) ⌝ }
-    ensures { λ _. ⌜ now (result .exit) ≡ sets (now (result .entry)) 0 (bytesOfAll (startWords (now (part .entry)) listed)) ⌝ }
+    requires { ⌜ (8 * listed ≤ length (now part))
+        × ((k : ℕ) → k < listed → 8 * listedWord (now part) k + 8 ≤ length (now part))
+        × (16 * listed ≤ length (now result)) ⌝ }
+    ensures { λ _. ⌜ now (result .exit)
+        ≡ sets (now (result .entry)) 0 (bytesOfAll (startWords (now (part .entry)) listed)) ⌝ }
 {
     let mut k = 0usize;
     while k < listed {
-        let i = part[SLOT * k + LISTED] as usize;
-        let words = [0, 0, 0, part[SLOT * i + STATE]];
+        let entry = part[SLOT * k + LISTED] as usize;
+        let words = [0, 0, 0, part[SLOT * entry + STATE]];
         put_words(result, LINK * k, &words);
         k += 1;
     }
@@ -142,7 +156,8 @@ fn blank_bits(sheet: &[u8], links: usize, v: u32) -> u32
 // Writes the link of entry i: its input link's labels and weight, or none and a final weight.
 fn put_link(sheet: &[u8], links: usize, part: &[u32], i: usize, result: &mut [u8], at: usize)
     requires { ⌜ Readable (now sheet) links (now part) i × (at + 16 ≤ length (now result)) ⌝ }
-    ensures { λ _. ⌜ now (result .exit) ≡ sets (now (result .entry)) at (bytesOfAll (entryWords (now (sheet .entry)) links (now (part .entry)) i)) ⌝ }
+    ensures { λ _. ⌜ now (result .exit)
+        ≡ sets (now (result .entry)) at (bytesOfAll (entryWords (now (sheet .entry)) links (now (part .entry)) i)) ⌝ }
 {
     let to = part[SLOT * (part[SLOT * i + FROM] as usize) + STATE];
     let input = part[SLOT * i + INPUT];
@@ -166,7 +181,9 @@ fn put_stated(
     at: usize,
 ) -> usize
     requires { ⌜ Readable (now sheet) links (now part) i × (at + 16 * markOf (now part) i ≤ length (now result)) ⌝ }
-    ensures { λ r. ⌜ (r ≡ at + 16 * markOf (now (part .entry)) i) × (now (result .exit) ≡ sets (now (result .entry)) at (bytesOfAll (statedWords (now (sheet .entry)) links (now (part .entry)) i))) ⌝ }
+    ensures { λ r. ⌜ r ≡ at + 16 * markOf (now (part .entry)) i ⌝ }
+    ensures { λ _. ⌜ now (result .exit)
+        ≡ sets (now (result .entry)) at (bytesOfAll (statedWords (now (sheet .entry)) links (now (part .entry)) i)) ⌝ }
 {
     if part[SLOT * i + STATE] == 0 {
         return at;
@@ -184,8 +201,10 @@ fn put_entry_links(
     result: &mut [u8],
     at: usize,
 )
-    requires { ⌜ (0 < entries) × ((i : ℕ) → 0 < i → i < entries → Readable (now sheet) links (now part) i) × (at + 16 * markCount (now part) (entries - 1) ≤ length (now result)) ⌝ }
-    ensures { λ _. ⌜ now (result .exit) ≡ sets (now (result .entry)) at (bytesOfAll (linkWords (now (sheet .entry)) links (now (part .entry)) (entries - 1))) ⌝ }
+    requires { ⌜ (0 < entries) × ((i : ℕ) → 0 < i → i < entries → Readable (now sheet) links (now part) i)
+        × (at + 16 * markCount (now part) (entries - 1) ≤ length (now result)) ⌝ }
+    ensures { λ _. ⌜ now (result .exit)
+        ≡ sets (now (result .entry)) at (bytesOfAll (linkWords (now (sheet .entry)) links (now (part .entry)) (entries - 1))) ⌝ }
 {
     let mut next = at;
     let mut i = 1usize;
@@ -198,7 +217,8 @@ fn put_entry_links(
 // Writes so many nodes of one link that are not final.
 fn put_nodes(result: &mut [u8], at: usize, count: usize)
     requires { ⌜ at + 12 * count ≤ length (now result) ⌝ }
-    ensures { λ _. ⌜ now (result .exit) ≡ sets (now (result .entry)) at (bytesOfAll (nodeWords count)) ⌝ }
+    ensures { λ _. ⌜ now (result .exit)
+        ≡ sets (now (result .entry)) at (bytesOfAll (nodeWords count)) ⌝ }
 {
     let words = [1, 0, 0];
     let mut k = 0usize;
@@ -211,7 +231,8 @@ fn put_nodes(result: &mut [u8], at: usize, count: usize)
 // Writes so many words that name no input link.
 fn put_nothings(result: &mut [u8], at: usize, count: usize)
     requires { ⌜ at + 4 * count ≤ length (now result) ⌝ }
-    ensures { λ _. ⌜ now (result .exit) ≡ sets (now (result .entry)) at (bytesOfAll (replicate count nothing)) ⌝ }
+    ensures { λ _. ⌜ now (result .exit)
+        ≡ sets (now (result .entry)) at (bytesOfAll (replicate count nothing)) ⌝ }
 {
     let mut k = 0usize;
     while k < count {
@@ -223,7 +244,9 @@ fn put_nothings(result: &mut [u8], at: usize, count: usize)
 // Writes the word of entry i where it is a state, and answers where the next one goes.
 fn put_input(part: &[u32], i: usize, result: &mut [u8], at: usize) -> usize
     requires { ⌜ (8 * i + 8 ≤ length (now part)) × (at + 4 * markOf (now part) i ≤ length (now result)) ⌝ }
-    ensures { λ r. ⌜ (r ≡ at + 4 * markOf (now (part .entry)) i) × (now (result .exit) ≡ sets (now (result .entry)) at (bytesOfAll (repeatWords (now (part .entry)) i))) ⌝ }
+    ensures { λ r. ⌜ r ≡ at + 4 * markOf (now (part .entry)) i ⌝ }
+    ensures { λ _. ⌜ now (result .exit)
+        ≡ sets (now (result .entry)) at (bytesOfAll (repeatWords (now (part .entry)) i)) ⌝ }
 {
     if part[SLOT * i + STATE] == 0 {
         return at;
@@ -234,8 +257,10 @@ fn put_input(part: &[u32], i: usize, result: &mut [u8], at: usize) -> usize
 
 // Writes the words of the entries that are states, in their order.
 fn put_inputs(part: &[u32], entries: usize, result: &mut [u8], at: usize)
-    requires { ⌜ (0 < entries) × (8 * entries ≤ length (now part)) × (at + 4 * markCount (now part) (entries - 1) ≤ length (now result)) ⌝ }
-    ensures { λ _. ⌜ now (result .exit) ≡ sets (now (result .entry)) at (bytesOfAll (inputWords (now (part .entry)) (entries - 1))) ⌝ }
+    requires { ⌜ (0 < entries) × (8 * entries ≤ length (now part))
+        × (at + 4 * markCount (now part) (entries - 1) ≤ length (now result)) ⌝ }
+    ensures { λ _. ⌜ now (result .exit)
+        ≡ sets (now (result .entry)) at (bytesOfAll (inputWords (now (part .entry)) (entries - 1))) ⌝ }
 {
     let mut next = at;
     let mut i = 1usize;
@@ -254,8 +279,10 @@ fn put_links(
     listed: usize,
     result: &mut [u8],
 )
-    requires { ⌜ Listable (now sheet) links (now part) entries listed × (16 * (listed + markCount (now part) (entries - 1)) ≤ length (now result)) ⌝ }
-    ensures { λ _. ⌜ now (result .exit) ≡ sets (now (result .entry)) 0 (bytesOfAll (linksPart (now (sheet .entry)) links (now (part .entry)) entries listed)) ⌝ }
+    requires { ⌜ Listable (now sheet) links (now part) entries listed
+        × (16 * (listed + markCount (now part) (entries - 1)) ≤ length (now result)) ⌝ }
+    ensures { λ _. ⌜ now (result .exit)
+        ≡ sets (now (result .entry)) 0 (bytesOfAll (linksPart (now (sheet .entry)) links (now (part .entry)) entries listed)) ⌝ }
 {
     put_start_links(part, listed, result);
     put_entry_links(sheet, links, part, entries, result, LINK * listed);
@@ -264,7 +291,8 @@ fn put_links(
 // Writes the nodes, the start and the final one first, and the trailer.
 fn put_states(listed: usize, kept: usize, result: &mut [u8], at: usize)
     requires { ⌜ (listed + kept < 2 ^ 28) × (at + 12 * (2 + kept) + 20 ≤ length (now result)) ⌝ }
-    ensures { λ _. ⌜ now (result .exit) ≡ sets (now (result .entry)) at (bytesOfAll (nodesPart listed kept)) ⌝ }
+    ensures { λ _. ⌜ now (result .exit)
+        ≡ sets (now (result .entry)) at (bytesOfAll (nodesPart listed kept)) ⌝ }
 {
     let links = listed + kept;
     let heads = [listed as u32, 0, 0, 0, 1, 0];
@@ -276,8 +304,10 @@ fn put_states(listed: usize, kept: usize, result: &mut [u8], at: usize)
 
 // Writes a word for each link: none for the start's.
 fn put_repeats(part: &[u32], entries: usize, listed: usize, result: &mut [u8], at: usize)
-    requires { ⌜ (0 < entries) × (8 * entries ≤ length (now part)) × (at + 4 * (listed + markCount (now part) (entries - 1)) ≤ length (now result)) ⌝ }
-    ensures { λ _. ⌜ now (result .exit) ≡ sets (now (result .entry)) at (bytesOfAll (wordsPart (now (part .entry)) entries listed)) ⌝ }
+    requires { ⌜ (0 < entries) × (8 * entries ≤ length (now part))
+        × (at + 4 * (listed + markCount (now part) (entries - 1)) ≤ length (now result)) ⌝ }
+    ensures { λ _. ⌜ now (result .exit)
+        ≡ sets (now (result .entry)) at (bytesOfAll (wordsPart (now (part .entry)) entries listed)) ⌝ }
 {
     put_nothings(result, at, listed);
     put_inputs(part, entries, result, at + WORD * listed);
@@ -294,7 +324,8 @@ fn put_list(
     result: &mut [u8],
 )
     requires { ⌜ Writable (now sheet) links (now part) entries listed kept (length (now result)) ⌝ }
-    ensures { λ _. ⌜ now (result .exit) ≡ sets (now (result .entry)) 0 (bytesOfAll (listWords (now (sheet .entry)) links (now (part .entry)) entries listed kept)) ⌝ }
+    ensures { λ _. ⌜ now (result .exit)
+        ≡ sets (now (result .entry)) 0 (bytesOfAll (listWords (now (sheet .entry)) links (now (part .entry)) entries listed kept)) ⌝ }
 {
     let nodes_at = LINK * (listed + kept);
     let words_at = nodes_at + NODE * (2 + kept) + TRAILER;
@@ -314,13 +345,17 @@ pub fn write_list(
     result: &mut [u8],
 ) -> Listed
     requires { ⌜ Listable (now sheet) (t .links) (now part) entries listed ⌝ }
-    ensures { λ r. ⌜ (r ≡ listAnswer listed (keptCount entries listed (now (part .entry))) taken (length (now (result .entry)))) × (now (part .exit) ≡ stated entries listed (now (part .entry))) × (now (result .exit) ≡ listAfter (now (sheet .entry)) (t .links) (now (part .entry)) entries listed (now (result .entry))) ⌝ }
+    ensures { λ r. ⌜ r
+        ≡ listAnswer listed (keptCount entries listed (now (part .entry))) taken (length (now (result .entry))) ⌝ }
+    ensures { λ _. ⌜ now (part .exit) ≡ stated entries listed (now (part .entry)) ⌝ }
+    ensures { λ _. ⌜ now (result .exit)
+        ≡ listAfter (now (sheet .entry)) (t .links) (now (part .entry)) entries listed (now (result .entry)) ⌝ }
 {
     mark(part, entries, listed);
     let kept = number(part, entries) as usize;
     let links = listed + kept;
     if result.len() < LINK * links + NODE * (2 + kept) + TRAILER + WORD * links {
-        return Listed::Refused(21);
+        return Listed::Refused(refusal::RESULT);
     }
     put_list(sheet, t.links as usize, part, entries, listed, kept, result);
     Listed::Made((2 + kept) as u32, links as u32, taken)

@@ -14,12 +14,12 @@ use Rattle.sheet.proofs.Round.{Below}
 use Rattle.machine.specs.Readings.{link, readings, readingOf, readingCost, IsReading}
 use Rattle.machine.proofs.Lists.{map-same}
 use Rattle.machine.proofs.Runs.{run-in}
+use Rattle.machine.proofs.SheetFields.{fields-own}
 use Rattle.search.specs.ListMachine.{resultFor, resultBytes}
 use Rattle.search.specs.Listed.{listOf}
 use Rattle.search.proofs.Lists.{Accepted, accepted, listIn, demand-result}
 use Rattle.search.proofs.Results.{empty-back}
 use Rattle.search.proofs.Sizes.{rest-same}
-use Rattle.single_path.proofs.SheetFields.{ilabel-at}
 use Rattle.shortest_path.specs.Outcome.{answerOf}
 use Rattle.shortest_path.proofs.Joining.{zero-empty}
 use Rattle.listing.specs.Text.{Puts, labelsOf, lineOf}
@@ -115,7 +115,7 @@ module _ (sheet : List ℕ) (below : Below 256 sheet) (t : Trailer) (n : ℕ) (r
     front-reading = subst (λ (l : List ℕ). IsReading m (readingOf m l)) (sym front-is) (held-reading k b)
 
     labels-are : labelsOf sheet (take count run) ≡ map (λ (l : ℕ). link m l .ilabel) (take count run)
-    labels-are = map-same _ _ (take count run) (λ l q. sym (ilabel-at sheet (h .accepted) below l (run-in m (take count run) (front-reading .from) (readingOf m (take count run) .end) (front-reading .runs) l q)))
+    labels-are = map-same _ _ (take count run) (λ l q. fields-own sheet (h .accepted) .ilabel-at l (run-in m (take count run) (front-reading .from) (readingOf m (take count run) .end) (front-reading .runs) l q))
 
     pub line-is : (rank : ℕ) (cost : ℤ) → fin cost ≡ readingCost m (readingOf m (take count run)) → lineOf rank cost (labelsOf sheet (take count run)) ≡ readingLine m rank (getD (listFor m n) k [])
     line-is rank cost e = (λ i. lineOf rank (unitsIn (e i)) (labels-are i)) ∙ ap (readingLine m rank) front-is

@@ -30,9 +30,9 @@ use Rattle.machine.proofs.Readings.{final-in}
 use Rattle.machine.proofs.Distance.{reading-finite}
 use Rattle.machine.proofs.Bounds.{reading-limit}
 use Rattle.machine.proofs.Accepted.{passes, input-read, finite-machine}
+use Rattle.machine.proofs.SheetFields.{sheet-fields, final-word}
 use Rattle.shortest_distance.proofs.Rows.{Reads}
 use Rattle.shortest_distance.proofs.Accepted.{reads, links-are, nodes-are}
-use Rattle.list_machine.proofs.SheetWords.{final-word}
 use Rattle.listing.specs.Ways.{weightAt, runSum, runEnd}
 
 -- the sum of a run's weights from its front
@@ -112,7 +112,7 @@ module _ (bytes : List ℕ) (below : Below 256 bytes) (accepted : inputNumber by
   -- the final weight
   final-is : ofBits binary32 (word bytes (16 * statedLinks bytes + 12 * end + 8)) ≡ ofT unit (finalWeight (final m end))
   final-is =
-      ap (ofBits binary32) (sym (final-word bytes below accepted end (reading .weight) (reading .marked) .1)) ∙ bits-back unit (omega arith) (reading .weight)
+      ap (ofBits binary32) (sym (final-word (sheet-fields bytes accepted) below end (reading .weight) (reading .marked) .1)) ∙ bits-back unit (omega arith) (reading .weight)
       ∙ ap (λ (o : Option Tropical). ofT unit (finalWeight o)) (sym (reading .marked))
 
   final-within : Within sumLimit (finalWeight (final m end))

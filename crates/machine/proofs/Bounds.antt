@@ -1,7 +1,7 @@
 -- Runs have fewer links than there are nodes, so that every sum along a reading is within the limit of sums. Over any limits on
 -- nodes and on weights whose product is that limit. Assumes nothing.
-use mathlib.Core.Path.{_≡_, sym, ap, subst}
-use mathlib.Core.Option.{some}
+use mathlib.Core.Path.{_≡_, refl, sym, ap, subst}
+use mathlib.Core.Option.{Option, none, some}
 use mathlib.Core.List.{List, [], _∷_, map}
 use Prim.Native.Nat.{ℕ, suc, _+_, _-_, _*_, _≤_, _<_}
 use native.Mathlib.Nat.{mul-le-mul-right}
@@ -9,12 +9,14 @@ use native.Mathlib.Omega.{arith}
 use lib.ListN.{getD, length}
 use Rattle.tropical_weight.specs.Limits.{sumLimit}
 use Rattle.tropical_weight.specs.Tropical.{Tropical, inf, _⊗_, Within}
+use Rattle.tropical_weight.proofs.Semiring.{⊗-zero}
 use Rattle.tropical_weight.proofs.Sums.{within-mono, within-one, terms-⊗, terms-within}
+use Rattle.sheet.specs.Below.{listBelow}
 use Rattle.sheet.specs.Machine.{Machine}
 use Rattle.machine.specs.Readings.{link, final, finalWeight, IsRun, runCost, ways, Reading, IsReading, readingCost}
 use Rattle.machine.specs.Climbs.{Climbs, Small}
-use Rattle.machine.specs.Distance.{dist, relax}
-use Rattle.machine.proofs.Lists.{mem-map}
+use Rattle.machine.specs.Distance.{plusAll, dist, totalAt, relax}
+use Rattle.machine.proofs.Lists.{mem-map, mem-below}
 use Rattle.machine.proofs.Sums.{plusAll-within}
 use Rattle.machine.proofs.Runs.{run-length, ways-sound}
 use Rattle.machine.proofs.Readings.{final-in}
@@ -66,6 +68,17 @@ module _ (m : Machine) (c : Climbs m) (most : ℕ) (b : Small most m) where
 
     pub dist-limit : (v : ℕ) → v < length (m .finals) → Within sumLimit (dist m v)
     dist-limit v h = terms-within nodes most product v (omega arith) (dist m v) (dist-within v)
+
+    pub total-limit : (v : ℕ) → v < length (m .finals) → Within sumLimit (totalAt m v)
+    total-limit v h = go (final m v) refl
+      where
+        go : (o : Option Tropical) → final m v ≡ o → Within sumLimit (dist m v ⊗ finalWeight o)
+        go none e = subst (Within sumLimit) (sym (⊗-zero (dist m v))) tt
+        go (some w) e = terms-within nodes most product (v + 1) (omega arith) (dist m v ⊗ w) (terms-⊗ most v 1 (dist m v) w (dist-within v) (one-term most w (b .onFinal v w e)))
+
+    -- the least total of the first n nodes
+    pub least-limit : (n : ℕ) → n ≤ length (m .finals) → Within sumLimit (plusAll (listBelow n (totalAt m)))
+    least-limit n h = plusAll-within sumLimit (listBelow n (totalAt m)) (λ a k. let x = mem-below (totalAt m) n k in subst (Within sumLimit) (sym (x .2)) (total-limit (x .0) (omega (arith, x .1))))
 
     -- a cost on the way back from a final node, and a rank
     pub rest-limit : (r : List ℕ) (u v : ℕ) (w : Tropical) → IsRun m u r v → final m v ≡ some w → Within sumLimit (runCost m r ⊗ finalWeight (final m v))

@@ -59,6 +59,10 @@ pub record SheetFields (bytes : List ℕ) (T N : ℕ) (m : Machine) : Type 0 whe
   pub final-value : (v : ℕ) → v < N → (markAt bytes T v ≡ 0 → ⊥) → ofBits binary32 (finalAt bytes T v) ≡ ofT unit (weightOf (finalAt bytes T v))
   pub final-bits : Below 256 bytes → (v : ℕ) → v < N → (markAt bytes T v ≡ 0 → ⊥) → bitsOf (weightOf (finalAt bytes T v)) ≡ finalAt bytes T v
 
+-- the links of the next node follow
+pub next-first : (bytes : List ℕ) (T v : ℕ) → firstLink bytes T (suc v) ≡ firstLink bytes T v + countAt bytes T v
+next-first bytes T v = unfold sumBelow in refl
+
 -- ---- of an accepted sheet
 module _ (bytes : List ℕ) (accepted : inputNumber bytes ≡ 0) where
   abbrev p : Parts
@@ -106,12 +110,9 @@ module _ (bytes : List ℕ) (accepted : inputNumber bytes ≡ 0) where
   source v l h a b =
       let k = in-nodes v h in
       let lo : sumBelow v (count p) ≤ l = subst (λ (n : ℕ). n ≤ l) (sym (counts-words bytes read v (le-of-lt k))) a in
-      let hi : l < sumBelow (suc v) (count p) = subst (λ (n : ℕ). l < n) (sym (counts-words bytes read (suc v) k ∙ next-first)) b in
+      let hi : l < sumBelow (suc v) (count p) = subst (λ (n : ℕ). l < n) (sym (counts-words bytes read (suc v) k ∙ next-first bytes T v)) b in
       let inside : l < linkCount p = omega (arith, sum-mono (count p) (nodeCount p) (suc v) k, counts-sum p (t .nodes-fit)) in
       ap (λ x. x .source) (link-at p t l inside) ∙ source-is p (nodeCount p) v l k lo hi
-    where
-      next-first : sumBelow (suc v) (countAt bytes T) ≡ firstLink bytes T v + countAt bytes T v
-      next-first = unfold sumBelow in refl
 
   mark-is : (v : ℕ) → v < N → mark p v ≡ markAt bytes T v
   mark-is v h = read-fields bytes .mark-is v h

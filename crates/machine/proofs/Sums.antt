@@ -2,12 +2,13 @@
 use mathlib.Core.Path.{_≡_, refl, sym, ap, _∙_}
 use mathlib.Core.Logic.{_⊎_, inl, inr}
 use mathlib.Core.List.{List, [], _∷_, _++_, map, List·Memᴰ·head, List·Memᴰ·tail, List·Memᴰ·cases-cons, List·Memᴰ·not-nil}
-use Prim.Native.Nat.{ℕ}
+use Prim.Native.Nat.{ℕ, suc}
 use native.Mathlib.Omega.{arith}
 use lib.IntN.{ℤ}
-use Rattle.tropical_weight.specs.Tropical.{Tropical, fin, _≼_, _⊕_, _⊗_, Within}
-use Rattle.tropical_weight.proofs.Semiring.{≼-trans, ≼-eq, ≼-inf, ⊕-left, ⊕-right, ⊕-either, ⊕-greatest, ⊕-assoc, zero-⊕, ⊗-⊕}
+use Rattle.tropical_weight.specs.Tropical.{Tropical, fin, inf, _≼_, _⊕_, _⊗_, Within}
+use Rattle.tropical_weight.proofs.Semiring.{≼-trans, ≼-eq, ≼-inf, ⊕-left, ⊕-right, ⊕-either, ⊕-greatest, ⊕-assoc, ⊕-comm, zero-⊕, ⊗-⊕}
 use Rattle.tropical_weight.proofs.Sums.{within-⊕}
+use Rattle.sheet.specs.Below.{listBelow}
 use Rattle.machine.specs.Distance.{plusAll}
 use Rattle.machine.specs.Demand.{_∈_}
 use Rattle.machine.proofs.Lists.{here}
@@ -41,6 +42,11 @@ pub plusAll-append : (l k : List Tropical) → plusAll (l ++ k) ≡ plusAll l �
 unfolding plusAll
 plusAll-append [] k = sym (zero-⊕ (plusAll k))
 plusAll-append (a ∷ l) k = ap (λ x. a ⊕ x) (plusAll-append l k) ∙ sym (⊕-assoc a (plusAll l) (plusAll k))
+
+-- one value more
+pub plusAll-next : (n : ℕ) (f : ℕ → Tropical) → plusAll (listBelow (suc n) f) ≡ plusAll (listBelow n f) ⊕ f n
+unfolding listBelow plusAll
+plusAll-next n f = plusAll-append (listBelow n f) (f n ∷ []) ∙ ap (λ x. plusAll (listBelow n f) ⊕ x) (⊕-comm (f n) inf ∙ zero-⊕ (f n))
 
 pub plusAll-⊗ : (l : List Tropical) (w : Tropical) → plusAll (map (λ a. a ⊗ w) l) ≡ plusAll l ⊗ w
 unfolding plusAll

@@ -1,7 +1,6 @@
 pub mod ParentTurns
 pub mod WayTurns
 pub mod ParentLaws
-pub mod SheetFields
 pub mod EndLaws
 pub mod WayLaws
 pub mod WriteTurns

@@ -9,7 +9,7 @@ use Prim.Native.Nat.{ℕ, zero, suc, _+_, _*_, _≤_, _<_}
 use native.Mathlib.Nat.{add-zero}
 use native.Mathlib.Decide.{ℕ-discrete}
 use native.Mathlib.Omega.{arith}
-use lib.Dec.{eqb, lit≤}
+use lib.Dec.{eqb}
 use lib.IntN.{ℤ, _+ℤ_}
 use lib.ListN.{length, getD, set, drop, length-set}
 use lib.Seq.{getD-set-same, getD-set-other, drop-set-lt}
@@ -18,31 +18,28 @@ use borrow.Author.Tests.{eq-eqb, ne-eqb}
 use Rattle.tropical_weight.specs.Limits.{unit, weightLimit, nodeLimit, sumLimit}
 use Rattle.tropical_weight.specs.Tropical.{Tropical, fin, inf, eqT, _⊗_, Within}
 use Rattle.tropical_weight.specs.Grid.{ofT}
-use Rattle.tropical_weight.proofs.Exact.{times-ofT, ofT-injective, bits-back}
+use Rattle.tropical_weight.proofs.Exact.{covered, times-ofT, ofT-injective, bits-back}
 use Rattle.tropical_weight.proofs.Semiring.{isFinite, not-finite, eqT-eq, eq-eqT}
 use Rattle.tropical_weight.proofs.Sums.{within-mono, limits}
 use Rattle.sheet.specs.Below.{sumBelow}
 use Rattle.sheet.specs.Machine.{Machine, bitsOf}
-use Rattle.sheet.specs.Records.{linkAt, countAt}
-use Rattle.sheet.proofs.Below.{sum-mono, split-at}
+use Rattle.sheet.specs.Records.{linkAt, countAt, firstLink}
+use Rattle.sheet.proofs.Below.{split-at}
 use Rattle.sheet.proofs.Apart.{not-both}
 use Rattle.machine.specs.Readings.{link}
-use Rattle.machine.specs.Climbs.{Finite}
 use Rattle.machine.specs.Distance.{dist, via}
 use Rattle.machine.specs.Parents.{lowest, attains, parent}
+use Rattle.machine.proofs.SheetFields.{SheetFields, next-first, first-in}
 use Rattle.machine.proofs.Parents.{Lowest, lowest-is}
 use Rattle.machine.proofs.Relax.{relax-is}
 use Rattle.machine.proofs.Bounds.{dist-limit, step-within}
 use Rattle.slots.specs.Slots.{infinite, nothing}
 use Rattle.shortest_distance.specs.NodeSlots.{distanceWord}
 use Rattle.shortest_distance.proofs.Offers.{bits-finite}
-use Rattle.shortest_distance.proofs.Rows.{Reads}
-use Rattle.single_path.specs.SingleWords.{orphaned, parentWord, sourceWord, attainsBits, parentLink, parentLinks, parentNode, parentNodes}
-use Rattle.single_path.proofs.ParentTurns.{length-orphaned}
-
--- the unit is one that the laws cover
-pub covered : unit ≤ 8
-covered = lit≤ tt
+use Rattle.single_path.specs.declared.single.Parent.{Parent}
+use Rattle.single_path.specs.declared.single.Parent.the-variants.{None, By}
+use Rattle.single_path.specs.SingleWords.{parentIn, parentAt, parentStored, orphaned, attainsBits, parentLink, parentLinks, parentNode, parentNodes}
+use Rattle.single_path.proofs.ParentTurns.{length-stored, length-orphaned}
 
 -- ---- equal bits are equal values
 pub bits-equal : (a b : Tropical) → Within sumLimit a → Within sumLimit b → eqb (bitsOf a) (bitsOf b) ≡ eqT a b
@@ -82,6 +79,14 @@ lowest-only n p o h = go (lowest n p) o (lowest-is n p) h
       | no e ↦ elim (split-at i j) [ inl b ↦ absurd (not-both (x .1) (y .2 i b)) | inr b ↦ absurd (not-both (y .1) (x .2 j (omega (arith, e)))) ]
     ]
 
+-- ---- a parent stored is read again
+stored-same : (work : List ℕ) (v l u : ℕ) → l < nothing → 8 * v + 8 ≤ length work → parentAt (parentStored work v (By l u)) v ≡ By l u
+stored-same work v l u few room =
+    let p : getD (parentStored work v (By l u)) (8 * v + 2) 0 ≡ l =
+    getD-set-other (set work (8 * v + 2) l) (8 * v + 3) (8 * v + 2) u 0 (λ q. omega arith) ∙ getD-set-same work (8 * v + 2) l 0 (omega arith) in
+    let s : getD (parentStored work v (By l u)) (8 * v + 3) 0 ≡ u = getD-set-same (set work (8 * v + 2) l) (8 * v + 3) u 0 (simp length-set (omega arith)) in
+    (λ i. parentIn (eqb (p i) nothing) (p i) (s i)) ∙ ap (λ (b : Bool). parentIn b l u) (ne-eqb l nothing (λ q. omega arith))
+
 -- ---- what a slot holds once the links from l on are through
 module _ (m : Machine) where
   abbrev pub enters : ℕ → ℕ → Bool
@@ -92,10 +97,10 @@ module _ (m : Machine) where
   From l v none = (k : ℕ) → l ≤ k → k < length (m .links) → enters v k ≡ false
   From l v (some j) = (l ≤ j) × (j < length (m .links)) × (enters v j ≡ true) × ((k : ℕ) → l ≤ k → k < j → enters v k ≡ false)
 
-  -- the words of a parent, or of none
-  abbrev pub Words : Option ℕ → ℕ → ℕ → Type 0
-  Words none p s = p ≡ nothing
-  Words (some l) p s = (p ≡ l) × (s ≡ link m l .source)
+  -- the parent by a link, or none
+  abbrev pub parentBy : Option ℕ → Parent
+  parentBy none = None
+  parentBy (some l) = By l (link m l .source)
 
   -- one that does not attain changes nothing
   from-down : (l v : ℕ) (o : Option ℕ) → enters v l ≡ false → From (suc l) v o → From l v o
@@ -111,28 +116,25 @@ module _ (m : Machine) where
   unfolding parent
   parent-in v l e = let x = subst (Lowest (length (m .links)) (enters v)) e (lowest-is (length (m .links)) (enters v)) in (x .0, x .1)
 
-module _ (bytes : List ℕ) (links : ℕ) (m : Machine) (r : Reads bytes links m) (finite : Finite m) (old : List ℕ) where
+module _ (bytes : List ℕ) (m : Machine) (f : SheetFields bytes (length (m .links)) (length (m .finals)) m) (old : List ℕ) where
+  abbrev links : ℕ
+  links = length (m .links)
+
   abbrev first : ℕ → ℕ
-  first v = sumBelow v (countAt bytes links)
-
-  next-first : (v : ℕ) → first (suc v) ≡ first v + countAt bytes links v
-  next-first v = unfold sumBelow in refl
-
-  first-in : (v : ℕ) → v ≤ length (m .finals) → first v ≤ length (m .links)
-  first-in v h = omega (arith, sum-mono (countAt bytes links) (length (m .finals)) v h, r .total)
+  first v = firstLink bytes (length (m .links)) v
 
   distance-limit : (v : ℕ) → v < length (m .finals) → Within sumLimit (dist m v)
-  distance-limit v h = dist-limit m (r .climbs) weightLimit (r .small) nodeLimit limits (r .few) v h
+  distance-limit v h = dist-limit m (f .climbs) weightLimit (f .small) nodeLimit limits (f .few-nodes) v h
 
   via-limit : (u l : ℕ) → u < length (m .finals) → l < length (m .links) → Within sumLimit (dist m u ⊗ link m l .weight)
   via-limit u l h k =
-      subst (λ (d : Tropical). Within sumLimit (d ⊗ link m l .weight)) (relax-is m (r .climbs) u h)
-      (step-within m (r .climbs) weightLimit (r .small) nodeLimit limits (r .few) (length (m .links)) u (omega arith) h l k)
+      subst (λ (d : Tropical). Within sumLimit (d ⊗ link m l .weight)) (relax-is m (f .climbs) u h)
+      (step-within m (f .climbs) weightLimit (f .small) nodeLimit limits (f .few-nodes) (length (m .links)) u (omega arith) h l k)
 
   -- The slots hold the distances, and the parents among the links from l on; beyond them the area is as it was.
   pub record Held (l : ℕ) (work : List ℕ) : Type 0 where
     pub distances : (v : ℕ) → v < length (m .finals) → distanceWord work v ≡ bitsOf (dist m v)
-    pub parents : (v : ℕ) → v < length (m .finals) → (o : Option ℕ) × From m l v o × Words m o (parentWord work v) (sourceWord work v)
+    pub parents : (v : ℕ) → v < length (m .finals) → (o : Option ℕ) × From m l v o × (parentAt work v ≡ parentBy m o)
     pub room : 8 * length (m .finals) ≤ length work
     pub size : length work ≡ length old
     pub beyond : drop (8 * length (m .finals)) work ≡ drop (8 * length (m .finals)) old
@@ -140,16 +142,16 @@ module _ (bytes : List ℕ) (links : ℕ) (m : Machine) (r : Reads bytes links m
   -- ---- one link of node u
   module _ (u l : ℕ) (hu : u < length (m .finals)) (lo : first u ≤ l) (hi : l < first (suc u)) where
     in-links : l < length (m .links)
-    in-links = omega (arith, first-in (suc u) hu)
+    in-links = omega (arith, first-in f (suc u) hu)
 
     source : link m l .source ≡ u
-    source = r .source-at u l hu lo hi
+    source = f .source-at u l hu lo (subst (λ (n : ℕ). l < n) (next-first bytes links u) hi)
 
     abbrev nx : ℕ
     nx = link m l .next
 
     nx-in : nx < length (m .finals)
-    nx-in = r .climbs .inside l in-links
+    nx-in = f .climbs .inside l in-links
 
     via-is : via m l ≡ dist m u ⊗ link m l .weight
     via-is = ap (λ (k : ℕ). dist m k ⊗ link m l .weight) source
@@ -175,10 +177,10 @@ module _ (bytes : List ℕ) (links : ℕ) (m : Machine) (r : Reads bytes links m
 
       test-is : test ≡ enters m nx l
       test-is =
-          let word : distanceWord work (linkAt bytes l .nextstate) ≡ bitsOf (dist m nx) = ap (distanceWord work) (r .next-at l in-links) ∙ h .distances nx nx-in in
-          let wide : Within sumLimit (link m l .weight) = within-mono weightLimit sumLimit (link m l .weight) (let z : weightLimit ≤ sumLimit = omega arith in z) (r .small .onLink l in-links) in
-          let total = sum-finite (dist m u) (link m l .weight) (finite .onLink l in-links .0) reach (finite .onLink l in-links .1) in
-          (λ i. attainsBits (word i) (ofT unit (dist m u)) (r .weight-at l in-links i))
+          let word : distanceWord work (linkAt bytes l .nextstate) ≡ bitsOf (dist m nx) = ap (distanceWord work) (f .next-at l in-links) ∙ h .distances nx nx-in in
+          let wide : Within sumLimit (link m l .weight) = within-mono weightLimit sumLimit (link m l .weight) (let z : weightLimit ≤ sumLimit = omega arith in z) (f .small .onLink l in-links) in
+          let total = sum-finite (dist m u) (link m l .weight) (f .finite .onLink l in-links .0) reach (f .finite .onLink l in-links .1) in
+          (λ i. attainsBits (word i) (ofT unit (dist m u)) (f .link-value l in-links i))
           ∙ attains-bits (dist m nx) (dist m u) (link m l .weight) (distance-limit nx nx-in) (distance-limit u hu) wide (via-limit u l hu in-links)
           ∙ ap (λ (x : Tropical). eqT x (dist m nx)) (sym via-is)
           ∙ sym (attains-finite (dist m nx) (via m l) (total .0) (via-is ∙ total .1))
@@ -186,14 +188,14 @@ module _ (bytes : List ℕ) (links : ℕ) (m : Machine) (r : Reads bytes links m
 
       -- the area by the test
       abbrev stored : Bool → List ℕ
-      stored b = cond b (set (set work (8 * nx + 2) l) (8 * nx + 3) u) work
+      stored b = cond b (parentStored work nx (By l u)) work
 
       word-kept : (b : Bool) (i : ℕ) → (i ≡ 8 * nx + 2 → ⊥) → (i ≡ 8 * nx + 3 → ⊥) → getD (stored b) i 0 ≡ getD work i 0
       word-kept true i p q = getD-set-other (set work (8 * nx + 2) l) (8 * nx + 3) i u 0 q ∙ getD-set-other work (8 * nx + 2) i l 0 p
       word-kept false i p q = refl
 
       size-kept : (b : Bool) → length (stored b) ≡ length work
-      size-kept true = simp length-set
+      size-kept true = length-stored work nx (By l u)
       size-kept false = refl
 
       beyond-kept : (b : Bool) → drop (8 * length (m .finals)) (stored b) ≡ drop (8 * length (m .finals)) work
@@ -203,31 +205,26 @@ module _ (bytes : List ℕ) (links : ℕ) (m : Machine) (r : Reads bytes links m
       beyond-kept false = refl
 
       -- at the next node
-      at-next : (b : Bool) → enters m nx l ≡ b → (o : Option ℕ) × From m l nx o × Words m o (parentWord (stored b) nx) (sourceWord (stored b) nx)
-      at-next true e = (
-        some l,
-        (omega arith, in-links, e, λ k a b. absurd (omega arith)),
-        (
-          getD-set-other (set work (8 * nx + 2) l) (8 * nx + 3) (8 * nx + 2) u 0 (λ q. omega arith) ∙ getD-set-same work (8 * nx + 2) l 0 (omega (arith, h .room, nx-in)),
-          getD-set-same (set work (8 * nx + 2) l) (8 * nx + 3) u 0 (simp length-set (omega (arith, h .room, nx-in))) ∙ sym source,
-        ),
-      )
+      at-next : (b : Bool) → enters m nx l ≡ b → (o : Option ℕ) × From m l nx o × (parentAt (stored b) nx ≡ parentBy m o)
+      at-next true e =
+          let few : l < nothing = omega (arith, in-links, f .few-links) in
+          (some l, (omega arith, in-links, e, λ k a b. absurd (omega arith)), stored-same work nx l u few (omega (arith, h .room, nx-in)) ∙ ap (By l) (sym source))
       at-next false e = let x = h .parents nx nx-in in (x .0, from-down m l nx (x .0) e (x .1), x .2)
 
       -- at another
-      at-other : (b : Bool) (v : ℕ) → v < length (m .finals) → (v ≡ nx → ⊥) → (o : Option ℕ) × From m l v o × Words m o (parentWord (stored b) v) (sourceWord (stored b) v)
+      at-other : (b : Bool) (v : ℕ) → v < length (m .finals) → (v ≡ nx → ⊥) → (o : Option ℕ) × From m l v o × (parentAt (stored b) v ≡ parentBy m o)
       at-other b v k n =
           let x = h .parents v k in
           let away : enters m v l ≡ false = ap (λ (t : Bool). t && attains (dist m v) (via m l)) (ne-eqb nx v (λ q. n (sym q))) in
-          let p : parentWord (stored b) v ≡ parentWord work v = word-kept b (8 * v + 2) (λ q. n (omega arith)) (λ q. omega arith) in
-          let s : sourceWord (stored b) v ≡ sourceWord work v = word-kept b (8 * v + 3) (λ q. omega arith) (λ q. n (omega arith)) in
-          (x .0, from-down m l v (x .0) away (x .1), subst (λ (y : ℕ). Words m (x .0) y (sourceWord (stored b) v)) (sym p) (subst (λ (y : ℕ). Words m (x .0) (parentWord work v) y) (sym s) (x .2)))
+          let p = word-kept b (8 * v + 2) (λ q. n (omega arith)) (λ q. omega arith) in
+          let s = word-kept b (8 * v + 3) (λ q. omega arith) (λ q. n (omega arith)) in
+          (x .0, from-down m l v (x .0) away (x .1), (λ i. parentIn (eqb (p i) nothing) (p i) (s i)) ∙ x .2)
 
       held-by : (b : Bool) → enters m nx l ≡ b → Held l (stored b)
       held-by b e = record {
         distances = λ v k. word-kept b (8 * v) (λ q. omega arith) (λ q. omega arith) ∙ h .distances v k;
         parents = λ v k. elim (ℕ-discrete v nx) [
-          | yes q ↦ subst (λ (x : ℕ). (o : Option ℕ) × From m l x o × Words m o (parentWord (stored b) x) (sourceWord (stored b) x)) (sym q) (at-next b e)
+          | yes q ↦ subst (λ (x : ℕ). (o : Option ℕ) × From m l x o × (parentAt (stored b) x ≡ parentBy m o)) (sym q) (at-next b e)
           | no q ↦ at-other b v k q
         ];
         room = subst (λ (n : ℕ). 8 * length (m .finals) ≤ n) (sym (size-kept b)) (h .room);
@@ -237,14 +234,14 @@ module _ (bytes : List ℕ) (links : ℕ) (m : Machine) (r : Reads bytes links m
 
       take-link : Held l (parentLink (linkAt bytes l) l u (ofT unit (dist m u)) work)
       take-link =
-          subst (Held l) (λ i. cond (sym test-is i) (set (set work (8 * sym (r .next-at l in-links) i + 2) l) (8 * sym (r .next-at l in-links) i + 3) u) work) (held-by (enters m nx l) refl)
+          subst (Held l) (λ i. cond (sym test-is i) (parentStored work (sym (f .next-at l in-links) i) (By l u)) work) (held-by (enters m nx l) refl)
 
   -- ---- the links of node u, so many of them
   skip-links : (u : ℕ) → u < length (m .finals) → isFinite (dist m u) ≡ false → (n : ℕ) → n ≤ countAt bytes links u → (work : List ℕ) → Held (first u + n) work → Held (first u) work
   skip-links u hu e zero k work h = subst (λ (l : ℕ). Held l work) (add-zero (first u)) h
   skip-links u hu e (suc n) k work h =
       let at : first u + suc n ≡ suc (first u + n) = omega arith in
-      skip-links u hu e n (omega arith) work (skip-link u (first u + n) hu (omega arith) (omega (arith, next-first u)) e work (subst (λ (l : ℕ). Held l work) at h))
+      skip-links u hu e n (omega arith) work (skip-link u (first u + n) hu (omega arith) (omega (arith, next-first bytes links u)) e work (subst (λ (l : ℕ). Held l work) at h))
 
   take-links : (u : ℕ) → u < length (m .finals) → isFinite (dist m u) ≡ true → (n : ℕ) → n ≤ countAt bytes links u → (work : List ℕ) → Held (first u + n) work → Held (first u) (parentLinks bytes (first u) u (ofT unit (dist m u)) n work)
   unfolding parentLinks
@@ -252,7 +249,7 @@ module _ (bytes : List ℕ) (links : ℕ) (m : Machine) (r : Reads bytes links m
   take-links u hu e (suc n) k work h =
       let at : first u + suc n ≡ suc (first u + n) = omega arith in
       take-links u hu e n (omega arith) (parentLink (linkAt bytes (first u + n)) (first u + n) u (ofT unit (dist m u)) work)
-      (take-link u (first u + n) hu (omega arith) (omega (arith, next-first u)) e work (subst (λ (l : ℕ). Held l work) at h))
+      (take-link u (first u + n) hu (omega arith) (omega (arith, next-first bytes links u)) e work (subst (λ (l : ℕ). Held l work) at h))
 
   -- ---- a node, and all of them
   node-step : (u : ℕ) → u < length (m .finals) → (work : List ℕ) → Held (first (suc u)) work → Held (first u) (parentNode bytes (first u) (countAt bytes links u) u work)
@@ -265,7 +262,7 @@ module _ (bytes : List ℕ) (links : ℕ) (m : Machine) (r : Reads bytes links m
       distance = ap (ofBits binary32) (h .distances u hu) ∙ bits-back unit covered (dist m u)
 
       held : Held (first u + countAt bytes links u) work
-      held = subst (λ (l : ℕ). Held l work) (next-first u) h
+      held = subst (λ (l : ℕ). Held l work) (next-first bytes links u) h
 
       go : (b : Bool) → isFinite (dist m u) ≡ b → Held (first u) (cond (not b) work (parentLinks bytes (first u) u (ofBits binary32 (distanceWord work u)) (countAt bytes links u) work))
       go true e = subst (λ (d : Float). Held (first u) (parentLinks bytes (first u) u d (countAt bytes links u) work)) (sym distance) (take-links u hu e (countAt bytes links u) (omega arith) work held)
@@ -283,13 +280,18 @@ module _ (bytes : List ℕ) (links : ℕ) (m : Machine) (r : Reads bytes links m
     orphaned-kept zero i h = refl
     orphaned-kept (suc v) i h = getD-set-other (orphaned v work) (8 * v + 2) i nothing 0 (h v (omega arith)) ∙ orphaned-kept v i (λ u k. h u (omega arith))
 
-    orphaned-parent : (n v : ℕ) → v < n → n ≤ length (m .finals) → parentWord (orphaned n work) v ≡ nothing
+    orphaned-word : (n v : ℕ) → v < n → n ≤ length (m .finals) → getD (orphaned n work) (8 * v + 2) 0 ≡ nothing
     unfolding orphaned
-    orphaned-parent zero v h k = absurd (omega arith)
-    orphaned-parent (suc n) v h k = elim (ℕ-discrete v n) [
-      | yes e ↦ ap (λ (u : ℕ). parentWord (orphaned (suc n) work) u) e ∙ getD-set-same (orphaned n work) (8 * n + 2) nothing 0 (omega (arith, length-orphaned n work))
-      | no e ↦ getD-set-other (orphaned n work) (8 * n + 2) (8 * v + 2) nothing 0 (λ q. e (omega arith)) ∙ orphaned-parent n v (omega (arith, e)) (omega arith)
+    orphaned-word zero v h k = absurd (omega arith)
+    orphaned-word (suc n) v h k = elim (ℕ-discrete v n) [
+      | yes e ↦ ap (λ (u : ℕ). getD (orphaned (suc n) work) (8 * u + 2) 0) e ∙ getD-set-same (orphaned n work) (8 * n + 2) nothing 0 (omega (arith, length-orphaned n work))
+      | no e ↦ getD-set-other (orphaned n work) (8 * n + 2) (8 * v + 2) nothing 0 (λ q. e (omega arith)) ∙ orphaned-word n v (omega (arith, e)) (omega arith)
     ]
+
+    orphaned-parent : (v : ℕ) → v < length (m .finals) → parentAt (orphaned (length (m .finals)) work) v ≡ None
+    orphaned-parent v h =
+        let all = orphaned (length (m .finals)) work in
+        ap (λ (b : Bool). parentIn b (getD all (8 * v + 2) 0) (getD all (8 * v + 3) 0)) (eq-eqb (getD all (8 * v + 2) 0) nothing (orphaned-word (length (m .finals)) v h (omega arith)))
 
     orphaned-beyond : (n k : ℕ) → 8 * n ≤ k → drop k (orphaned n work) ≡ drop k work
     unfolding orphaned
@@ -299,7 +301,7 @@ module _ (bytes : List ℕ) (links : ℕ) (m : Machine) (r : Reads bytes links m
     pub none-held : Held (length (m .links)) (orphaned (length (m .finals)) work)
     none-held = record {
       distances = λ v k. orphaned-kept (length (m .finals)) (8 * v) (λ u b q. omega arith) ∙ distances v k;
-      parents = λ v k. (none, (λ l a b. absurd (omega arith)), orphaned-parent (length (m .finals)) v k (omega arith));
+      parents = λ v k. (none, (λ l a b. absurd (omega arith)), orphaned-parent v k);
       room = subst (λ (n : ℕ). 8 * length (m .finals) ≤ n) (sym (length-orphaned (length (m .finals)) work)) room;
       size = length-orphaned (length (m .finals)) work ∙ size;
       beyond = orphaned-beyond (length (m .finals)) (8 * length (m .finals)) (omega arith) ∙ beyond;
@@ -307,11 +309,11 @@ module _ (bytes : List ℕ) (links : ℕ) (m : Machine) (r : Reads bytes links m
 
     -- and all of them stored
     pub all-held : Held 0 (parentNodes bytes links (length (m .finals)) (orphaned (length (m .finals)) work))
-    all-held = nodes-step (length (m .finals)) (omega arith) (orphaned (length (m .finals)) work) (subst (λ (l : ℕ). Held l (orphaned (length (m .finals)) work)) (sym (r .total)) none-held)
+    all-held = nodes-step (length (m .finals)) (omega arith) (orphaned (length (m .finals)) work) (subst (λ (l : ℕ). Held l (orphaned (length (m .finals)) work)) (sym (f .counted)) none-held)
 
-  -- ---- what the words are once all links are through
-  pub parent-words : (work : List ℕ) → Held 0 work → (v : ℕ) → v < length (m .finals) → Words m (parent m v) (parentWord work v) (sourceWord work v)
+  -- ---- the parents once all links are through
+  pub parents-are : (work : List ℕ) → Held 0 work → (v : ℕ) → v < length (m .finals) → parentAt work v ≡ parentBy m (parent m v)
   unfolding parent
-  parent-words work h v k =
+  parents-are work h v k =
       let x = h .parents v k in
-      subst (λ (o : Option ℕ). Words m o (parentWord work v) (sourceWord work v)) (sym (lowest-only (length (m .links)) (enters m v) (x .0) (from-lowest m v (x .0) (x .1)))) (x .2)
+      x .2 ∙ ap (parentBy m) (sym (lowest-only (length (m .links)) (enters m v) (x .0) (from-lowest m v (x .0) (x .1))))

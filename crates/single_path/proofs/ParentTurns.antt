@@ -2,26 +2,32 @@
 use mathlib.Core.Path.{_≡_, refl, sym, ap, _∙_}
 use mathlib.Core.Bool.{Bool, true, false, cond}
 use mathlib.Core.List.{List}
-use Prim.Native.Nat.{ℕ, zero, suc, _+_, _-_, _*_, _<_}
+use Prim.Native.Nat.{ℕ, zero, suc, _+_, _-_, _<_}
 use native.Mathlib.Numerals.{add-one}
 use native.Mathlib.Omega.{arith}
 use lib.Dec.{eqb}
-use lib.ListN.{length, set, length-set}
+use lib.ListN.{length, length-set}
 use lib.Ieee.{Float, binary32, ofBits}
 use Rattle.sheet.specs.Below.{sumBelow}
 use Rattle.sheet.specs.declared.tr.Link.{Link}
 use Rattle.sheet.specs.Records.{linkAt, countAt, firstLink}
-use Rattle.slots.specs.Slots.{infinite, nothing}
+use Rattle.slots.specs.Slots.{infinite}
 use Rattle.shortest_distance.specs.NodeSlots.{distanceWord}
-use Rattle.single_path.specs.SingleWords.{orphaned, attainsBits, parentLink, parentLinks, parentNode, parentNodes}
+use Rattle.single_path.specs.declared.single.Parent.{Parent}
+use Rattle.single_path.specs.declared.single.Parent.the-variants.{None, By}
+use Rattle.single_path.specs.SingleWords.{parentStored, orphaned, attainsBits, parentLink, parentLinks, parentNode, parentNodes}
+
+pub length-stored : (work : List ℕ) (v : ℕ) (p : Parent) → length (parentStored work v p) ≡ length work
+length-stored work v None = simp length-set
+length-stored work v (By l u) = simp length-set
 
 pub length-orphaned : (n : ℕ) (work : List ℕ) → length (orphaned n work) ≡ length work
 unfolding orphaned
 length-orphaned zero work = refl
-length-orphaned (suc v) work = simp length-set (length-orphaned v work)
+length-orphaned (suc v) work = length-stored (orphaned v work) v None ∙ length-orphaned v work
 
 -- one slot more
-pub orphaned-next : (v : ℕ) (work : List ℕ) → orphaned (v + 1) work ≡ set (orphaned v work) (8 * v + 2) nothing
+pub orphaned-next : (v : ℕ) (work : List ℕ) → orphaned (v + 1) work ≡ parentStored (orphaned v work) v None
 unfolding orphaned
 orphaned-next v work = ap (λ (k : ℕ). orphaned k work) (add-one v)
 
@@ -31,17 +37,10 @@ module _ (k : Link) (l v : ℕ) (distance : Float) (work : List ℕ) where
   test = attainsBits (distanceWord work (k .nextstate)) distance (k .weight)
 
   pub link-left : test ≡ false → work ≡ parentLink k l v distance work
-  link-left e = sym (ap (λ (b : Bool). cond b (set (set work (8 * k .nextstate + 2) l) (8 * k .nextstate + 3) v) work) e)
+  link-left e = sym (ap (λ (b : Bool). cond b (parentStored work (k .nextstate) (By l v)) work) e)
 
-  pub link-taken : test ≡ true → set (set work (8 * k .nextstate + 2) l) (8 * k .nextstate + 3) v ≡ parentLink k l v distance work
-  link-taken e = sym (ap (λ (b : Bool). cond b (set (set work (8 * k .nextstate + 2) l) (8 * k .nextstate + 3) v) work) e)
-
-  pub length-parentLink : length (parentLink k l v distance work) ≡ length work
-  length-parentLink = go test
-    where
-      go : (b : Bool) → length (cond b (set (set work (8 * k .nextstate + 2) l) (8 * k .nextstate + 3) v) work) ≡ length work
-      go true = simp length-set
-      go false = refl
+  pub link-taken : test ≡ true → parentStored work (k .nextstate) (By l v) ≡ parentLink k l v distance work
+  link-taken e = sym (ap (λ (b : Bool). cond b (parentStored work (k .nextstate) (By l v)) work) e)
 
 -- ---- the links of a node
 module _ (bytes : List ℕ) (first v : ℕ) (distance : Float) where
@@ -59,11 +58,6 @@ module _ (bytes : List ℕ) (first v : ℕ) (distance : Float) where
   unfolding parentLinks
   links-end i work e = ap (λ (k : ℕ). parentLinks bytes first v distance k work) e
 
-  pub length-parentLinks : (i : ℕ) (work : List ℕ) → length (parentLinks bytes first v distance i work) ≡ length work
-  unfolding parentLinks
-  length-parentLinks zero work = refl
-  length-parentLinks (suc i) work = length-parentLinks i (parentLink (linkAt bytes (first + i)) (first + i) v distance work) ∙ length-parentLink (linkAt bytes (first + i)) (first + i) v distance work
-
 -- a node, by whether it is reached
 module _ (bytes : List ℕ) (first count v : ℕ) (work : List ℕ) where
   pub node-left : eqb (distanceWord work v) infinite ≡ true → work ≡ parentNode bytes first count v work
@@ -71,13 +65,6 @@ module _ (bytes : List ℕ) (first count v : ℕ) (work : List ℕ) where
 
   pub node-taken : eqb (distanceWord work v) infinite ≡ false → parentLinks bytes first v (ofBits binary32 (distanceWord work v)) count work ≡ parentNode bytes first count v work
   node-taken e = sym (ap (λ (b : Bool). cond b work (parentLinks bytes first v (ofBits binary32 (distanceWord work v)) count work)) e)
-
-  pub length-parentNode : length (parentNode bytes first count v work) ≡ length work
-  length-parentNode = go (eqb (distanceWord work v) infinite)
-    where
-      go : (b : Bool) → length (cond b work (parentLinks bytes first v (ofBits binary32 (distanceWord work v)) count work)) ≡ length work
-      go true = refl
-      go false = length-parentLinks bytes first v (ofBits binary32 (distanceWord work v)) count work
 
 -- ---- the nodes
 module _ (bytes : List ℕ) (links : ℕ) where
@@ -93,12 +80,6 @@ module _ (bytes : List ℕ) (links : ℕ) where
   pub nodes-end : (v : ℕ) (work : List ℕ) → v ≡ 0 → parentNodes bytes links v work ≡ work
   unfolding parentNodes
   nodes-end v work e = ap (λ (k : ℕ). parentNodes bytes links k work) e
-
-  pub length-parentNodes : (n : ℕ) (work : List ℕ) → length (parentNodes bytes links n work) ≡ length work
-  unfolding parentNodes
-  length-parentNodes zero work = refl
-  length-parentNodes (suc v) work =
-      length-parentNodes v (parentNode bytes (firstLink bytes links v) (countAt bytes links v) v work) ∙ length-parentNode bytes (firstLink bytes links v) (countAt bytes links v) v work
 
   -- the links of the nodes below one are those before its own
   pub sum-turn : (v : ℕ) → 0 < v → sumBelow v (countAt bytes links) ≡ sumBelow (v - 1) (countAt bytes links) + countAt bytes links (v - 1)

@@ -2,33 +2,33 @@
 use mathlib.Core.Path.{_≡_, refl, sym, ap, _∙_}
 use mathlib.Core.Bool.{Bool, cond}
 use mathlib.Core.Option.{Option, none, some}
-use mathlib.Core.List.{List, [], _∷_, _++_, map-map, map-id, flatMap, reverse, List·Memᴰ·tail}
+use mathlib.Core.List.{List, [], _∷_, _++_, flatMap, reverse, List·Memᴰ·tail}
 use Prim.Native.Nat.{ℕ, zero, suc, _+_, _-_, _*_, _≤_, _<_}
 use native.Mathlib.Decide.{ℕ-discrete}
 use native.Mathlib.Omega.{arith}
 use lib.Dec.{ltb, eqb}
-use lib.ListN.{length, drop, replicate, length-append, length-reverse, length-replicate}
+use lib.ListN.{length, drop, replicate, length-append, length-reverse}
 use lib.Seq.{sets, sets-eq}
 use borrow.Author.Tests.{le-ltb, lt-ltb, eq-eqb, ne-eqb}
 use Rattle.tropical_weight.specs.Tropical.{Tropical}
 use Rattle.sheet.specs.Words.{bytesOfAll}
-use Rattle.sheet.specs.Sheet.{linkCount, nodeCount, trailerOf, sheetOf, partsOf}
-use Rattle.sheet.specs.Machine.{Link, Machine, machineOf, weightOf, bitsOf, linkFields, leaving, nodeFields, partsFor}
+use Rattle.sheet.specs.Sheet.{linkCount, nodeCount, trailerOf, sheetOf}
+use Rattle.sheet.specs.Machine.{Link, Machine, weightOf, bitsOf, linkFields, leaving, nodeFields, partsFor}
 use Rattle.sheet.proofs.Bytes.{bytesOfAll-append, length-bytesOfAll}
 use Rattle.sheet.proofs.Encoding.{links-are, nodes-are}
 use Rattle.sheet.proofs.Round.{Below}
 use Rattle.machine.specs.Readings.{Reading, final}
-use Rattle.machine.specs.Input.{inputNumber}
 use Rattle.machine.specs.Demand.{_∈_}
 use Rattle.machine.proofs.Lists.{here}
-use Rattle.search.specs.ListMachine.{Result, empty, backLinks, bestResult, wordFor, resultBytes}
+use Rattle.machine.proofs.SheetFields.{SheetFields}
+use Rattle.search.specs.ListMachine.{Result, backLinks, bestResult, resultBytes}
+use Rattle.search.proofs.BackOne.{links-long, nodes-long, words-are}
 use Rattle.shortest_distance.specs.Handed.{handedOver}
 use Rattle.list_answer.specs.declared.Listed.{Listed}
 use Rattle.list_answer.specs.declared.Listed.the-variants as Listed
 use Rattle.single_path.specs.SingleWords.{wayLinks, wayStates, wayNodes, wayTrailer, wayWords, wayListed}
 use Rattle.list_answer.specs.ListAnswer.{listedBy, listedIn, listedOver}
 use Rattle.single_path.proofs.WriteTurns.{sets-words}
-use Rattle.single_path.proofs.SheetFields.{ilabel-at, olabel-at, bits-at}
 
 -- ---- how long the words are
 length-wayLinks : (bytes : List ℕ) (s : ℕ) (way : List ℕ) → length (wayLinks bytes s way) ≡ 4 * length way
@@ -73,11 +73,6 @@ module _ (bytes : List ℕ) (bits : ℕ) (way : List ℕ) where
       ∙ way-stores old k e
 
 -- ---- the links of the way as a machine's
-length-back : (m : Machine) (s : ℕ) (ls : List ℕ) → length (backLinks m s ls) ≡ length ls
-unfolding backLinks
-length-back m s [] = refl
-length-back m s (l ∷ ls) = ap suc (length-back m (suc s) ls)
-
 -- one leaves each state from s on, and none a lower one
 leaving-below : (m : Machine) (s : ℕ) (ls : List ℕ) (v : ℕ) → v < s → leaving (backLinks m s ls) v ≡ 0
 unfolding backLinks leaving
@@ -100,19 +95,16 @@ states-are ks v zero h = refl
 states-are ks v (suc n) h = λ i. h v (omega arith) (omega arith) i ∷ 0 ∷ 0 ∷ states-are ks (suc v) n (λ j a b. h j (omega arith) (omega arith)) i
 
 -- ---- the result of a way
-module _ (bytes : List ℕ) (accepted : inputNumber bytes ≡ 0) (whole : Below 256 bytes) where
-  abbrev m : Machine
-  m = machineOf (partsOf bytes)
-
+module _ (bytes : List ℕ) (m : Machine) (f : SheetFields bytes (length (m .links)) (length (m .finals)) m) (whole : Below 256 bytes) where
   links-are-words : (s : ℕ) (ls : List ℕ) → ((l : ℕ) → l ∈ ls → l < length (m .links)) → flatMap linkFields (backLinks m (suc s) ls) ≡ wayLinks bytes s ls
   unfolding flatMap backLinks wayLinks
   links-are-words s [] h = refl
   links-are-words s (l ∷ ls) h =
       let b = h l (here l ls) in
       let down : suc s - 1 ≡ s = omega arith in
-      λ i. (ilabel-at bytes accepted whole l b i ∷ olabel-at bytes accepted whole l b i ∷ bits-at bytes accepted whole l b i ∷ down i ∷ []) ++ links-are-words (suc s) ls (λ k q. h k (List·Memᴰ·tail q)) i
+      λ i. (sym (f .ilabel-at l b) i ∷ sym (f .olabel-at l b) i ∷ sym (f .link-bits whole l b) i ∷ down i ∷ []) ++ links-are-words (suc s) ls (λ k q. h k (List·Memᴰ·tail q)) i
 
-  module _ (x : Reading) (bits : ℕ) (way : List ℕ) (way-is : way ≡ reverse (x .run)) (inside : (l : ℕ) → l ∈ reverse (x .run) → l < length (machineOf (partsOf bytes) .links)) (ends : final (machineOf (partsOf bytes)) (x .end) ≡ some (weightOf bits)) (same : bitsOf (weightOf bits) ≡ bits) where
+  module _ (x : Reading) (bits : ℕ) (way : List ℕ) (way-is : way ≡ reverse (x .run)) (inside : (l : ℕ) → l ∈ reverse (x .run) → l < length (m .links)) (ends : final m (x .end) ≡ some (weightOf bits)) (same : bitsOf (weightOf bits) ≡ bits) where
     abbrev back : List ℕ
     back = reverse (x .run)
 
@@ -122,11 +114,11 @@ module _ (bytes : List ℕ) (accepted : inputNumber bytes ≡ 0) (whole : Below 
     long : length back ≡ length (x .run)
     long = length-reverse (x .run)
 
-    pub links-count : length (bestResult (machineOf (partsOf bytes)) x .machine .links) ≡ length way
-    links-count = length-back m 1 back ∙ ap length (sym way-is)
+    pub links-count : length (bestResult m x .machine .links) ≡ length way
+    links-count = links-long m x ∙ sym (ap length way-is ∙ long)
 
-    pub nodes-count : length (bestResult (machineOf (partsOf bytes)) x .machine .finals) ≡ length way + 1
-    nodes-count = omega (arith, length-replicate {A = Option Tropical} (length (x .run)) none, long, ap length way-is)
+    pub nodes-count : length (bestResult m x .machine .finals) ≡ length way + 1
+    nodes-count = nodes-long m x ∙ (let z : suc (length (x .run)) ≡ length way + 1 = omega (arith, long, ap length way-is) in z)
 
     links-part : partsFor found .links ≡ wayLinks bytes 0 way
     unfolding partsFor
@@ -147,10 +139,10 @@ module _ (bytes : List ℕ) (accepted : inputNumber bytes ≡ 0) (whole : Below 
         let s : length (x .run) ≡ length way = sym (ap length way-is ∙ long) in
         λ i. 0 ∷ 16 * l i ∷ n i ∷ l i ∷ s i ∷ []
 
-    pub way-bytes : resultBytes (bestResult (machineOf (partsOf bytes)) x) ≡ bytesOfAll (wayWords bytes bits way)
+    pub way-bytes : resultBytes (bestResult m x) ≡ bytesOfAll (wayWords bytes bits way)
     unfolding resultBytes sheetOf
     way-bytes =
-        (λ i. bytesOfAll (links-part i ++ nodes-part i ++ trailer-part i) ++ bytesOfAll ((map-map wordFor some back ∙ map-id back ∙ sym way-is) i))
+        (λ i. bytesOfAll (links-part i ++ nodes-part i ++ trailer-part i) ++ bytesOfAll ((words-are m x ∙ sym way-is) i))
         ∙ sym (bytesOfAll-append (wayLinks bytes 0 way ++ wayNodes bits (length way) ++ wayTrailer (length way)) way)
 
 -- ---- what is answered, by the words

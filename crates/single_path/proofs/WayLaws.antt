@@ -8,7 +8,7 @@ use native.Mathlib.Omega.{arith}
 use lib.Dec.{eqb}
 use lib.IntN.{ℤ}
 use lib.ListN.{length}
-use borrow.Author.Tests.{eq-eqb, ne-eqb, eqb-true}
+use borrow.Author.Tests.{eqb-true}
 use Rattle.tropical_weight.specs.Tropical.{Tropical, fin, inf, ltT, eqT}
 use Rattle.sheet.specs.Machine.{Machine}
 use Rattle.sheet.proofs.Apart.{both, not-both}
@@ -19,9 +19,10 @@ use Rattle.machine.specs.Parents.{attains, parent, stepBack, follow}
 use Rattle.machine.proofs.Parents.{attains-eq, term}
 use Rattle.machine.proofs.Reached.{finite-reached, reached-above}
 use Rattle.machine.proofs.Runs.{at-some}
-use Rattle.slots.specs.Slots.{nothing}
-use Rattle.single_path.specs.SingleWords.{parentWord, sourceWord, Falls, wayBack}
-use Rattle.single_path.proofs.ParentLaws.{Words, parent-in}
+use Rattle.single_path.specs.declared.single.Parent.{Parent}
+use Rattle.single_path.specs.declared.single.Parent.the-variants.{By}
+use Rattle.single_path.specs.SingleWords.{parentAt, onFrom, wayBack, Traced}
+use Rattle.single_path.proofs.ParentLaws.{parentBy, parent-in}
 
 module _ (m : Machine) (c : Climbs m) where
   -- a parent leads up to its node
@@ -45,39 +46,36 @@ module _ (m : Machine) (c : Climbs m) where
       some-units (fin k) e = (k, refl)
       some-units inf e = absurd (not-both e refl)
 
-  module _ (work : List ℕ) (words : (v : ℕ) → v < length (m .finals) → Words m (parent m v) (parentWord work v) (sourceWord work v)) (few : length (m .links) ≤ nothing) where
-    -- ---- following the words is following the parents
-    abbrev step : ℕ → ℕ → Bool → List ℕ
-    step f v b = cond b [] (parentWord work v ∷ wayBack work f (sourceWord work v))
-
+  module _ (work : List ℕ) (parents : (v : ℕ) → v < length (m .finals) → parentAt work v ≡ parentBy m (parent m v)) where
+    -- ---- following the slots is following the parents
     pub way-is : (f v : ℕ) → v < length (m .finals) → wayBack work f v ≡ reverse (follow m f v)
     unfolding wayBack follow
     way-is zero v h = refl
-    way-is (suc f) v h = go (parent m v) refl (words v h) (isAt (m .start) v) refl (λ u k. way-is f u k)
+    way-is (suc f) v h = ap (λ (p : Parent). onFrom p (wayBack work f)) (parents v h) ∙ go (parent m v) refl (isAt (m .start) v) refl (λ u k. way-is f u k)
       where
-        go : (o : Option ℕ) → parent m v ≡ o → Words m o (parentWord work v) (sourceWord work v) → (b : Bool) → isAt (m .start) v ≡ b → ((u : ℕ) → u < length (m .finals) → wayBack work f u ≡ reverse (follow m f u))
-            → step f v (eqb (parentWord work v) nothing) ≡ reverse (cond b [] (stepBack m o (follow m f)))
-        go none e w true s ih = ap (step f v) (eq-eqb (parentWord work v) nothing w)
-        go none e w false s ih = ap (step f v) (eq-eqb (parentWord work v) nothing w)
-        go (some l) e w true s ih = absurd (start-none v l (at-some (m .start) v s) e)
-        go (some l) e w false s ih =
+        go : (o : Option ℕ) → parent m v ≡ o → (b : Bool) → isAt (m .start) v ≡ b → ((u : ℕ) → u < length (m .finals) → wayBack work f u ≡ reverse (follow m f u))
+            → onFrom (parentBy m o) (wayBack work f) ≡ reverse (cond b [] (stepBack m o (follow m f)))
+        go none e true s ih = refl
+        go none e false s ih = refl
+        go (some l) e true s ih = absurd (start-none v l (at-some (m .start) v s) e)
+        go (some l) e false s ih =
             let p = parent-up v l e in
-            ap (step f v) (ne-eqb (parentWord work v) nothing (λ q. omega (arith, w .0)))
-            ∙ (λ i. w .0 i ∷ wayBack work f (w .1 i))
-            ∙ ap (λ (r : List ℕ). l ∷ r) (ih (link m l .source) (omega arith))
-            ∙ sym (reverse-append (follow m f (link m l .source)) (l ∷ []))
+            ap (λ (r : List ℕ). l ∷ r) (ih (link m l .source) (omega arith)) ∙ sym (reverse-append (follow m f (link m l .source)) (l ∷ []))
 
-    -- ---- what the code asks of the words
-    pub falls-from : (bytes : List ℕ) (end : ℕ) → end < length (m .finals) → 8 * length (m .finals) ≤ length work → 16 * length (m .links) ≤ length bytes → Falls bytes work end
-    falls-from bytes end h room long = record {
-      slots = omega arith;
-      sources = λ v b n. some-parent v (omega arith) n .0;
-      among = λ v b n. some-parent v (omega arith) n .1;
+    -- ---- what the code asks of the slots
+    pub traced-from : (bytes : List ℕ) (end : ℕ) → end < length (m .finals) → 8 * length (m .finals) ≤ length work → 16 * length (m .links) ≤ length bytes → Traced bytes work end
+    traced-from bytes end h room long = record {
+      falls = record { slots = omega arith; sources = λ v l u b e. by-link v l u (omega arith) e .0 };
+      among = λ v l u b e. by-link v l u (omega arith) e .1;
     }
       where
-        some-parent : (v : ℕ) → v < length (m .finals) → (parentWord work v ≡ nothing → ⊥) → (sourceWord work v < v) × (16 * parentWord work v + 16 ≤ length bytes)
-        some-parent v b n = go (parent m v) refl (words v b)
+        by-link : (v l u : ℕ) → v < length (m .finals) → parentAt work v ≡ By l u → (u < v) × (16 * l + 16 ≤ length bytes)
+        by-link v l u b e = go (parent m v) refl (sym (parents v b) ∙ e)
           where
-            go : (o : Option ℕ) → parent m v ≡ o → Words m o (parentWord work v) (sourceWord work v) → (sourceWord work v < v) × (16 * parentWord work v + 16 ≤ length bytes)
-            go none e w = absurd (n w)
-            go (some l) e w = let p = parent-up v l e in (omega (arith, w .1), omega (arith, w .0))
+            go : (o : Option ℕ) → parent m v ≡ o → parentBy m o ≡ By l u → (u < v) × (16 * l + 16 ≤ length bytes)
+            go none q w = let z : _≡_ {A = ℕ} 0 1 = cc in absurd (omega arith)
+            go (some k) q w =
+                let p = parent-up v k q in
+                let same : k ≡ l = cc in
+                let from : link m k .source ≡ u = cc in
+                (omega arith, omega arith)

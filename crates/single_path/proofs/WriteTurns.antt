@@ -1,5 +1,5 @@
 -- The words of the answer stored one after the other, turn by turn of the loops. Assumes nothing.
-use mathlib.Core.Path.{_≡_, refl, sym, ap, _∙_}
+use mathlib.Core.Path.{_≡_, sym, ap, _∙_}
 use mathlib.Core.List.{List, [], _∷_, _++_}
 use Prim.Native.Nat.{ℕ, suc, _+_, _-_, _*_, _<_}
 use native.Mathlib.Numerals.{add-one}
@@ -33,18 +33,12 @@ links-again bytes result whole l i way rest new e n w =
     ∙ ap (λ (x : List ℕ). sets result (16 * i) (bytesOfAll (wayLinks bytes i x))) (sym e) ∙ w
 
 -- one number more
-numbers-store : (result : List ℕ) (at l i : ℕ) (way : List ℕ)
-    → sets (sets result (at + 4 * i) (bytesOf l)) (at + 4 * (i + 1)) (bytesOfAll way) ≡ sets result (at + 4 * i) (bytesOfAll (l ∷ way))
-numbers-store result at l i way =
-    ap (λ (x : List ℕ). sets (sets result (at + 4 * i) x) (at + 4 * (i + 1)) (bytesOfAll way)) (sym (bytesOfAll-one l))
-    ∙ sets-words result (at + 4 * i) (l ∷ []) way (at + 4 * (i + 1)) (omega arith)
-
-pub numbers-again : (at : ℕ) (result whole : List ℕ) (l i : ℕ) (way rest new : List ℕ) → way ≡ l ∷ rest → new ≡ sets result (at + 4 * i) (bytesOf l)
-    → sets result (at + 4 * i) (bytesOfAll way) ≡ whole → sets new (at + 4 * (i + 1)) (bytesOfAll rest) ≡ whole
-numbers-again at result whole l i way rest new e n w =
-    ap (λ (x : List ℕ). sets x (at + 4 * (i + 1)) (bytesOfAll rest)) n
-    ∙ numbers-store result at l i rest
-    ∙ ap (λ (x : List ℕ). sets result (at + 4 * i) (bytesOfAll x)) (sym e) ∙ w
+pub numbers-again : (result whole : List ℕ) (at l : ℕ) (way rest new : List ℕ) → way ≡ l ∷ rest → new ≡ sets result at (bytesOf l)
+    → sets result at (bytesOfAll way) ≡ whole → sets new (at + 4) (bytesOfAll rest) ≡ whole
+numbers-again result whole at l way rest new e n w =
+    ap (λ (x : List ℕ). sets x (at + 4) (bytesOfAll rest)) (n ∙ ap (sets result at) (sym (bytesOfAll-one l)))
+    ∙ sets-words result at (l ∷ []) rest (at + 4) (omega arith)
+    ∙ ap (λ (x : List ℕ). sets result at (bytesOfAll x)) (sym e) ∙ w
 
 -- one state more
 states-store : (result : List ℕ) (at i count : ℕ) → i < count
@@ -60,17 +54,13 @@ states-again at count result whole i new h n w =
     ap (λ (x : List ℕ). sets x (at + 12 + 12 * (i + 1)) (bytesOfAll (wayStates (count - (i + 1))))) n ∙ states-store result at i count h ∙ w
 
 -- ---- nothing more
-nothing-more : (ws : List ℕ) → length ws ≡ 0 → ws ≡ []
-nothing-more [] e = refl
-nothing-more (w ∷ ws) e = absurd (omega arith)
-
-pub numbers-end : (result : List ℕ) (at : ℕ) (way : List ℕ) → length way ≡ 0 → result ≡ sets result at (bytesOfAll way)
+pub numbers-end : (result : List ℕ) (at : ℕ) (way : List ℕ) → way ≡ [] → result ≡ sets result at (bytesOfAll way)
 unfolding bytesOfAll
-numbers-end result at way e = sym (ap (λ (w : List ℕ). sets result at (bytesOfAll w)) (nothing-more way e))
+numbers-end result at way e = sym (ap (λ (w : List ℕ). sets result at (bytesOfAll w)) e)
 
-pub links-end : (result bytes : List ℕ) (i : ℕ) (way : List ℕ) → length way ≡ 0 → result ≡ sets result (16 * i) (bytesOfAll (wayLinks bytes i way))
+pub links-end : (result bytes : List ℕ) (i : ℕ) (way : List ℕ) → way ≡ [] → result ≡ sets result (16 * i) (bytesOfAll (wayLinks bytes i way))
 unfolding bytesOfAll wayLinks
-links-end result bytes i way e = sym (ap (λ (w : List ℕ). sets result (16 * i) (bytesOfAll (wayLinks bytes i w))) (nothing-more way e))
+links-end result bytes i way e = sym (ap (λ (w : List ℕ). sets result (16 * i) (bytesOfAll (wayLinks bytes i w))) e)
 
 pub states-end : (result : List ℕ) (at n : ℕ) → n ≡ 0 → result ≡ sets result at (bytesOfAll (wayStates n))
 unfolding bytesOfAll wayStates

@@ -27,20 +27,20 @@ loop-holds : tie.Need-loop-holds Inv-loop μ-loop
 unfolding startWords bytesOfAll
 loop-holds c = search needs
 
-mul-i : tie.Need-mul-i Inv-loop μ-loop
-mul-i c = search needs
+mul-entry : tie.Need-mul-entry Inv-loop μ-loop
+mul-entry c = search needs
 
-add-i : tie.Need-add-i Inv-loop μ-loop
-add-i c = search needs
+add-entry : tie.Need-add-entry Inv-loop μ-loop
+add-entry c = search needs
 
-mul-i-2 : tie.Need-mul-i-2 Inv-loop μ-loop
-mul-i-2 c = search needs
+mul-entry-2 : tie.Need-mul-entry-2 Inv-loop μ-loop
+mul-entry-2 c = search needs
 
-shared-slice-read-i : tie.Need-shared-slice-read-i Inv-loop μ-loop
-shared-slice-read-i c = search needs
+shared-slice-read-entry : tie.Need-shared-slice-read-entry Inv-loop μ-loop
+shared-slice-read-entry c = search needs
 
-cast-i : tie.Need-cast-i Inv-loop μ-loop
-cast-i c = omega (arith, inside c)
+cast-entry : tie.Need-cast-entry Inv-loop μ-loop
+cast-entry c = omega (arith, inside c)
 
 mul-t8 : tie.Need-mul-t8 Inv-loop μ-loop
 mul-t8 c = omega (arith, inside c)
@@ -99,11 +99,11 @@ put-start-links-spec =
     Inv-loop
     μ-loop
     loop-holds
-    mul-i
-    add-i
-    mul-i-2
-    shared-slice-read-i
-    cast-i
+    mul-entry
+    add-entry
+    mul-entry-2
+    shared-slice-read-entry
+    cast-entry
     mul-t8
     add-t9
     mul-t10

@@ -6,7 +6,7 @@ use lib.ListN.{length}
 use denote.Ref.{now}
 use Rattle.list_machine.specs.TrimWords.{markCount, states, stated, keptCount, Writable}
 use Rattle.list_machine.proofs.Marks.{kept-few, new-writable}
-use Rattle.list_machine.proofs.Filing.{short-answer, made-answer}
+use Rattle.list_machine.proofs.AnswerByRoom.{short-answer, made-answer}
 use borrow.Author.Needs.{needs}
 use Rattle.list_machine.proofs.trim.write_list.Statement.{statement}
 use Rattle.list_machine.proofs.trim.write_list.Tie as tie
@@ -62,7 +62,7 @@ returns c =
     let start = c .before .before .before .before .before .before .before .before .before .before .before .before in
     let args = start .args in
     let r = short-answer (now (args .sheet)) (args .t .links) (now (args .part)) (args .entries) (args .listed) (start .pre) (args .taken) (now (args .result)) (c .before .before .before .number .result) (kept-is (c .before .before .before)) (omega arith) in
-    (r .0, part-is (c .before .before .before), r .1)
+    (r .0, (part-is (c .before .before .before), r .1))
 
 cast-put-list : tie.Need-cast-put-list
 cast-put-list c = search needs
@@ -97,7 +97,7 @@ returns-2 c =
     let args = start .args in
     let n = c .before .before .before .before .before .before .before .before .before in
     let r = made-answer (now (args .sheet)) (args .t .links) (now (args .part)) (args .entries) (args .listed) (start .pre) (args .taken) (now (args .result)) (n .number .result) (n .number .last .0) (kept-is n) (part-is n) (omega arith) (c .before .before .put-list .last .1 .1 .1 .1 .1 .1 .0) (c .before .before .put-list .ensures) in
-    (r .0, part-is n, r .1)
+    (r .0, (part-is n, r .1))
 
 pub write-list-spec : {M : Type 1} → statement M
 write-list-spec =

@@ -32,7 +32,7 @@ single-shortest-path-requires c κs =
     let args = root .args in
     let one : slotsFor (machineOf (partsOf (now (args .sheet)))) (args .n) ≡ length (machineOf (partsOf (now (args .sheet))) .finals) = ap (slotsFor (machineOf (partsOf (now (args .sheet))))) (c .before .before .if2 .taken) in
     let few = nodes-is (now (args .sheet)) (λ i. omega (arith, c .before .before .before .before .before .before .shared-slice-known .given i)) (root .pre .0 .0) (args .t) (root .pre .0 .1) (args .finals) (root .pre .0 .2) in
-    (root .pre .0 .0, root .pre .0 .1, omega (arith, root .pre .1 .1, one, few))
+    ((root .pre .0 .0, root .pre .0 .1), omega (arith, root .pre .1 .1, one, few))
 
 same-length-2 : tie.Need-same-length-2
 same-length-2 c = search needs
@@ -45,8 +45,8 @@ returns-2 c =
     let args = c .before .before .before .before .before .before .before .before .before .before .before .before .args in
     let m = machineOf (partsOf (now (args .sheet))) in
     let one : args .n ≡ 1 = c .before .before .before .before .before .before .before .if2 .taken in
-    let x = c .before .before .before .before .single-shortest-path .ensures .0 in
-    (x .0 ∙ ap (λ (k : ℕ). listedIn (resultFor m k) (length (now (args .result)))) (sym one), x .1 ∙ ap (λ (k : ℕ). listedOver (resultFor m k) (now (args .result))) (sym one))
+    let x = c .before .before .before .before .single-shortest-path .ensures in
+    (x .0 ∙ ap (λ (k : ℕ). listedIn (resultFor m k) (length (now (args .result)))) (sym one), x .1 .0 ∙ ap (λ (k : ℕ). listedOver (resultFor m k) (now (args .result))) (sym one))
 
 list-many-requires : tie.Need-list-many-requires
 list-many-requires c κs = search needs

@@ -162,7 +162,7 @@ returns-2 c =
     let long = length (now (args .result)) in (
       c .before .before .before .before .write-list .ensures .0 ∙ ap (λ (w : Words). listAnswer (w .counts .listed) (keptCount (w .counts .entries) (w .counts .listed) (w .part)) (w .counts .taken) long) whole
           ∙ answers (now (args .sheet)) (λ i. omega (arith, c .before .before .before .before .before .before .before .before .before .before .before .before .before .before .before .before .before .before .before .before .before .before .before .before .before .before .before .shared-slice-known .given i)) (root .pre .0 .0) (args .t) (root .pre .0 .1) (args .finals) (root .pre .0 .2) (args .n) (root .pre .1 .0) (root .pre .1 .1) old part (omega (arith, root .pre .1 .2, c .before .before .before .before .before .before .before .before .before .before .before .before .before .before .before .before .before .before .before .before .before .before .measure .kept .1 .1 .0)) (turned (c .before .before .before .before .before .before .before .before .before .before .before .before .before .before .before .before .before .before)) there long,
-      c .before .before .before .before .write-list .ensures .2 ∙ ap (λ (w : Words). listAfter (now (args .sheet)) (args .t .links) (w .part) (w .counts .entries) (w .counts .listed) (now (args .result))) whole
+      c .before .before .before .before .write-list .ensures .1 .1 ∙ ap (λ (w : Words). listAfter (now (args .sheet)) (args .t .links) (w .part) (w .counts .entries) (w .counts .listed) (now (args .result))) whole
           ∙ leaves (now (args .sheet)) (λ i. omega (arith, c .before .before .before .before .before .before .before .before .before .before .before .before .before .before .before .before .before .before .before .before .before .before .before .before .before .before .before .shared-slice-known .given i)) (root .pre .0 .0) (args .t) (root .pre .0 .1) (args .finals) (root .pre .0 .2) (args .n) (root .pre .1 .0) (root .pre .1 .1) old part (omega (arith, root .pre .1 .2, c .before .before .before .before .before .before .before .before .before .before .before .before .before .before .before .before .before .before .before .before .before .before .measure .kept .1 .1 .0)) (turned (c .before .before .before .before .before .before .before .before .before .before .before .before .before .before .before .before .before .before)) there (now (args .result)),
     )
 

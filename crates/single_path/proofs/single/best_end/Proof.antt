@@ -13,7 +13,7 @@ use Rattle.single_path.proofs.single.best_end.Statement.{statement}
 use Rattle.single_path.proofs.single.best_end.Tie as tie
 
 abbrev Inv-loop : tie.InvT-loop
-Inv-loop sheet links nodes work best₀ least₀ v₀ best least v = (v ≤ nodes) × (best ≡ bestBelow sheet links work v .node) × (least ≡ bestBelow sheet links work v .least)
+Inv-loop sheet links nodes work best₀ least₀ v₀ best least v = (v ≤ nodes) × (best ≡ bestBelow sheet links work v .end) × (least ≡ bestBelow sheet links work v .least)
 
 abbrev μ-loop : tie.MeasureT-loop
 μ-loop sheet links nodes work best₀ least₀ v₀ best least v = nodes - v
@@ -45,10 +45,10 @@ loop-again c =
     let area = now (args .work) in
     let tested : (b : Bool) → c .before .natural-less .result ≡ b → bestBelow bytes (args .links) area (turn .v + 1) ≡ next bytes (args .links) area (turn .v) b =
     λ b e. best-next bytes (args .links) area (turn .v) b ((λ i. lt (sym (c .before .before .total-at .ensures) i) (sym (turn .inv .2) i)) ∙ sym (c .before .natural-less .ensures .same) ∙ e) in
-    let both : (c .if1 .best ≡ bestBelow bytes (args .links) area (turn .v + 1) .node) × (c .if1 .least ≡ bestBelow bytes (args .links) area (turn .v + 1) .least) =
+    let both : (c .if1 .best ≡ bestBelow bytes (args .links) area (turn .v + 1) .end) × (c .if1 .least ≡ bestBelow bytes (args .links) area (turn .v + 1) .least) =
     ⊎-elim
-    (λ w. (w .1 ∙ sym (ap (λ (b : Best). b .node) (tested true (w .0 .taken))), w .2 ∙ c .before .before .total-at .ensures ∙ sym (ap (λ (b : Best). b .least) (tested true (w .0 .taken)))))
-    (λ w. (w .1 ∙ turn .inv .1 ∙ sym (ap (λ (b : Best). b .node) (tested false (w .0 .left))), w .2 ∙ turn .inv .2 ∙ sym (ap (λ (b : Best). b .least) (tested false (w .0 .left)))))
+    (λ w. (w .1 ∙ sym (ap (λ (b : Best). b .end) (tested true (w .0 .taken))), w .2 ∙ c .before .before .total-at .ensures ∙ sym (ap (λ (b : Best). b .least) (tested true (w .0 .taken)))))
+    (λ w. (w .1 ∙ turn .inv .1 ∙ sym (ap (λ (b : Best). b .end) (tested false (w .0 .left))), w .2 ∙ turn .inv .2 ∙ sym (ap (λ (b : Best). b .least) (tested false (w .0 .left)))))
     (c .if1 .came) in
     (search needs, both .0, both .1)
 
@@ -57,7 +57,7 @@ returns c =
     let args = c .before .before .before .before .before .args in
     let turn = c .before .loop in
     let all : turn .v ≡ args .nodes = omega arith in
-    turn .inv .1 ∙ ap (λ (n : ℕ). bestBelow (now (args .sheet)) (args .links) (now (args .work)) n .node) all
+    turn .inv .1 ∙ ap (λ (n : ℕ). bestBelow (now (args .sheet)) (args .links) (now (args .work)) n .end) all
 
 pub best-end-spec : {M : Type 1} → statement M
 best-end-spec =

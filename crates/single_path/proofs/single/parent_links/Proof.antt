@@ -1,5 +1,5 @@
 use mathlib.Core.Path.{_≡_, sym, ap, _∙_, subst}
-use Prim.Native.Nat.{_+_, _-_, _*_, _≤_, _<_}
+use Prim.Native.Nat.{_+_, _-_, _*_, _≤_}
 use native.Mathlib.Omega.{arith}
 use lib.Ieee.{Float}
 use lib.ListN.{length}
@@ -54,8 +54,8 @@ parent-link-requires : tie.Need-parent-link-requires Inv-loop μ-loop
 parent-link-requires c κs =
     let args = c .before .before .before .before .before .before .before .before .before .args in
     let turn = c .before .before .before .loop in
-    let fits = c .before .before .before .before .before .before .before .before .before .pre .3 (args .first + (turn .i - 1)) (omega arith) in
-    subst (λ (k : Link). 8 * k .nextstate + 3 < length (turn .work)) (sym (c .before .link-at .ensures)) (omega (arith, fits, turn .inv .1))
+    let fits = c .before .before .before .before .before .before .before .before .before .pre .1 .1 (args .first + (turn .i - 1)) (omega arith) in
+    subst (λ (k : Link). 8 * k .nextstate + 8 ≤ length (turn .work)) (sym (c .before .link-at .ensures)) (omega (arith, fits, turn .inv .1))
 
 loop-less : tie.Need-loop-less Inv-loop μ-loop
 loop-less c = search needs

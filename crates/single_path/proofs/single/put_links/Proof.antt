@@ -1,98 +1,87 @@
-use mathlib.Core.Path.{_≡_, ap, _∙_}
-use Prim.Native.Nat.{_+_, _-_, _*_, _≤_}
+use mathlib.Core.Path.{_≡_, sym, ap, _∙_}
+use Prim.Native.Nat.{_+_, _*_, _≤_, _<_}
 use native.Mathlib.Omega.{arith}
+use mathlib.Core.List.{_∷_}
 use lib.ListN.{length}
 use lib.Seq.{sets}
 use denote.Ref.{now}
 use Rattle.sheet.specs.Words.{bytesOfAll}
-use Rattle.slots.specs.Slots.{nothing}
-use Rattle.single_path.specs.SingleWords.{parentWord, wayBack, wayLinks}
+use Rattle.single_path.specs.declared.single.Parent.the-variants.{By}
+use Rattle.single_path.specs.SingleWords.{parentAt, wayBack, wayLinks}
+use Rattle.single_path.proofs.WayTurns.{way-end, way-step}
 use Rattle.single_path.proofs.WriteTurns.{links-again, links-end}
-use Rattle.single_path.proofs.WayTurns.{way-step, way-none}
 use borrow.Author.Needs.{needs}
 use Rattle.single_path.proofs.single.put_links.Statement.{statement}
 use Rattle.single_path.proofs.single.put_links.Tie as tie
 
 abbrev Inv-loop : tie.InvT-loop
-Inv-loop sheet work end count result₀ v₀ i₀ result v i =
-    (v ≤ end) × (length result ≡ length result₀) × (i + length (wayBack work v v) ≡ count)
+Inv-loop sheet work end result₀ v₀ i₀ result v i =
+    (i + v ≤ end) × (length result ≡ length result₀) × (16 * (i + length (wayBack work v v)) ≤ length result)
     × (sets result (16 * i) (bytesOfAll (wayLinks sheet i (wayBack work v v))) ≡ sets result₀ 0 (bytesOfAll (wayLinks sheet 0 (wayBack work end end))))
 
 abbrev μ-loop : tie.MeasureT-loop
-μ-loop sheet work end count result₀ v₀ i₀ result v i = count - i
+μ-loop sheet work end result₀ v₀ i₀ result v i = v
 
--- in the loop the way goes on
-goes : (c : tie.In-loop Inv-loop μ-loop) → parentWord (now (c .before .before .before .before .before .args .work)) (c .before .loop .v) ≡ nothing → ⊥
-goes c =
-    let args = c .before .before .before .before .before .args in
-    let turn = c .before .loop in
-    way-none (now (args .work)) (args .end) (c .before .before .before .before .before .pre .0 .sources) (turn .v) (omega (arith, turn .inv .2, c .loop-test .taken))
+-- the parent that the way goes on by
+on : (c : tie.After-link Inv-loop μ-loop) → parentAt (now (c .before .before .before .before .before .before .before .args .work)) (c .before .before .before .loop .v) ≡ By (c .link .given .0 .0) (c .link .given .0 .1 .0)
+on c = sym (c .before .before .parent-at .ensures) ∙ c .link .given .1
+
+-- the way from the node, and its source below it
+step : (c : tie.After-link Inv-loop μ-loop) → let way = wayBack (now (c .before .before .before .before .before .before .before .args .work)) in let v = c .before .before .before .loop .v in let u = c .link .given .0 .1 .0 in
+    (way v v ≡ c .link .given .0 .0 ∷ way u u) × (u < v)
+step c =
+    let root = c .before .before .before .before .before .before .before in
+    let v = c .before .before .before .loop .v in
+    let below : v ≤ root .args .end = omega (arith, c .before .before .before .loop .inv .0) in
+    (way-step (now (root .args .work)) (root .args .end) (root .pre .0 .falls) v (c .link .given .0 .0) (c .link .given .0 .1 .0) below (on c), root .pre .0 .falls .sources v (c .link .given .0 .0) (c .link .given .0 .1 .0) below (on c))
 
 loop-holds : tie.Need-loop-holds Inv-loop μ-loop
 loop-holds c = search needs
 
-mul-put-link : tie.Need-mul-put-link Inv-loop μ-loop
-mul-put-link c = search needs
+parent-at-requires : tie.Need-parent-at-requires Inv-loop μ-loop
+parent-at-requires c κs = search needs
 
-add-put-link : tie.Need-add-put-link Inv-loop μ-loop
-add-put-link c = search needs
-
-mul-put-link-2 : tie.Need-mul-put-link-2 Inv-loop μ-loop
-mul-put-link-2 c = search needs
-
-shared-slice-read-put-link : tie.Need-shared-slice-read-put-link Inv-loop μ-loop
-shared-slice-read-put-link c = search needs
+enum-known-link : tie.Need-enum-known-link Inv-loop μ-loop
+enum-known-link c = search needs
 
 put-link-requires : tie.Need-put-link-requires Inv-loop μ-loop
 put-link-requires c κs =
-    let turn = c .before .before .before .loop in
-    let r = c .before .before .before .before .before .before .before .pre in
-    (r .0 .among (turn .v) (turn .inv .0) (goes (c .before .before)), omega (arith, r .2, turn .inv .1, turn .inv .2, c .before .before .loop-test .taken))
-
-mul-v : tie.Need-mul-v Inv-loop μ-loop
-mul-v c = search needs
-
-add-v : tie.Need-add-v Inv-loop μ-loop
-add-v c = search needs
-
-mul-v-2 : tie.Need-mul-v-2 Inv-loop μ-loop
-mul-v-2 c = search needs
-
-shared-slice-read-v : tie.Need-shared-slice-read-v Inv-loop μ-loop
-shared-slice-read-v c = search needs
-
-cast-v : tie.Need-cast-v Inv-loop μ-loop
-cast-v c = omega (arith, c .shared-slice-known4 .given (8 * c .before .before .before .before .before .before .before .loop .v + 3))
+    let root = c .before .before .before .before .before .before .before .before .before in
+    let turn = c .before .before .before .before .before .loop in
+    let s = step (c .before .before) in
+    (root .pre .0 .among (turn .v) (c .before .before .link .given .0 .0) (c .before .before .link .given .0 .1 .0) (omega (arith, turn .inv .0)) (on (c .before .before)), omega (arith, turn .inv .2, ap length (s .0)))
 
 add-i : tie.Need-add-i Inv-loop μ-loop
-add-i c = search needs
+add-i c = omega (arith, step (c .before .before .before .before .before) .1, c .before .before .before .before .before .before .before .before .loop .inv .0)
 
 loop-less : tie.Need-loop-less Inv-loop μ-loop
-loop-less c = search needs
+loop-less c = step (c .before .before .before .before .before) .1
 
 loop-again : tie.Need-loop-again Inv-loop μ-loop
 loop-again c =
-    let args = c .before .before .before .before .before .before .before .before .before .before .before .args in
-    let turn = c .before .before .before .before .before .before .before .loop in
-    let area = now (args .work) in
-    let r = c .before .before .before .before .before .before .before .before .before .before .before .pre .0 in
-    let on = way-step area (args .end) (r .sources) (turn .v) (turn .inv .0) (goes (c .before .before .before .before .before .before)) in (
-      omega (arith, r .sources (turn .v) (turn .inv .0) (goes (c .before .before .before .before .before .before)), turn .inv .0),
-      c .before .before .before .put-link .kept .1 .1 .1 .0 ∙ turn .inv .1,
-      omega (arith, ap length on, turn .inv .2),
-      links-again (now (args .sheet)) (turn .result) _ (parentWord area (turn .v)) (turn .i) _ _ _ on (c .before .before .before .put-link .ensures) (turn .inv .3),
+    let args = c .before .before .before .before .before .before .before .before .before .before .before .before .args in
+    let turn = c .before .before .before .before .before .before .before .before .loop in
+    let s = step (c .before .before .before .before .before) in
+    let call = c .before .before .put-link in
+    let size = call .kept .1 .1 .1 .0 in (
+      omega (arith, s .1, turn .inv .0),
+      size ∙ turn .inv .1,
+      omega (arith, size, ap length (s .0), turn .inv .2),
+      links-again (now (args .sheet)) (turn .result) _ (c .before .before .before .before .before .link .given .0 .0) (turn .i) _ _ _ (s .0) (call .ensures) (turn .inv .3),
     )
+
+enum-told : tie.Need-enum-told Inv-loop μ-loop
+enum-told c = search needs
 
 same-length : tie.Need-same-length Inv-loop μ-loop
 same-length c = search needs
 
 returns : tie.Need-returns Inv-loop μ-loop
 returns c =
-    let args = c .before .before .before .before .before .args in
-    let turn = c .before .loop in
-    let area = now (args .work) in
-    let done : length (wayBack area (turn .v) (turn .v)) ≡ 0 = omega (arith, turn .inv .2, c .loop-test .left) in
-    links-end (turn .result) (now (args .sheet)) (turn .i) (wayBack area (turn .v) (turn .v)) done ∙ turn .inv .3
+    let root = c .before .before .before .before .before .before .before in
+    let turn = c .before .before .before .loop in
+    let none = way-end (now (root .args .work)) (root .args .end) (root .pre .0 .falls) (turn .v) (sym (c .before .before .parent-at .ensures) ∙ c .enum-told .given .1) in
+    links-end (turn .result) (now (root .args .sheet)) (turn .i) _ none ∙ turn .inv .3
 
 pub put-links-spec : {M : Type 1} → statement M
 put-links-spec =
@@ -101,18 +90,12 @@ put-links-spec =
     Inv-loop
     μ-loop
     loop-holds
-    mul-put-link
-    add-put-link
-    mul-put-link-2
-    shared-slice-read-put-link
+    parent-at-requires
+    enum-known-link
     put-link-requires
-    mul-v
-    add-v
-    mul-v-2
-    shared-slice-read-v
-    cast-v
     add-i
     loop-less
     loop-again
+    enum-told
     same-length
     returns)

@@ -1,5 +1,6 @@
 use denote.Ref.{now}
-use Rattle.single_path.specs.SingleWords.{finalAt, wayBack}
+use Rattle.sheet.specs.Records.{finalAt}
+use Rattle.single_path.specs.SingleWords.{wayBack}
 use Rattle.single_path.proofs.WayBytes.{way-stored}
 use borrow.Author.Needs.{needs}
 use Rattle.single_path.proofs.single.put_way.Statement.{statement}
@@ -64,7 +65,7 @@ returns c =
     let args = c .before .before .before .before .before .before .before .before .before .before .before .before .before .before .before .before .before .before .before .before .before .args in
     let bytes = now (args .sheet) in
     way-stored bytes (finalAt bytes (args .links) (args .end)) (wayBack (now (args .work)) (args .end) (args .end)) (now (args .result)) (args .count) (c .before .before .before .before .before .before .before .before .before .before .before .before .before .before .before .before .before .word .result) _ _ _ _
-    (c .before .before .before .before .before .before .before .before .before .before .before .before .before .before .before .before .before .before .before .before .before .pre .2) (c .before .before .before .before .before .before .before .before .before .before .before .before .before .before .before .before .before .word .ensures) (c .before .before .before .before .before .before .before .before .before .before .before .before .before .before .before .put-links .ensures) (c .before .before .before .before .before .before .before .before .before .before .before .put-states .ensures) (c .before .before .before .before .before .before .put-words .ensures) (c .before .before .put-numbers .ensures)
+    (c .before .before .before .before .before .before .before .before .before .before .before .before .before .before .before .before .before .before .before .before .before .pre .1 .0 .0) (c .before .before .before .before .before .before .before .before .before .before .before .before .before .before .before .before .before .word .ensures) (c .before .before .before .before .before .before .before .before .before .before .before .before .before .before .before .put-links .ensures) (c .before .before .before .before .before .before .before .before .before .before .before .put-states .ensures) (c .before .before .before .before .before .before .put-words .ensures) (c .before .before .put-numbers .ensures)
 
 pub put-way-spec : {M : Type 1} → statement M
 put-way-spec =

@@ -1,5 +1,6 @@
 use denote.Ref.{now}
-use Rattle.single_path.specs.SingleWords.{finalAt, wayBack}
+use Rattle.sheet.specs.Records.{finalAt}
+use Rattle.single_path.specs.SingleWords.{wayBack}
 use Rattle.single_path.proofs.WayBytes.{way-short, way-long}
 use borrow.Author.Needs.{needs}
 use Rattle.single_path.proofs.single.single_shortest_path_backtrace.Statement.{statement}
