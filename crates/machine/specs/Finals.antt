@@ -1,4 +1,4 @@
--- Mirrors the code: the final nodes of a sheet's records. A reader need not believe it: laws tie it to the machine's final weights (FinalCount).
+-- Mirrors the code: the final nodes of a sheet's records. A reader need not believe it: laws tie it to the machine's final weights (proofs/FinalCount).
 -- Definitions only.
 use mathlib.Core.Option.{Option}
 use mathlib.Core.List.{List}
