@@ -95,8 +95,10 @@ pub extern "C" fn yeldmur_shortest_path(
     links: &mut u32,
     taken: &mut u32,
 ) -> u32
-    ensures { λ r. ⌜ (r ≡ listNumber (now (sheet .entry)) n (length (now (work .entry))) (length (now (result .entry)))) × ((r, now (states .exit), now (links .exit), now (taken .exit)) ≡ listedTold (listAnswer (now (sheet .entry)) n (length (now (work .entry))) (length (now (result .entry)))) (now (states .entry)) (now (links .entry)) (now (taken .entry))) ⌝ }
-    ensures { λ _. ⌜ (now (work .exit) ≡ workAfter (now (sheet .entry)) n (now (work .entry)) (length (now (result .entry)))) × (now (result .exit) ≡ resultAfter (now (sheet .entry)) n (length (now (work .entry))) (now (result .entry))) ⌝ }
+    ensures { λ r. ⌜ r ≡ listNumber (now (sheet .entry)) n (length (now (work .entry))) (length (now (result .entry))) ⌝ }
+    ensures { λ r. ⌜ (r, now (states .exit), now (links .exit), now (taken .exit)) ≡ listedTold (listAnswer (now (sheet .entry)) n (length (now (work .entry))) (length (now (result .entry)))) (now (states .entry)) (now (links .entry)) (now (taken .entry)) ⌝ }
+    ensures { λ _. ⌜ now (work .exit) ≡ workAfter (now (sheet .entry)) n (now (work .entry)) (length (now (result .entry))) ⌝ }
+    ensures { λ _. ⌜ now (result .exit) ≡ resultAfter (now (sheet .entry)) n (length (now (work .entry))) (now (result .entry)) ⌝ }
     ensures { λ r. ⌜ (r ≡ 0 → Keeps (machineFor (now (sheet .entry))) n (now (states .exit)) (now (links .exit)) (now (taken .exit)) (now (result .exit))) ⌝ }
 {
     match shortest_path::shortest_path(sheet, n, work, result) {

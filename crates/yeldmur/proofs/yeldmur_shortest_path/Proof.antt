@@ -31,7 +31,8 @@ returns c =
     let r = resultOf (now (a .sheet)) (a .n) in
     let e = c .before .before .before .before .before .before .before .shortest-path .ensures in
     let q = c .before .nodes .given .1 in
-    (told (λ l. listedTold l (now (a .states)) (now (a .links)) (now (a .taken))) (λ x. x .0) k q (e .0) (listed-number k r (now (a .states)) (now (a .links)) (now (a .taken))), ((e .1 .0, e .1 .1 .0), λ z. subst (λ l. Promised (now (a .sheet)) (a .n) l (c .before .before .before .before .before .before .before .shortest-path .last .1 .1 .1 .0)) q (e .1 .1 .1)))
+    let t = told (λ l. listedTold l (now (a .states)) (now (a .links)) (now (a .taken))) (λ x. x .0) k q (e .0) (listed-number k r (now (a .states)) (now (a .links)) (now (a .taken))) in
+    (t .0, (t .1, (e .1 .0, (e .1 .1 .0, λ z. subst (λ l. Promised (now (a .sheet)) (a .n) l (c .before .before .before .before .before .before .before .shortest-path .last .1 .1 .1 .0)) q (e .1 .1 .1)))))
 
 same-length-3 : tie.Need-same-length-3
 same-length-3 c = search needs
@@ -46,7 +47,8 @@ returns-2 c =
     let r = resultOf (now (a .sheet)) (a .n) in
     let e = c .before .before .before .before .before .before .before .shortest-path .ensures in
     let q = c .before .k .given .1 in
-    (told (λ l. listedTold l (now (a .states)) (now (a .links)) (now (a .taken))) (λ x. x .0) k q (e .0) (listed-number k r (now (a .states)) (now (a .links)) (now (a .taken))), ((e .1 .0, e .1 .1 .0), λ z. absurd (listed-refused k r (c .before .k .given .0 .0) (sym q ∙ e .0) z)))
+    let t = told (λ l. listedTold l (now (a .states)) (now (a .links)) (now (a .taken))) (λ x. x .0) k q (e .0) (listed-number k r (now (a .states)) (now (a .links)) (now (a .taken))) in
+    (t .0, (t .1, (e .1 .0, (e .1 .1 .0, λ z. absurd (listed-refused k r (c .before .k .given .0 .0) (sym q ∙ e .0) z)))))
 
 pub yeldmur-shortest-path-spec : {M : Type 1} → statement M
 yeldmur-shortest-path-spec =
