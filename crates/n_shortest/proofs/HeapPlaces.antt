@@ -13,7 +13,7 @@ use borrow.Author.Tests.{leb-false, ltb-true, eq-eqb, ne-eqb}
 use Rattle.tropical_weight.specs.Limits.{unit, sumLimit}
 use Rattle.tropical_weight.specs.Tropical.{Tropical, leT, ltT, eqT, Within}
 use Rattle.tropical_weight.proofs.Semiring.{ltT-not}
-use Rattle.tropical_weight.proofs.Exact.{lt-ofT, bits-back}
+use Rattle.tropical_weight.proofs.Exact.{covered, lt-ofT, bits-back}
 use Rattle.sheet.specs.Below.{listBelow}
 use Rattle.sheet.specs.Machine.{bitsOf}
 use Rattle.sheet.proofs.Below.{length-listBelow, getD-listBelow}
@@ -255,9 +255,6 @@ module _ (before : ℕ → ℕ → Bool) (Q : ℕ → Type 0) where
       ∙ ap (λ (m : ℕ). siftDown before m m (take m (set (heapOf part (suc n)) 0 (getD (heapOf part (suc n)) m 0))) 0) (sym (ap (λ (k : ℕ). k - 1) all ∙ one))
 
 -- ---- the order on the grid
-covered : unit ≤ 8
-covered = lit≤ tt
-
 by-tests : (x y : Tropical) (t : Bool) → ltT x y || (not (ltT y x) && t) ≡ ltT x y || (eqT x y && t)
 by-tests x y t = (λ k. ltT-not x y k || (not (ltT-not y x k) && t)) ∙ go (leT x y) (leT y x) ∙ sym (λ k. ltT-not x y k || (eqT x y && t))
   where

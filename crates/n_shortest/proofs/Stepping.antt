@@ -15,7 +15,7 @@ use Rattle.tropical_weight.specs.Limits.{unit, sumLimit}
 use Rattle.tropical_weight.specs.Tropical.{Tropical, _⊗_, Within}
 use Rattle.tropical_weight.specs.Grid.{ofT}
 use Rattle.tropical_weight.specs.Single.{Number}
-use Rattle.tropical_weight.proofs.Exact.{times-ofT, bits-back}
+use Rattle.tropical_weight.proofs.Exact.{covered, times-ofT, bits-back}
 use Rattle.sheet.specs.Below.{listBelow}
 use Rattle.sheet.proofs.Below.{listBelow-same}
 use Rattle.machine.specs.Demand.{_∈_}
@@ -36,7 +36,7 @@ use Rattle.n_shortest.proofs.Linking.{links-end, links-step, expand-end
 use Rattle.n_shortest.proofs.Taking.{sized-without, sized-visited, visited, taken-over, taken-expanded, listing, taken-listed, step-is}
 use Rattle.n_shortest.proofs.Putting.{length-put, put-beyond}
 use Rattle.n_shortest.proofs.HeapPlaces.{Ranked, less-precedes, pop-is, pop-length, pop-other, pop-beyond, heap-same, heap-at}
-use Rattle.n_shortest.proofs.Storing.{named, covered, coded, ChainIs, Laid, Fine, Stores, chain-kept, laid-kept, stores-put}
+use Rattle.n_shortest.proofs.Storing.{named, coded, ChainIs, Laid, Fine, Stores, chain-kept, laid-kept, stores-put}
 
 module _ (p : Places) (size : ℕ) (r : Reversed) where
   -- ---- the links of a chain put in

@@ -12,7 +12,7 @@ use Rattle.tropical_weight.specs.Limits.{unit, sumLimit}
 use Rattle.tropical_weight.specs.Tropical.{Tropical, _⊗_, Within}
 use Rattle.tropical_weight.specs.Grid.{ofT}
 use Rattle.tropical_weight.specs.Single.{numberBits}
-use Rattle.tropical_weight.proofs.Exact.{times-ofT, bits-back}
+use Rattle.tropical_weight.proofs.Exact.{covered, times-ofT, bits-back}
 use Rattle.tropical_weight.proofs.Numbers.{number-ofT}
 use Rattle.sheet.specs.Machine.{bitsOf}
 use Rattle.sheet.proofs.Below.{listBelow-same}
@@ -32,9 +32,6 @@ use Rattle.n_shortest.specs.HeapWords.{pushW}
 use Rattle.n_shortest.specs.SearchWords.{Words, putW, repeated, Sized}
 use Rattle.n_shortest.proofs.HeapPlaces.{Named, Ranked, less-precedes, push-is, push-other, heap-same}
 use Rattle.n_shortest.proofs.Putting.{length-stored, stored-other, stored-heap, stored-node, stored-cost, stored-from, stored-input, stored-rank, length-put, put-entries, put-heap, put-listed, put-taken, put-beyond, sized-put}
-
-pub covered : unit ≤ 8
-covered = lit≤ tt
 
 -- ---- entries in code
 abbrev pub coded : S.Entry → Entry

@@ -15,7 +15,7 @@ use Rattle.tropical_weight.specs.Tropical.{Tropical, inf, _⊕_, _⊗_, Within}
 use Rattle.tropical_weight.specs.Grid.{ofT}
 use Rattle.tropical_weight.specs.Single.{lesser}
 use Rattle.tropical_weight.proofs.Semiring.{⊕-comm, zero-⊕, ⊗-zero}
-use Rattle.tropical_weight.proofs.Exact.{times-ofT, lesser-ofT, bits-back}
+use Rattle.tropical_weight.proofs.Exact.{covered, times-ofT, lesser-ofT, bits-back}
 use Rattle.tropical_weight.proofs.Sums.{within-mono, terms-⊗, terms-within, limits}
 use Rattle.sheet.specs.Below.{listBelow}
 use Rattle.sheet.specs.Machine.{Machine, weightOf, bitsOf}
@@ -24,29 +24,13 @@ use Rattle.machine.specs.Climbs.{Climbs, Small}
 use Rattle.machine.specs.Distance.{plusAll, dist, totalAt, total}
 use Rattle.machine.proofs.Lists.{mem-below}
 use Rattle.machine.proofs.Sums.{plusAll-append, plusAll-within}
-use Rattle.machine.proofs.Bounds.{dist-within, dist-limit}
+use Rattle.machine.proofs.Bounds.{dist-limit, total-limit, least-limit}
 use Rattle.search_slots.specs.Slots.{distanceWord}
 use Rattle.sheet.specs.Records.{markAt, finalAt}
 use Rattle.reversed_machine.specs.ReverseWords.{totalWith, leastTotal}
 use Rattle.machine.proofs.SheetFields.{SheetFields}
 
-covered : unit ≤ finest
-covered = lit≤ tt
-
 module _ (m : Machine) (climbs : Climbs m) (small : Small weightLimit m) (few : length (m .finals) ≤ nodeLimit) where
-  -- ---- bounds
-  total-limit : (v : ℕ) → v < length (m .finals) → Within sumLimit (totalAt m v)
-  total-limit v h = go (final m v) refl
-    where
-      go : (o : Option Tropical) → final m v ≡ o → Within sumLimit (dist m v ⊗ finalWeight o)
-      go none e = subst (Within sumLimit) (sym (⊗-zero (dist m v))) tt
-      go (some w) e =
-          terms-within nodeLimit weightLimit limits (v + 1) (omega arith) (dist m v ⊗ w)
-          (terms-⊗ weightLimit v 1 (dist m v) w (dist-within m climbs weightLimit small v) (within-mono weightLimit (1 * weightLimit) w (omega arith) (small .onFinal v w e)))
-
-  least-limit : (n : ℕ) → n ≤ length (m .finals) → Within sumLimit (plusAll (listBelow n (totalAt m)))
-  least-limit n h = plusAll-within sumLimit (listBelow n (totalAt m)) (λ a b. let x = mem-below (totalAt m) n b in subst (Within sumLimit) (sym (x .2)) (total-limit (x .0) (omega (arith, x .1))))
-
   -- ---- one node more
   least-next : (v : ℕ) → plusAll (listBelow (suc v) (totalAt m)) ≡ plusAll (listBelow v (totalAt m)) ⊕ totalAt m v
   unfolding listBelow plusAll
@@ -82,7 +66,7 @@ module _ (m : Machine) (climbs : Climbs m) (small : Small weightLimit m) (few : 
             ap (λ (t : Bool). cond t (ofT unit x) (lesser (ofT unit x) (add binary32 (ofBits binary32 (distanceWord part nodes (v + 1))) (ofBits binary32 (finalAt bytes T v))))) e
             ∙ (λ i. lesser (ofT unit x) (add binary32 ((ap (ofBits binary32) (measured v h) ∙ bits-back unit covered (dist m v)) i) (s .final-value v h (eqb-false (markAt bytes T v) 0 e) i)))
             ∙ ap (lesser (ofT unit x)) (times-ofT unit covered (dist m v) w d-limit w-limit)
-            ∙ lesser-ofT unit covered x (dist m v ⊗ w) (least-limit v (omega (arith, inside))) (subst (Within sumLimit) whole (total-limit v inside))
+            ∙ lesser-ofT unit covered x (dist m v ⊗ w) (least-limit m climbs weightLimit small nodeLimit limits few v (omega (arith, inside))) (subst (Within sumLimit) whole (total-limit m climbs weightLimit small nodeLimit limits few v inside))
             ∙ ap (λ y. ofT unit (x ⊕ y)) (sym whole)
 
     pub least-exact : leastTotal bytes nodes T N part ≡ ofT unit (total m)
