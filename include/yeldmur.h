@@ -7,7 +7,8 @@
  * 64-bit numbers is aligned for them, and no two of a call's areas and numbers overlap. The calls keep
  * nothing, and take no memory but the areas and up to YELDMUR_STACK bytes of stack.
  *
- * Weights are summed in single precision, and every sum is exact. So an answer is the same in every
+ * The proofs are about rounding to nearest; what follows of other modes is tested, not proved. Weights
+ * are summed in single precision, and every sum is exact. So an answer is the same in every
  * rounding mode of fenv.h, but for the sign of a distance of 0 in which weights cancel: it is negative
  * zero where the caller rounds downward. No weight or sum is denormal, so that flushing these to zero
  * changes nothing. The calls leave the floating-point environment as it is, and raise no flag.
