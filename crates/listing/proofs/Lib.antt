@@ -1,5 +1,5 @@
-pub mod Decimals
-pub mod Storing
+pub mod Signs
+pub mod Labels
 pub mod TextBench
 pub mod Turns
 pub mod Walks

@@ -22,7 +22,8 @@ use Rattle.search.proofs.Results.{empty-back}
 use Rattle.search.proofs.Sizes.{rest-same}
 use Rattle.shortest_path.specs.Outcome.{answerOf}
 use Rattle.shortest_path.proofs.Joining.{zero-empty}
-use Rattle.listing.specs.Text.{Puts, labelsOf, lineOf}
+use Rattle.decimals.specs.Stored.{Puts}
+use Rattle.listing.specs.Text.{labelsOf, lineOf}
 use Rattle.listing.specs.Ways.{readingCount, readingNumbers, Readable}
 use Rattle.listing.specs.Held.{Held}
 use Rattle.listing.specs.Printed.{unitsIn, listFor, readingLine, readingLines}

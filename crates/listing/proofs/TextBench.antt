@@ -2,7 +2,8 @@
 use mathlib.Core.Path.{_≡_, refl}
 use mathlib.Core.List.{[], _∷_}
 use lib.IntN.{pos, negsuc}
-use Rattle.listing.specs.Text.{decimal, signed, firstLine, refusedLine, lineOf}
+use Rattle.decimals.specs.Decimal.{decimal}
+use Rattle.listing.specs.Text.{signed, firstLine, refusedLine, lineOf}
 
 -- 0, 10, 4294967295
 numbers : (decimal 0 ≡ 48 ∷ []) × (decimal 10 ≡ 49 ∷ 48 ∷ []) × (decimal 4294967295 ≡ 52 ∷ 50 ∷ 57 ∷ 52 ∷ 57 ∷ 54 ∷ 55 ∷ 50 ∷ 57 ∷ 53 ∷ [])

@@ -1,13 +1,8 @@
 -- The text that the listing program prints. A text is a list of bytes. Definitions only.
-use Prim.Native.Nat.{ℕ, zero, suc, _+_, _*_, _/_}
-use mathlib.Core.Path.{_≡_}
-use mathlib.Core.Bool.{Bool, true, false}
+use Prim.Native.Nat.{ℕ, suc, _*_}
 use mathlib.Core.List.{List, [], _∷_, _++_, map, flatMap}
-use lib.Dec.{ltb}
 use lib.IntN.{ℤ, pos, negsuc}
-use lib.ListN.{length}
-use lib.Seq.{sets}
-use Rattle.io.specs.Digits.{digits}
+use Rattle.decimals.specs.Decimal.{decimal}
 use Rattle.sheet.specs.Words.{word}
 
 -- ---- words
@@ -36,21 +31,6 @@ abbrev pub newline : List ℕ
 newline = 10 ∷ []
 
 -- ---- numbers
--- how many digits n has, by at most so many divisions by ten; the test is whether n is below ten
-unfoldable pub placesBy : ℕ → Bool → ℕ → ℕ
-placesBy zero small n = 1
-placesBy (suc most) true n = 1
-placesBy (suc most) false n = suc (placesBy most (ltb (n / 10) 10) (n / 10))
-
-unfoldable pub places : ℕ → ℕ
-unfolding placesBy
-places n = placesBy n (ltb n 10) n
-
--- the decimal digits of a number, the most significant first: the fewest that hold it, and at least one
-unfoldable pub decimal : ℕ → List ℕ
-unfolding places
-decimal n = digits 10 (places n) n
-
 -- a minus sign where negative, then the digits of the magnitude
 unfoldable pub signed : ℤ → List ℕ
 unfolding decimal
@@ -78,9 +58,3 @@ lineOf rank cost labels = decimal rank ++ space ++ signed cost ++ flatMap labelT
 -- the input labels of links of a sheet, by their numbers
 abbrev pub labelsOf : List ℕ → List ℕ → List ℕ
 labelsOf sheet run = map (λ (l : ℕ). word sheet (16 * l)) run
-
--- ---- in an area
--- `new` is `old` with the text stored from a place on, and the text ends at `end`
-pub record Puts (old : List ℕ) (at : ℕ) (text new : List ℕ) (end : ℕ) : Type 0 where
-  pub stored : new ≡ sets old at text
-  pub ends : end ≡ at + length text

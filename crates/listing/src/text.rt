@@ -2,31 +2,10 @@
 ghost use mathlib.Core.List.{flatMap};
 ghost use Prim.Native.Nat.{ℕ, _+_, _*_, _≤_, _<_};
 ghost use lib.ListN.{length, take, getD};
-ghost use Rattle.listing.specs.Text.{Puts, decimal, signed, firstLine, refusedLine, labelText, labelsOf, lineOf};
-
-// Copies a text to its place.
-pub fn put_text(out: &mut [u8], at: usize, text: &[u8]) -> usize
-    requires { ⌜ at + length (now text) ≤ length (now out) ⌝ }
-    ensures { λ r. ⌜ Puts (now (out .entry)) at (now (text .entry)) (now (out .exit)) r ⌝ }
-{
-    let mut i = 0usize;
-    while i < text.len() {
-        out[at + i] = text[i];
-        i += 1;
-    }
-    at + i
-}
-
-// A number in decimal.
-pub fn put_decimal(out: &mut [u8], at: usize, x: u32) -> usize
-    requires { ⌜ at + 10 ≤ length (now out) ⌝ }
-    ensures { λ r. ⌜ Puts (now (out .entry)) at (decimal x) (now (out .exit)) r ⌝ }
-    ensures { λ r. ⌜ r ≤ at + 10 ⌝ }
-{
-    let mut digits = [0u8; 20];
-    let k = io::decimal(x as u64, &mut digits);
-    put_text(out, at, &digits[..k])
-}
+ghost use Rattle.decimals.specs.Stored.{Puts};
+ghost use Rattle.listing.specs.Text.{signed, firstLine, refusedLine, labelText, labelsOf, lineOf};
+use decimals::write::put_decimal;
+use decimals::write::put_text;
 
 // A cost in decimal, with a minus sign where negative.
 pub fn put_cost(out: &mut [u8], at: usize, cost: i32) -> usize

@@ -22,6 +22,12 @@ pub const CLIMB: u32 = 6;
 // More readings are asked for than the limit.
 pub const COUNT: u32 = 7;
 
+// A text has no rows, has a row that cannot be read, or has a second final row for a node.
+pub const ROWS: u32 = 8;
+
+// A sheet has no rows.
+pub const NO_ROWS: u32 = 9;
+
 // The work area is shorter than needed.
 pub const WORK: u32 = 20;
 

@@ -2,7 +2,7 @@
 -- signed integer is, by the tests of the float against the two ends of the range. Assumes nothing.
 use mathlib.Core.Path.{_≡_, refl, sym, ap, _∙_, subst}
 use mathlib.Core.Bool.{Bool, true, false, _&&_, _||_, true≢false, false≢true}
-use Prim.Native.Nat.{ℕ, _+_, _-_, _*_, _/_, _^_, _≤_, _<_, min}
+use Prim.Native.Nat.{ℕ, suc, _+_, _-_, _*_, _/_, _^_, _≤_, _<_, min}
 use native.Mathlib.Nat.{mul-one, one-mul, mul-assoc, mul-mul-mul-comm, mul-pos, zero-lt-suc, lt-of-lt-of-le, lt-of-le-of-lt, le-trans, le-div-iff-mul-le, div-lt-iff-lt-mul}
 use native.Mathlib.Omega.{arith}
 use borrow.Author.Tests.{ltb-true, ltb-false, leb-true, leb-false, eqb-true, eqb-false, ne-eqb, lt-ltb, le-leb, lt-leb}
@@ -52,6 +52,22 @@ times-units j h k l =
     ∙ round-same binary32 (unlike (negative k) false) (natAbs k * 2 ^ j) (2 ^ j * 1) (natAbs k) 1 (mul-pos (pow-pos j) (zero-lt-suc 0)) (zero-lt-suc 0)
     (mul-assoc (natAbs k) (2 ^ j) 1)
     ∙ signed k
+
+-- and the float of k, times one unit, is k units
+pub of-units : (j : ℕ) → j ≤ finest → (k : ℤ) → natAbs k ≤ sumLimit → mul binary32 (ofInt binary32 k) (ofK j (pos 1)) ≡ ofK j k
+unfolding ofInt ofK
+of-units j h k l =
+    mul-values (negative k) false (natAbs k) 1 1 (2 ^ j) (zero-lt-suc 0) (pow-pos j) (ofInt binary32 k) (ofK j (pos 1)) (whole k l) (ofK-value j h (pos 1) (lit≤ tt))
+    ∙ round-same binary32 (unlike (negative k) false) (natAbs k * 1) (1 * 2 ^ j) (natAbs k) (2 ^ j) (mul-pos (zero-lt-suc 0) (pow-pos j)) (pow-pos j) (simp (mul-one, one-mul))
+    ∙ rounded k
+  where
+    whole : (k : ℤ) → natAbs k ≤ sumLimit → HasValue (ofInt binary32 k) (negative k) (natAbs k) 1
+    whole (pos n) l = round-whole binary32 false n l
+    whole (negsuc n) l = round-whole binary32 true (suc n) l
+
+    rounded : (k : ℤ) → round binary32 (unlike (negative k) false) (natAbs k) (2 ^ j) ≡ ofK j k
+    rounded (pos n) = refl
+    rounded (negsuc n) = refl
 
 -- which an i32 holds
 back : (k : ℤ) → natAbs k ≤ sumLimit → toSigned 31 (ofInt binary32 k) ≡ k

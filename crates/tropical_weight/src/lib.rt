@@ -6,10 +6,10 @@ ghost use mathlib.Core.Path.{_≡_};
 ghost use Prim.Native.Nat.{ℕ, _≤_, _<_};
 ghost use lib.IntN.{natAbs};
 ghost use lib.Ieee.{binary32, add, lt, ofBits, toBits};
-ghost use Rattle.tropical_weight.specs.Limits.{unit, finest, weightLimit};
+ghost use Rattle.tropical_weight.specs.Limits.{unit, finest, weightLimit, sumLimit};
 ghost use Rattle.tropical_weight.specs.Tropical as Tropical;
 ghost use Rattle.tropical_weight.specs.Tropical.{_⊕_, _⊗_, ltT};
-ghost use Rattle.tropical_weight.specs.Grid.{ofT, gridBits, gridShift, significand};
+ghost use Rattle.tropical_weight.specs.Grid.{ofK, ofT, gridBits, gridShift, significand};
 ghost use Rattle.tropical_weight.specs.Single.{lesser, Number, numberBits, Computes, Decides, Approx, Costs};
 
 // The unit is 1 / 2 ^ UNIT: weights are whole numbers of 64ths.
@@ -17,6 +17,9 @@ pub const UNIT: u32 = 6;
 
 // How many units are 1.
 const UNITS: f32 = (1u32 << UNIT) as f32;
+
+// One unit.
+const UNIT_WEIGHT: f32 = 1.0 / UNITS;
 
 // The most units of a weight, either way.
 pub const WEIGHT_LIMIT: u32 = 4096;
@@ -172,6 +175,14 @@ pub fn cost(weight: f32) -> i32
         return 0;
     }
     -2147483648
+}
+
+// The weight of so many units: exact up to 2^24 of them.
+pub fn from_units(units: i32) -> f32
+    requires { ⌜ natAbs units ≤ sumLimit ⌝ }
+    ensures { λ r. ⌜ r ≡ ofK unit units ⌝ }
+{
+    (units as f32) * UNIT_WEIGHT
 }
 
 // The magnitude of a cost, which a u32 holds at every i32.

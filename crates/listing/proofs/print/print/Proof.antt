@@ -7,7 +7,7 @@ use lib.Seq.{length-take-le}
 use denote.Ref.{now}
 use Rattle.io.specs.Counts.{Counts}
 use Rattle.listing.specs.Text.{refusedLine}
-use Rattle.listing.proofs.Storing.{puts-same}
+use Rattle.decimals.proofs.Storing.{puts-same}
 use Rattle.listing.proofs.Printing.{behind, printed-none, printed-some, printed-long, printed-large}
 use borrow.Author.Needs.{needs}
 use Rattle.listing.proofs.print.print.Statement.{statement}

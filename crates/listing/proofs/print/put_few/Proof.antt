@@ -7,7 +7,7 @@ use denote.Ref.{now}
 use Rattle.sheet.specs.Machine.{machine}
 use Rattle.listing.specs.Text.{firstLine}
 use Rattle.listing.specs.Printed.{listFor, readingLines}
-use Rattle.listing.proofs.Storing.{puts-same}
+use Rattle.decimals.proofs.Storing.{puts-same}
 use Rattle.listing.proofs.Printing.{resultBytesMost, in-sheet-trailer, sizes, made-input, refused-input, held, printed-refused, printed-listed}
 use borrow.Author.Needs.{needs}
 use Rattle.listing.proofs.print.put_few.Statement.{statement}

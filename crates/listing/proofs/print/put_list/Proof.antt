@@ -4,7 +4,7 @@ use native.Mathlib.Omega.{arith}
 use denote.Ref.{now}
 use Rattle.listing.specs.Text.{firstLine}
 use Rattle.listing.specs.Printed.{listMost}
-use Rattle.listing.proofs.Storing.{puts-same, puts-then}
+use Rattle.decimals.proofs.Storing.{puts-same, puts-then}
 use Rattle.listing.proofs.Listings.{held-readable, held-count, held-few}
 use borrow.Author.Needs.{needs}
 use Rattle.listing.proofs.print.put_list.Statement.{statement}

@@ -9,7 +9,7 @@ use lib.ListN.{length, take}
 use lib.Seq.{getD-take, length-take-le}
 use denote.Ref.{now}
 use Rattle.tropical_weight.specs.Tropical.{fin}
-use Rattle.listing.proofs.Storing.{puts-same}
+use Rattle.decimals.proofs.Storing.{puts-same}
 use Rattle.listing.proofs.RunCosts.{link-in-sheet}
 use Rattle.listing.proofs.Listings.{held-readable, held-count, held-few, front-reading, line-is}
 use borrow.Author.Needs.{needs}

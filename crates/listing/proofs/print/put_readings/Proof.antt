@@ -2,13 +2,13 @@ use mathlib.Core.Path.{refl, _∙_}
 use native.Mathlib.Omega.{arith}
 use Prim.Native.Nat.{_<_}
 use denote.Ref.{now}
-use Rattle.listing.proofs.Storing.{puts-same, puts-then}
+use Rattle.decimals.proofs.Storing.{puts-same, puts-then}
 use Rattle.listing.proofs.Listings.{lines-none, lines-next, lines-all}
 use Prim.Native.Nat.{_+_, _-_, _*_, _≤_}
 use mathlib.Core.Path.{_≡_}
 use lib.ListN.{length, take}
 use Rattle.sheet.specs.Machine.{machine}
-use Rattle.listing.specs.Text.{Puts}
+use Rattle.decimals.specs.Stored.{Puts}
 use Rattle.listing.specs.Printed.{lineMost, listFor, readingLines}
 use borrow.Author.Needs.{needs}
 use Rattle.listing.proofs.print.put_readings.Statement.{statement}

@@ -7,9 +7,10 @@ use lib.IntN.{ℤ, pos, natAbs}
 use lib.Signed.{ltZ}
 use mir.Syntax.{w32}
 use mir.ValLaws.{toZ-ofZ}
-use Rattle.listing.specs.Text.{minus, decimal, signed}
-use Rattle.listing.proofs.Decimals.{signed-minus, signed-plain}
-use Rattle.listing.proofs.Storing.{puts-same, puts-then}
+use Rattle.decimals.specs.Decimal.{decimal}
+use Rattle.listing.specs.Text.{minus, signed}
+use Rattle.listing.proofs.Signs.{signed-minus, signed-plain}
+use Rattle.decimals.proofs.Storing.{puts-same, puts-then}
 use borrow.Author.Needs.{needs}
 use Rattle.listing.proofs.text.put_cost.Statement.{statement}
 use Rattle.listing.proofs.text.put_cost.Tie as tie

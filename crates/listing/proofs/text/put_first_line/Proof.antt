@@ -1,6 +1,6 @@
 use native.Mathlib.Omega.{arith}
 use Rattle.listing.specs.Text.{firstLine}
-use Rattle.listing.proofs.Storing.{puts-then}
+use Rattle.decimals.proofs.Storing.{puts-then}
 use borrow.Author.Needs.{needs}
 use Rattle.listing.proofs.text.put_first_line.Statement.{statement}
 use Rattle.listing.proofs.text.put_first_line.Tie as tie

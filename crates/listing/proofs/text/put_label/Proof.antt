@@ -1,6 +1,6 @@
 use native.Mathlib.Omega.{arith}
 use Rattle.listing.specs.Text.{labelText}
-use Rattle.listing.proofs.Storing.{puts-then}
+use Rattle.decimals.proofs.Storing.{puts-then}
 use borrow.Author.Needs.{needs}
 use Rattle.listing.proofs.text.put_label.Statement.{statement}
 use Rattle.listing.proofs.text.put_label.Tie as tie

@@ -4,8 +4,9 @@ use denote.Ref.{now}
 use Prim.Native.Nat.{_+_, _-_, _*_, _≤_}
 use native.Mathlib.Omega.{arith}
 use lib.ListN.{length, take}
-use Rattle.listing.specs.Text.{Puts, labelText, labelsOf}
-use Rattle.listing.proofs.Storing.{puts-label}
+use Rattle.decimals.specs.Stored.{Puts}
+use Rattle.listing.specs.Text.{labelText, labelsOf}
+use Rattle.listing.proofs.Labels.{puts-label}
 use borrow.Author.Needs.{needs}
 use Rattle.listing.proofs.text.put_labels.Statement.{statement}
 use Rattle.listing.proofs.text.put_labels.Tie as tie

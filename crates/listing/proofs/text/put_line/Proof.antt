@@ -6,7 +6,7 @@ use lib.ListN.{take}
 use mir.Syntax.{w32}
 use mir.ValLaws.{toZ-ofZ}
 use Rattle.listing.specs.Text.{labelsOf, lineOf}
-use Rattle.listing.proofs.Storing.{puts-same, puts-then}
+use Rattle.decimals.proofs.Storing.{puts-same, puts-then}
 use borrow.Author.Needs.{needs}
 use Rattle.listing.proofs.text.put_line.Statement.{statement}
 use Rattle.listing.proofs.text.put_line.Tie as tie

@@ -1,6 +1,6 @@
 use native.Mathlib.Omega.{arith}
 use Rattle.listing.specs.Text.{refusedLine}
-use Rattle.listing.proofs.Storing.{puts-then}
+use Rattle.decimals.proofs.Storing.{puts-then}
 use borrow.Author.Needs.{needs}
 use Rattle.listing.proofs.text.put_refused.Statement.{statement}
 use Rattle.listing.proofs.text.put_refused.Tie as tie

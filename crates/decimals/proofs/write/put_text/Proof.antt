@@ -6,9 +6,9 @@ use native.Mathlib.Omega.{arith}
 use lib.ListN.{length, take, getD, set, length-set}
 use lib.Seq.{sets, take-length}
 use borrow.Author.Needs.{needs}
-use Rattle.listing.proofs.Storing.{sets-more}
-use Rattle.listing.proofs.text.put_text.Statement.{statement}
-use Rattle.listing.proofs.text.put_text.Tie as tie
+use Rattle.decimals.proofs.Storing.{sets-more}
+use Rattle.decimals.proofs.write.put_text.Statement.{statement}
+use Rattle.decimals.proofs.write.put_text.Tie as tie
 
 abbrev Inv-loop : tie.InvT-loop
 Inv-loop out₀ at text i₀ out i = (i ≤ length text) × (length out ≡ length out₀) × (out ≡ sets out₀ at (take i text))

@@ -1,17 +1,15 @@
 -- The digits of a number: `decimal` has the fewest that hold it, from 1 to 10 for 32 bits. Assumes nothing.
 use mathlib.Core.Path.{_≡_, refl, sym, ap, _∙_, subst}
-use mathlib.Core.Bool.{Bool, true, false, true≢false}
-use mathlib.Core.List.{[], _∷_, _++_}
+use mathlib.Core.Bool.{Bool, true, false}
+use mathlib.Core.List.{[], _∷_}
 use Prim.Native.Nat.{ℕ, zero, suc, _+_, _-_, _*_, _/_, _%_, _^_, _≤_, _<_}
 use native.Mathlib.Nat.{pow-succ', pow-le-pow-right, lt-of-not-le}
 use native.Mathlib.Omega.{arith}
 use borrow.Author.Tests.{ltb-true, ltb-false}
 use lib.Dec.{ltb}
-use lib.IntN.{ℤ, pos, negsuc, natAbs}
 use lib.ListN.{length, length-append}
-use lib.Signed.{ltZ}
 use Rattle.io.specs.Digits.{digits, glyph, Fewest}
-use Rattle.listing.specs.Text.{minus, placesBy, places, decimal, signed}
+use Rattle.decimals.specs.Decimal.{placesBy, places, decimal}
 
 length-digits : (b k n : ℕ) → length (digits b k n) ≡ k
 length-digits b zero n = refl
@@ -72,14 +70,3 @@ length-decimal n h =
     let f : Fewest 10 1 n (places n) = places-fewest n in
     let m : places n < 11 = at-most n 10 (places n) (omega arith) (omega arith) f in
     (omega (arith, f .0), omega arith)
-
--- ---- with a sign
-pub signed-minus : (z : ℤ) → ltZ z (pos 0) ≡ true → signed z ≡ minus ++ decimal (natAbs z)
-unfolding signed
-signed-minus (pos n) e = absurd (omega (arith, ltb-true n 0 e))
-signed-minus (negsuc n) e = refl
-
-pub signed-plain : (z : ℤ) → ltZ z (pos 0) ≡ false → signed z ≡ decimal (natAbs z)
-unfolding signed
-signed-plain (pos n) e = refl
-signed-plain (negsuc n) e = absurd (true≢false e)

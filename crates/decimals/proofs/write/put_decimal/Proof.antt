@@ -1,12 +1,12 @@
 use mathlib.Core.Path.{_≡_, ap, _∙_}
 use native.Mathlib.Omega.{arith}
 use lib.ListN.{length, take}
-use Rattle.listing.specs.Text.{decimal}
-use Rattle.listing.proofs.Decimals.{decimal-is, length-decimal}
-use Rattle.listing.proofs.Storing.{puts-same}
+use Rattle.decimals.specs.Decimal.{decimal}
+use Rattle.decimals.proofs.Decimals.{decimal-is, length-decimal}
+use Rattle.decimals.proofs.Storing.{puts-same}
 use borrow.Author.Needs.{needs}
-use Rattle.listing.proofs.text.put_decimal.Statement.{statement}
-use Rattle.listing.proofs.text.put_decimal.Tie as tie
+use Rattle.decimals.proofs.write.put_decimal.Statement.{statement}
+use Rattle.decimals.proofs.write.put_decimal.Tie as tie
 
 decimal-requires : tie.Need-decimal-requires
 decimal-requires c κs = search needs

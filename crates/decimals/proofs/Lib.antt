@@ -1,0 +1,4 @@
+pub mod Decimals
+pub mod Storing
+pub mod Holding
+pub mod ReadBack
