@@ -19,3 +19,4 @@ pub mod Texts
 pub mod RowsBack
 pub mod HasRows
 pub mod Lengths
+pub mod Accepted

@@ -199,7 +199,7 @@ module _ (p : Parts) (four : length (p .links) ≡ 4 * linkCount p) (three : len
     parts-read = ap (λ (o : Option (List Row)). partsOfRows (orNoRows o)) rows-read ∙ parts-again p four three links-below nodes-below nodes-fit nexts-fit weights-fit start-in has
 
 -- ---- of bytes
-accepted : (l : Bool) (p : Parts) → verdict l p ≡ 0 → (nodesFit p ≡ true) × (nextsFit p ≡ true) × (weightsFit p ≡ true)
+pub accepted : (l : Bool) (p : Parts) → verdict l p ≡ 0 → (nodesFit p ≡ true) × (nextsFit p ≡ true) × (weightsFit p ≡ true)
 unfolding verdict
 accepted l p e = go (l && nodesFit p) refl (startFits (nodeCount p) (p .start)) (nextsFit p) (weightsFit p) e
   where
