@@ -1,0 +1,95 @@
+"""Texts and sheets for the converter, drawn and damaged: what the stored cases of row_cases.py and the comparing run in oracle/ share. Every
+draw takes its random numbers from `r`. It shares nothing with the library.
+"""
+import struct
+from fractions import Fraction
+from rows import weight_text
+from sheets import NONE, f, sheet, with_word
+
+# fields that are neither a number nor a weight
+BAD = [b'+1', b'1.', b'.5', b'-.5', b'1e3', b'0.1234567', b'1.0000000', b'-', b'--1', b'-+1', b'1-', b'1.2.3', b'1..2', b'0x10', b'x', b'1x', b'1,5', b'1_0',
+       b'Infinity', b'inf', b'nan', b'\r', b'1\r', b'\0', b'1\0', b'\x80', b'1\xff', b'\xc2\xa0', b'\xd9\xa1', b'\x0b', b'\x0c1', b'\x1f', b'/', b':', b'0-1']
+# fields that are no number, most of them weights
+NO_NODE = [b'-1', b'-0', b'1.5', b'1.0', b'4294967296', b'9999999999', b'10000000000', b'18446744073709551616', b'18446744073709551617', b'9' * 40]
+# weights off the grid, and on it
+OFF = [b'64.000001', b'-64.000001', b'64.015625', b'-64.015625', b'65', b'-65', b'0.3', b'0.000001', b'-0.000001', b'0.015624', b'0.015626', b'0.007812',
+       b'0.500001', b'0.1', b'100', b'4294967296', b'33554432', b'281474976710656', b'67108864.015625', b'18446744073709551616',
+       b'18446744073709551617.5', b'9' * 40, b'-' + b'7' * 40 + b'.25']
+ON = [b'64', b'-64', b'64.0', b'64.000000', b'-64.00000', b'63.984375', b'-63.984375', b'0.015625', b'-0.015625', b'0', b'-0', b'-0.0', b'0.000000',
+      b'-0.000000', b'00', b'007', b'00.250', b'-000.5', b'0' * 40 + b'1.25', b'1.5', b'1.50', b'1.500000', b'0.75', b'10', b'9', b'0.984375', b'2.140625']
+# nodes without a sheet, and nodes far up
+FAR = [b'4294967295', b'4294967295', b'4294967294', b'400000', b'70000', b'65536']
+BYTES = b' \t\n0159-.+e\r\0\x80\xff'
+
+def units(r): return r.choice([0, 0, 64, 32, -64, 1, -1, 4096, -4096, 4095, r.randint(-4096, 4096), r.randint(-640, 640)])
+
+def label(r): return r.choice([0, 1, 2, 7, r.randint(0, 99), r.randint(0, NONE), NONE])
+
+def spelled(r, k):
+    """one of the spellings of k sixty-fourths"""
+    text = weight_text(Fraction(abs(k), 64))
+    if r.random() < .2:
+        point, places = '.' not in text, len(text.partition('.')[2])
+        text += '.' * point + '0' * r.randint(int(point), 6 - places)
+    if r.random() < .1: text = '0' * r.randint(1, 30) + text
+    return '-' * (k < 0 or k == 0 and r.random() < .2) + text
+
+def blanks(r, least): return r.choice(['\t', ' ', '\t', ' ', '  ', ' \t', '\t\t ']) if least or r.random() < .1 else ''
+
+def joined(r, parts, plain):
+    if plain: return '\t'.join(parts) + '\n'
+    return blanks(r, 0) + ''.join(p + blanks(r, 1) for p in parts[:-1]) + parts[-1] + blanks(r, 0) + '\n'
+
+def digits(r, n, plain): return '0' * (0 if plain or r.random() < .95 else r.randint(1, 20)) + str(n)
+
+def drawn_text(r, nodes=9, links=14, plain=False):
+    """a text that can be read: rows in any order, at most one final row a node; plain: with one tab between and in shortest forms"""
+    n = r.randint(1, nodes)
+    rows = [[digits(r, x, plain) for x in (r.randrange(n), r.randrange(n), label(r), label(r))] for _ in range(r.randint(0, links))]
+    rows += [[digits(r, v, plain)] for v in r.sample(range(n), r.randint(0 if rows else 1, min(n, 5)))]
+    if r.random() < .8: r.shuffle(rows)
+    for row in rows:
+        k = units(r)
+        if plain: row += [weight_text(Fraction(k, 64))] if k else []
+        elif k or r.random() < .4: row.append(spelled(r, k))
+    return ''.join(joined(r, row, plain) for row in rows).encode()
+
+def with_field(r, text, news):
+    """another field somewhere"""
+    rows = [row.split(b'\t') for row in text.replace(b' ', b'\t').split(b'\n')]
+    row = r.choice(rows)
+    row[r.randrange(len(row))] = r.choice(news)
+    return b'\n'.join(b'\t'.join(row) for row in rows)
+
+def damaged_text(r, text):
+    """a text with something changed, most often for the worse"""
+    at, rows = r.randrange(len(text)), text.split(b'\n')[:-1]
+    row, byte = r.choice(rows), bytes([r.choice(BYTES) if r.random() < .7 else r.randrange(256)])
+    kind = r.randrange(18)
+    if kind < 6: return with_field(r, text, (BAD, NO_NODE, OFF, OFF, FAR, ON)[kind])
+    if kind < 12: return (text[:-1], text[:at], text[:at] + text[at + 1:], text[:at] + byte + text[at:], text[:at] + byte + text[at + 1:], b'')[kind - 6]
+    if kind < 14: return (text + b'\n', text.replace(b'\n', b'\r\n'))[kind - 12]
+    more = r.choice([row, (row.split() or [b'0'])[0], row + b' 1', row + b'\t0\t0', b' \t', b''])
+    rows.insert(r.randint(0, len(rows)), more)
+    return b'\n'.join(rows) + b'\n'
+
+def drawn_sheet(r, nodes=9, links=14):
+    """a sheet that can be read; some have no rows"""
+    n = r.randint(0 if r.random() < .1 else 1, nodes)
+    ways = sorted(r.randrange(n) for _ in range(r.randint(0, links))) if n else []
+    ends = [r.random() < .3 for _ in range(n)]
+    if n and r.random() < .7: ends[n - 1] = True
+    own = [v for v in range(n) if ends[v] or v in ways]
+    start = NONE if not n or r.random() < .1 else r.choice(own) if own and r.random() < .9 else r.randrange(n)
+    return sheet([(label(r), label(r), f(units(r) / 64), r.randrange(n)) for _ in ways],
+                 [(ways.count(v), int(ends[v]), f(units(r) / 64) if ends[v] else 0) for v in range(n)], start)
+
+def damaged_sheet(r, b):
+    """a sheet with one or two words changed, or its length"""
+    if r.random() < .1: return r.choice([b[:-1], b[1:], b + b'\0', b'\0' + b, b[:r.randrange(len(b))], b''])
+    for _ in range(r.randint(1, 2)):
+        i = r.randrange(len(b) // 4)
+        w = struct.unpack_from('<I', b, 4 * i)[0]
+        news = [0, 1, 2, w + 1 & NONE, w - 1 & NONE, w ^ 0x80000000, 0x80000000, 0x7f800000, 0x7fc00000, f(64.015625), f(1 / 128), NONE, r.randrange(2 ** 32)]
+        b = with_word(b, i, r.choice(news))
+    return b
