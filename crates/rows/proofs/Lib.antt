@@ -20,3 +20,5 @@ pub mod RowsBack
 pub mod HasRows
 pub mod Lengths
 pub mod Accepted
+pub mod RowFits
+pub mod RowMachines
