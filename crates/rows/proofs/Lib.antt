@@ -12,6 +12,7 @@ pub mod Rowing
 pub mod Steps
 pub mod ReadBench
 pub mod Surveys
+pub mod FinalRows
 pub mod Filled
 pub mod Judged
 pub mod Back

@@ -7,7 +7,7 @@ use Prim.Native.Nat.{ℕ, zero, suc, _+_, _*_, _^_, _≤_, _<_}
 use native.Mathlib.Omega.{arith}
 use lib.Dec.{ltb, eqb}
 use lib.IntN.{ℤ, pos}
-use lib.ListN.{getD}
+use lib.ListN.{getD, drop}
 use borrow.Author.Tests.{ltb-true}
 use Rattle.tropical_weight.specs.Tropical.{fin}
 use Rattle.sheet.proofs.Round.{Below}
@@ -16,6 +16,7 @@ use Rattle.decimals.specs.Decimal.{digitsOf}
 use Rattle.rows.specs.Fields.{andThen, rowsOf, ended, fieldsOf, numberOf, weightOf}
 use Rattle.rows.specs.Rows.{Row, link, final, linkBy, finalBy, rowBy, rowOf, allRows, finalsOnce, readRows, unitsOf}
 use Rattle.rows.specs.Convert.{fieldOf, linkFrom, isFrom, countFrom, finalFields, isLink, linksIn, nodesIn, partsOfRows}
+use Rattle.rows.specs.Places.{finished, rowsLeft}
 use Rattle.rows.proofs.Segments.{segments}
 use Rattle.rows.proofs.Judged.{links-are, nodes-are}
 
@@ -94,6 +95,13 @@ read-fit text rs e = go (ended text) (allRows (rowsOf text)) refl e
         by : (c : Bool) → cond c (some qs) none ≡ some rs → AllFit rs
         by false e = let z : _≡_ {A = ℕ} 0 1 = cc in absurd (omega arith)
         by true e = let z : qs ≡ rs = cc in subst AllFit z (rows-fit (rowsOf text) qs q)
+
+pub left-fit : (text : List ℕ) (at : ℕ) (rs : List Row) → rowsLeft text at ≡ some rs → AllFit rs
+left-fit text at rs e = go (finished (drop at text)) e
+  where
+    go : (b : Bool) → cond b (allRows (rowsOf (drop at text))) none ≡ some rs → AllFit rs
+    go false e = let z : _≡_ {A = ℕ} 0 1 = cc in absurd (omega arith)
+    go true e = rows-fit (rowsOf (drop at text)) rs e
 
 -- ---- words
 abbrev pub Words : List ℕ → Type 0
