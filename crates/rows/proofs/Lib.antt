@@ -23,3 +23,5 @@ pub mod Lengths
 pub mod Accepted
 pub mod RowFits
 pub mod RowMachines
+pub mod Judging
+pub mod Making

@@ -1,0 +1,22 @@
+-- Mirrors the code: what a text's rows come to before any byte is written. Definitions only.
+use mathlib.Core.Bool.{not, cond}
+use mathlib.Core.Option.{Option, none, some}
+use mathlib.Core.List.{List}
+use Prim.Native.Nat.{ℕ}
+use Rattle.rows.specs.Rows.{Row, readRows, weightsOnGrid, highest}
+use Rattle.rows.specs.Convert.{linksIn, fieldsHold}
+use Rattle.rows.specs.declared.survey.Survey.{Survey}
+use Rattle.rows.specs.declared.to_sheet.Judged.{Judged}
+use Rattle.rows.specs.declared.to_sheet.Judged.the-variants.{Rows, Refused}
+
+-- what rows say
+abbrev pub surveyIn : List Row → Survey
+surveyIn rs = record { gridded = weightsOnGrid rs; highest = highest rs; links = linksIn rs }
+
+-- 8, then 1 and 4
+abbrev pub judgedBy : Option (List Row) → Judged
+judgedBy none = Refused 8
+judgedBy (some rs) = cond (not (fieldsHold rs)) (Refused 1) (cond (not (weightsOnGrid rs)) (Refused 4) (Rows (surveyIn rs)))
+
+abbrev pub judged : List ℕ → Judged
+judged text = judgedBy (readRows text)

@@ -1,0 +1,59 @@
+// Rows to a sheet: 8, then 1, 4 and 21.
+ghost use mathlib.Core.Path.{_≡_};
+ghost use Prim.Native.Nat.{_+_, _*_, _^_, _<_};
+ghost use Rattle.rows.specs.Answers.{sheetMeasured};
+ghost use Rattle.rows.specs.Judging.{judged};
+use crate::converted::Converted;
+use crate::finals::finals_once;
+use crate::survey::Survey;
+use crate::survey::Surveyed;
+use crate::survey::survey_of;
+use sheet::refusal;
+use sheet::tr::TRAILER;
+
+// What a text comes to: what its rows say, or the number of the refusal.
+pub enum Judged {
+    Rows(Survey),
+    Refused(u32),
+}
+
+// The tests 8, 1 and 4, each over the whole text, in this order.
+fn judge(text: &[u8]) -> Judged
+    ensures { λ r. ⌜ r ≡ judged (now (text .entry)) ⌝ }
+{
+    let Surveyed::Rows(s) = survey_of(text) else {
+        return Judged::Refused(refusal::ROWS);
+    };
+    if !finals_once(text) {
+        return Judged::Refused(refusal::ROWS);
+    }
+    // N is one more than the highest node, and the nodes' offset 16 bytes a link: fields hold both
+    if s.highest == 0xffff_ffff {
+        return Judged::Refused(refusal::LAYOUT);
+    }
+    if 0x1000_0000 <= s.links {
+        return Judged::Refused(refusal::LAYOUT);
+    }
+    if !s.gridded {
+        return Judged::Refused(refusal::WEIGHT);
+    }
+    Judged::Rows(s)
+}
+
+// The length of a sheet with so many links and this highest node.
+fn length_of(links: usize, highest: u32) -> usize
+    requires { ⌜ links < 2 ^ 28 ⌝ }
+    ensures { λ r. ⌜ r ≡ 16 * links + 12 * (highest + 1) + 20 ⌝ }
+{
+    16 * links + 12 * ((highest as usize) + 1) + TRAILER
+}
+
+// The bytes of the sheet of these rows, or the number of the refusal: 8, then 1 and 4.
+pub fn sheet_bytes(text: &[u8]) -> Converted
+    ensures { λ r. ⌜ r ≡ sheetMeasured (now (text .entry)) ⌝ }
+{
+    match judge(text) {
+        Judged::Refused(k) => Converted::Refused(k),
+        Judged::Rows(s) => Converted::Length(length_of(s.links, s.highest)),
+    }
+}
