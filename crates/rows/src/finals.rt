@@ -41,9 +41,10 @@ fn with_final(flags: &mut [bool; WINDOW], first: u64, least: u64, node: u32) -> 
     let twice = flags[i];
     flags[i] = true;
     if twice {
-        return Seen::Twice;
+        Seen::Twice
+    } else {
+        Seen::Next(least)
     }
-    Seen::Next(least)
 }
 
 // A row more.
