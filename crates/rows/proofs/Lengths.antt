@@ -34,7 +34,7 @@ decimal-most n j l h = omega (arith, length-digits (placesBy n (ltb n 10) n) n, 
 pub number-most : (n : ℕ) → n < 4294967296 → length (decimal n) ≤ 10
 number-most n h = decimal-most n 10 (omega arith) (omega arith)
 
-shortest-most : (k n : ℕ) → length (shortest k n) ≤ k
+pub shortest-most : (k n : ℕ) → length (shortest k n) ≤ k
 unfolding shortest
 shortest-most zero n = omega arith
 shortest-most (suc k) n = go (eqb (n % 10) 0) (shortest-most k (n / 10))
@@ -43,7 +43,7 @@ shortest-most (suc k) n = go (eqb (n % 10) 0) (shortest-most k (n / 10))
     go true h = omega arith
     go false h = omega (arith, length-digits (suc k) n)
 
-magnitude-most : (k : ℕ) → k ≤ weightLimit → length (magnitudeText k) ≤ 9
+pub magnitude-most : (k : ℕ) → k ≤ weightLimit → length (magnitudeText k) ≤ 9
 unfolding magnitudeText
 magnitude-most k h =
     omega (arith, length-append (decimal (k / 64)) (partText (k % 64 * 15625)), decimal-most (k / 64) 2 (omega arith) (omega arith), part (eqb (k % 64 * 15625) 0))

@@ -25,3 +25,8 @@ pub mod RowFits
 pub mod RowMachines
 pub mod Judging
 pub mod Making
+pub mod Fronts
+pub mod Stored
+pub mod Fitting
+pub mod SheetWords
+pub mod Weights
