@@ -1,4 +1,4 @@
--- Mirrors the code: the value of digits, held where it is more than any number of 32 bits. Definitions only.
+-- Mirrors the code: the value of digits, held where it is more than any number of 32 bits. A reader need not believe it: laws tie it to Decimal (proofs/Holding). Definitions only.
 use Prim.Native.Nat.{ℕ, _^_, min}
 use mathlib.Core.Option.{Option, none, some}
 use Rattle.decimals.specs.declared.read.Digits.{Digits}

@@ -1,4 +1,4 @@
--- Text in a byte area. Definitions only.
+-- Mirrors the code: text stored in a byte area. A reader need not believe it: open calls promise their areas by equations. Definitions only.
 use mathlib.Core.Path.{_≡_}
 use mathlib.Core.List.{List}
 use Prim.Native.Nat.{ℕ, _+_}

@@ -1,4 +1,4 @@
--- Mirrors the code: whether no node has two final rows, found in windows of nodes. Definitions only.
+-- Mirrors the code: second final rows, found in windows of nodes. A reader need not believe it: laws tie it to Rows (proofs/FinalRows). Definitions only.
 use Prim.Native.Nat.{ℕ, _+_, _-_, min}
 use mathlib.Core.Bool.{Bool, true, false, cond}
 use mathlib.Core.Option.{Option, none, some}

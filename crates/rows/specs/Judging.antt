@@ -1,4 +1,4 @@
--- Mirrors the code: what a text's rows come to before any byte is written. Definitions only.
+-- Mirrors the code: what a text comes to before any byte is written. A reader need not believe it: laws tie it to Convert (proofs/Judging). Definitions only.
 use mathlib.Core.Bool.{not, cond}
 use mathlib.Core.Option.{Option, none, some}
 use mathlib.Core.List.{List}

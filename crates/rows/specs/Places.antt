@@ -1,4 +1,4 @@
--- Mirrors the code: rows and fields at places of a text. Definitions only.
+-- Mirrors the code: rows and fields at places of a text. A reader need not believe it: laws tie it to Rows (proofs/Places). Definitions only.
 use Prim.Native.Nat.{ℕ, suc, _+_, _-_, _≤_, _<_}
 use mathlib.Core.Path.{_≡_}
 use mathlib.Core.Bool.{Bool, true, false, cond}

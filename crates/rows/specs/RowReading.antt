@@ -1,4 +1,4 @@
--- Mirrors the code: what the code's row reader answers: by the fields that are left, and by the definitions of rows. Definitions only.
+-- Mirrors the code: what the reader of a row answers. A reader need not believe it: laws tie it to Rows (proofs/Rowing). Definitions only.
 use Prim.Native.Nat.{ℕ, _+_}
 use mathlib.Core.Bool.{Bool, true, false, cond}
 use mathlib.Core.Option.{Option, none, some}

@@ -1,4 +1,4 @@
--- Serves the proofs: the rows of a sheet, as rows: what its text says. Definitions only.
+-- Serves the proofs: the rows of a sheet, as rows. A reader need not believe it: the text of the sheet is read as these (proofs/RowsBack). Definitions only.
 use Prim.Native.Nat.{ℕ, suc, _+_, _*_}
 use mathlib.Core.Bool.{cond}
 use mathlib.Core.List.{List, [], _∷_, _++_, flatMap}

@@ -1,4 +1,4 @@
--- Mirrors the code: runs of bytes at the front of a text: what the code counts. Definitions only.
+-- Mirrors the code: runs of bytes at the front of a text. A reader need not believe it: laws tie it to Fields (proofs/Lexing). Definitions only.
 use Prim.Native.Nat.{ℕ, suc, _+_}
 use mathlib.Core.Bool.{Bool, not, _&&_, cond}
 use mathlib.Core.List.{List, [], _∷_}

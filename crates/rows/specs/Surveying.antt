@@ -1,4 +1,4 @@
--- Mirrors the code: what the survey of rows answers: a fold over them. Definitions only.
+-- Mirrors the code: what the survey of rows answers, a fold over them. A reader need not believe it: laws tie it to Rows (proofs/Surveys). Definitions only.
 use Prim.Native.Nat.{ℕ, _+_, max}
 use mathlib.Core.Bool.{Bool, true, false, _&&_, cond}
 use mathlib.Core.Option.{Option, none, some}
