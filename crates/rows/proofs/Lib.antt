@@ -30,3 +30,4 @@ pub mod Stored
 pub mod Fitting
 pub mod SheetWords
 pub mod Weights
+pub mod Measuring
