@@ -31,3 +31,4 @@ pub mod Fitting
 pub mod SheetWords
 pub mod Weights
 pub mod Measuring
+pub mod Areas
