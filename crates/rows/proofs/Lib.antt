@@ -32,3 +32,5 @@ pub mod SheetWords
 pub mod Weights
 pub mod Measuring
 pub mod Areas
+pub mod Nodes
+pub mod Passing
