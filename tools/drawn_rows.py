@@ -23,7 +23,7 @@ BYTES = b' \t\n0159-.+e\r\0\x80\xff'
 
 def units(r): return r.choice([0, 0, 64, 32, -64, 1, -1, 4096, -4096, 4095, r.randint(-4096, 4096), r.randint(-640, 640)])
 
-def label(r): return r.choice([0, 1, 2, 7, r.randint(0, 99), r.randint(0, NONE), NONE])
+def label(r, most=NONE): return r.choice([0, 1, 2, 7, r.randint(0, 99), r.randint(0, most), most])
 
 def spelled(r, k):
     """one of the spellings of k sixty-fourths"""
@@ -42,11 +42,11 @@ def joined(r, parts, plain):
 
 def digits(r, n, plain): return '0' * (0 if plain or r.random() < .95 else r.randint(1, 20)) + str(n)
 
-def drawn_text(r, nodes=9, links=14, plain=False):
+def drawn_text(r, nodes=9, links=14, finals=5, labels=NONE, plain=False):
     """a text that can be read: rows in any order, at most one final row a node; plain: with one tab between and in shortest forms"""
     n = r.randint(1, nodes)
-    rows = [[digits(r, x, plain) for x in (r.randrange(n), r.randrange(n), label(r), label(r))] for _ in range(r.randint(0, links))]
-    rows += [[digits(r, v, plain)] for v in r.sample(range(n), r.randint(0 if rows else 1, min(n, 5)))]
+    rows = [[digits(r, x, plain) for x in (r.randrange(n), r.randrange(n), label(r, labels), label(r, labels))] for _ in range(r.randint(0, links))]
+    rows += [[digits(r, v, plain)] for v in r.sample(range(n), r.randint(0 if rows else 1, min(n, finals)))]
     if r.random() < .8: r.shuffle(rows)
     for row in rows:
         k = units(r)
@@ -54,19 +54,20 @@ def drawn_text(r, nodes=9, links=14, plain=False):
         elif k or r.random() < .4: row.append(spelled(r, k))
     return ''.join(joined(r, row, plain) for row in rows).encode()
 
-def with_field(r, text, news):
-    """another field somewhere"""
-    rows = [row.split(b'\t') for row in text.replace(b' ', b'\t').split(b'\n')]
+def with_field(r, text, news, which=None):
+    """another field somewhere: anywhere, at a node's place, or at a weight's, also where there was none"""
+    rows = [row.split() for row in text.split(b'\n')[:-1]]
     row = r.choice(rows)
-    row[r.randrange(len(row))] = r.choice(news)
-    return b'\n'.join(b'\t'.join(row) for row in rows)
+    if which == 'weight': row[-1:] = ([] if len(row) in (2, 5) else row[-1:]) + [r.choice(news)]
+    else: row[r.randrange((2 if len(row) > 2 else 1) if which == 'node' else len(row))] = r.choice(news)
+    return b''.join(r.choice([b'\t', b' ']).join(row) + b'\n' for row in rows)
 
 def damaged_text(r, text):
     """a text with something changed, most often for the worse"""
     at, rows = r.randrange(len(text)), text.split(b'\n')[:-1]
     row, byte = r.choice(rows), bytes([r.choice(BYTES) if r.random() < .7 else r.randrange(256)])
     kind = r.randrange(18)
-    if kind < 6: return with_field(r, text, (BAD, NO_NODE, OFF, OFF, FAR, ON)[kind])
+    if kind < 6: return with_field(r, text, *((BAD,), (NO_NODE,), (OFF, 'weight'), (OFF,), (FAR, 'node'), (ON, 'weight'))[kind])
     if kind < 12: return (text[:-1], text[:at], text[:at] + text[at + 1:], text[:at] + byte + text[at:], text[:at] + byte + text[at + 1:], b'')[kind - 6]
     if kind < 14: return (text + b'\n', text.replace(b'\n', b'\r\n'))[kind - 12]
     more = r.choice([row, (row.split() or [b'0'])[0], row + b' 1', row + b'\t0\t0', b' \t', b''])

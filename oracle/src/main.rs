@@ -12,7 +12,11 @@ const USAGE: &str = "usage:
   oracle cases SEED COUNT  prints random cases, one a line, with what is expected
   oracle cases SEED COUNT NODES LINKS
                            the same, of at most so many nodes and links
-  oracle answer            the same for sheets read from standard input: SHEET N, one a line";
+  oracle answer            the same for sheets read from standard input: SHEET N, one a line
+  oracle rows              prints the sheets of text rows read from standard input, one text a line";
+
+/// Machines from text rows have fewer states than this.
+const STATES: u32 = 1 << 20;
 
 /// The sheet, n, the distances, the nodes and links of the list's machine, the entries taken, and the
 /// result; bytes in hexadecimal, - for none.
@@ -58,6 +62,29 @@ fn asked(line: &str) -> Option<Case> {
     })
 }
 
+/// The sheet that the Rust reads from a text, and the text that it leaves unread, or - where the text is
+/// no UTF-8 or a state is too high.
+fn rows_line(line: &str) -> String {
+    let text = from_hex(line.trim()).expect("a text in hexadecimal");
+    let read = std::str::from_utf8(&text)
+        .ok()
+        .and_then(|text| reference::from_rows(text, STATES));
+    match read {
+        Some((machine, rest)) => {
+            format!("{} {}", hex(&bytes::sheet(&machine)), hex(rest.as_bytes()))
+        }
+        None => "-".to_string(),
+    }
+}
+
+fn print_rows() -> io::Result<()> {
+    let mut out = BufWriter::new(io::stdout().lock());
+    for line in io::stdin().lines() {
+        writeln!(out, "{}", rows_line(&line?))?;
+    }
+    out.flush()
+}
+
 fn run(arguments: &[&str]) -> Option<bool> {
     match arguments {
         ["self"] => Some(own_checks()),
@@ -74,6 +101,7 @@ fn run(arguments: &[&str]) -> Option<bool> {
             let cases = lines.map(|line| asked(&line).expect("SHEET N"));
             Some(print_cases(cases).is_ok())
         }
+        ["rows"] => Some(print_rows().is_ok()),
         _ => None,
     }
 }

@@ -70,6 +70,13 @@ macro_rules! calls {
                 distances.unwrap().iter().map(|d| *d.value()).collect()
             }
 
+            /// The machine that the Rust reads from text rows, and the text that it leaves unread.
+            #[allow(dead_code)]
+            pub fn from_rows(text: &str, states: u32) -> Option<(Machine, &str)> {
+                let (fst, rest) = Fst::from_text_rows(text, states).unwrap()?;
+                Some((plain(&fst), rest))
+            }
+
             pub fn list(machine: &Machine, n: usize) -> Machine {
                 let config = ShortestPathConfig::new(1e-6, n, false);
                 let list: Fst = shortest_path_with_config(&built(machine), config).unwrap();
@@ -82,7 +89,7 @@ macro_rules! calls {
 calls!(in_published, published);
 calls!(in_counted, counted);
 
-pub use in_published::{built, Fst};
+pub use in_published::{built, from_rows, Fst};
 
 /// The Rust's distances. Its vector grows to each node that it meets, and on finite weights each node
 /// that it meets is reached: so it has one value per node up to the highest reached.

@@ -1,20 +1,25 @@
-//! Stand-in for the parsers: names and types. No call made here parses.
+//! Stand-in for the parsers: names and types, and `num`, which text rows need. No call made here
+//! reads or writes a binary file.
 
 use std::io::Write;
 
 use anyhow::Result;
 use nom::IResult;
 
-mod text_fst;
+pub mod text_fst;
 
 pub mod nom_utils {
+    use std::str::FromStr;
+
+    use nom::character::complete::digit1;
+    use nom::combinator::map_res;
     use nom::IResult;
 
     #[derive(Debug)]
     pub struct NomCustomError<I>(pub I);
 
-    pub fn num<N>(_: &str) -> IResult<&str, N> {
-        unimplemented!("stand-in")
+    pub fn num<N: FromStr>(i: &str) -> IResult<&str, N> {
+        map_res(digit1, N::from_str)(i)
     }
 }
 

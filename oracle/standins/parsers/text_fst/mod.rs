@@ -2,6 +2,8 @@
 
 mod nom_parser;
 
+pub use nom_parser::vec_rows_parsed;
+
 pub mod parsed_text_fst {
     use crate::{Label, StateId};
 
