@@ -1,19 +1,23 @@
 -- An accepted sheet: its fields where the code reads them, as its parts hold them, and the numbers of each node's links. Assumes nothing.
 use mathlib.Core.Path.{_≡_, sym, ap, _∙_, subst}
-use mathlib.Core.Bool.{true}
+use mathlib.Core.Bool.{true, _&&_, _||_}
 use mathlib.Core.List.{List}
-use Prim.Native.Nat.{ℕ, suc, _+_, _*_, _≤_, _<_}
+use Prim.Native.Nat.{ℕ, suc, _+_, _-_, _*_, _≤_, _<_}
+use native.Mathlib.Numerals.{add-one}
 use native.Mathlib.Omega.{arith}
+use lib.Dec.{ltb}
 use lib.ListN.{length}
+use borrow.Author.Tests.{ltb-true}
 use Rattle.sheet.specs.declared.tr.Trailer.{Trailer}
 use Rattle.sheet.specs.Below.{sumBelow}
 use Rattle.sheet.specs.Words.{word}
 use Rattle.sheet.specs.Sheet.{Parts, linkCount, nodeCount, next, count, mark, partsOf, readNumber, sizesFit, nodesFit}
 use Rattle.sheet.specs.Records.{trailerAt}
+use Rattle.sheet.proofs.Apart.{both}
 use Rattle.sheet.proofs.Below.{sum-mono}
 use Rattle.sheet.proofs.Fields.{length-read, read-fits, read-fields}
 use Rattle.sheet.proofs.Sources.{counts-sum}
-use Rattle.rows.specs.Written.{firstOf}
+use Rattle.rows.specs.Written.{firstOf, hasOwn, isLed, hasRows}
 use Rattle.rows.proofs.RowsBack.{accepted}
 
 module _ (bytes : List ℕ) where
@@ -32,6 +36,11 @@ module _ (bytes : List ℕ) where
     unfolding partsOf
     start-is = ap (λ (t : Trailer). t .start) same
 
+  -- a sheet that has rows has a start
+  pub start-below : hasRows p ≡ true → p .start < nodeCount p
+  unfolding hasRows
+  start-below e = ltb-true (p .start) (nodeCount p) (both (ltb (p .start) (nodeCount p)) (hasOwn p (p .start)) (both (ltb (p .start) (nodeCount p) && hasOwn p (p .start)) (hasOwn p (nodeCount p - 1) || isLed p (nodeCount p - 1)) e .0) .0)
+
   -- ---- fields
   pub next-at : (l : ℕ) → l < linkCount p → word bytes (16 * l + 12) ≡ next p l
   next-at l h = sym (read-fields bytes .next-is l (subst (λ (k : ℕ). l < k) (read-fields bytes .links-are) h))
@@ -43,7 +52,11 @@ module _ (bytes : List ℕ) where
     pub mark-at : word bytes (16 * links + 12 * v + 4) ≡ mark p v
     mark-at = ap (λ (k : ℕ). word bytes (16 * k + 12 * v + 4)) (are ∙ read-fields bytes .links-are) ∙ sym (read-fields bytes .mark-is v (subst (λ (k : ℕ). v < k) (read-fields bytes .nodes-are) h))
 
-  -- ---- where they lie, and links by node
+  -- ---- links by node, and where fields lie
+  pub first-next : (v : ℕ) → firstOf p (v + 1) ≡ firstOf p v + count p v
+  unfolding sumBelow
+  first-next v = ap (firstOf p) (add-one v)
+
   module _ (zero-number : readNumber bytes ≡ 0) where
     pub size-is : length bytes ≡ 16 * linkCount p + 12 * nodeCount p + 20
     size-is = length-read bytes (read-fits bytes zero-number) ∙ sym (λ i. 16 * read-fields bytes .links-are i + 12 * read-fields bytes .nodes-are i + 20)

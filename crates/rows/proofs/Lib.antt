@@ -34,3 +34,4 @@ pub mod Measuring
 pub mod Areas
 pub mod Nodes
 pub mod Passing
+pub mod Measured
