@@ -54,7 +54,8 @@ def both_ways():
     exact(TO_SHEET, 'forty links of one node', b''.join(b'0 1 %d %d %d\n' % (i, i * i, i) for i in range(40)) + b'1\n')
 
 REFUSED = {
-    'empty': (8, b''), 'no newline at the end': (8, b'0'), 'no newline at the end, and 4 before': (8, b'0 65\n1'), 'a newline alone': (8, b'\n'),
+    'empty': (8, b''), 'no newline at the end': (8, b'0'), 'no newline at the end, a row before': (8, b'0\n1'),
+    'no newline at the end, 4 before': (8, b'0 65\n1'), 'a newline alone': (8, b'\n'),
     'blanks alone': (8, b' \t\n'), 'a blank row': (8, b'0\n\n1\n'), 'a blank row at the end': (8, b'0\n\n'), 'blanks at the end': (8, b'0\n '),
     'three fields': (8, b'0 1 2\n'), 'six fields': (8, b'0 1 2 3 4 5\n'), 'seven fields': (8, b'0 1 2 3 4 5 6\n'),
     '8 after 4': (8, b'0 65\n1 x\n'), '8 after 1': (8, b'4294967295\n1 x\n'), '1': (1, b'4294967295 9\n'), '1 with 4': (1, b'4294967295 9.3\n'),
