@@ -35,3 +35,4 @@ pub mod Areas
 pub mod Nodes
 pub mod Passing
 pub mod Measured
+pub mod Joining
