@@ -36,3 +36,4 @@ pub mod Nodes
 pub mod Passing
 pub mod Measured
 pub mod Joining
+pub mod TextAnswers

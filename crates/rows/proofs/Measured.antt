@@ -7,7 +7,7 @@ use native.Mathlib.Numerals.{add-one}
 use native.Mathlib.Omega.{arith}
 use lib.Dec.{eqb}
 use lib.ListN.{length, take, drop, length-append}
-use lib.Seq.{sets-eq, take-at}
+use lib.Seq.{sets, sets-eq, take-at}
 use borrow.Author.Tests.{eq-eqb, ne-eqb}
 use Rattle.sheet.specs.Below.{sumBelow, listBelow}
 use Rattle.sheet.specs.Sheet.{Parts, nodeCount, count}
@@ -47,11 +47,14 @@ module _ (f : ℕ → List ℕ) where
   unfolding sumBelow
   next-fits i n h = omega (arith, length-texts i, length-texts n, sum-mono (λ j. length (f j)) n (suc i) h)
 
--- ---- a row made in an area of its own
-pub row-taken : {old text new : List ℕ} {end : ℕ} → Puts old 0 text new end → end ≤ length old → take end new ≡ text
-row-taken {old} {text} {new} {end} p h =
-    let size : end ≡ length text = omega (arith, p .ends) in
-    ap (take end) (p .stored ∙ sets-eq text old 0 (omega (arith, size, h))) ∙ take-at text (drop (0 + length text) old) end (sym size)
+-- ---- a text at the front of an area
+pub sets-front : (old text : List ℕ) → length text ≤ length old → sets old 0 text ≡ text ++ drop (length text) old
+sets-front old text h = sets-eq text old 0 (omega (arith, h)) ∙ ap (λ (k : ℕ). text ++ drop k old) (let e : 0 + length text ≡ length text = omega arith in e)
+
+pub text-taken : {old text new : List ℕ} {end : ℕ} → Puts old 0 text new end → end ≤ length old → take end new ≡ text
+text-taken {old} {text} {new} {end} p h =
+    let size : length text ≡ end = omega (arith, p .ends) in
+    ap (take end) (p .stored ∙ sets-front old text (omega (arith, size, h))) ∙ take-at text (drop (length text) old) end size
 
 -- ---- of a sheet
 module _ (p : Parts) where

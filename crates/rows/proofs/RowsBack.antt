@@ -211,7 +211,7 @@ accepted l p e = go (l && nodesFit p) refl (startFits (nodeCount p) (p .start)) 
     go true q true true true e = (both l (nodesFit p) q .1, refl, refl)
 
 -- what a number 0 of the call that writes rows says
-written-number : (bytes : List ℕ) (room : ℕ) → textNumber bytes room ≡ 0 → (readNumber bytes ≡ 0) × (hasRows (partsOf bytes) ≡ true)
+pub written-number : (bytes : List ℕ) (room : ℕ) → textNumber bytes room ≡ 0 → (readNumber bytes ≡ 0) × (hasRows (partsOf bytes) ≡ true)
 unfolding textNumber
 written-number bytes room e = go (readNumber bytes) (eqb (readNumber bytes) 0) refl (hasRows (partsOf bytes)) e
   where

@@ -6,13 +6,13 @@ use borrow.Author.Needs.{needs}
 use Rattle.sheet.specs.Sheet.{partsOf}
 use Rattle.decimals.proofs.Storing.{puts-same}
 use Rattle.rows.specs.Written.{finalRow}
-use Rattle.rows.proofs.Measured.{row-taken}
+use Rattle.rows.proofs.Measured.{text-taken}
 use Rattle.rows.proofs.sheet_text.put_final.Statement.{statement}
 use Rattle.rows.proofs.sheet_text.put_final.Tie as tie
 
 -- what is copied
 made : (c : tie.After-final-row) → let args = c .before .before .before .before .args in take (c .final-row .result) (c .final-row .last .1 .1 .1 .0) ≡ finalRow (partsOf (now (args .sheet))) (args .v)
-made c = row-taken (c .final-row .ensures .0) (omega (arith, c .final-row .ensures .1))
+made c = text-taken (c .final-row .ensures .0) (omega (arith, c .final-row .ensures .1))
 
 slice-aggregate-final-row : tie.Need-slice-aggregate-final-row
 slice-aggregate-final-row c = search needs

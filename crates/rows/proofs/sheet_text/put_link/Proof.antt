@@ -6,13 +6,13 @@ use borrow.Author.Needs.{needs}
 use Rattle.sheet.specs.Sheet.{partsOf}
 use Rattle.decimals.proofs.Storing.{puts-same}
 use Rattle.rows.specs.Written.{linkRow}
-use Rattle.rows.proofs.Measured.{row-taken}
+use Rattle.rows.proofs.Measured.{text-taken}
 use Rattle.rows.proofs.sheet_text.put_link.Statement.{statement}
 use Rattle.rows.proofs.sheet_text.put_link.Tie as tie
 
 -- what is copied
 made : (c : tie.After-link-row) → let args = c .before .before .before .before .args in take (c .link-row .result) (c .link-row .last .1 .1 .1 .0) ≡ linkRow (partsOf (now (args .sheet))) (args .v) (args .l)
-made c = row-taken (c .link-row .ensures .0) (omega (arith, c .link-row .ensures .1))
+made c = text-taken (c .link-row .ensures .0) (omega (arith, c .link-row .ensures .1))
 
 slice-aggregate-link-row : tie.Need-slice-aggregate-link-row
 slice-aggregate-link-row c = search needs
