@@ -1,12 +1,17 @@
 // Rows to a sheet: 8, then 1, 4 and 21.
 ghost use mathlib.Core.Path.{_≡_};
-ghost use Prim.Native.Nat.{_+_, _*_, _^_, _<_};
-ghost use Rattle.rows.specs.Answers.{sheetMeasured};
+ghost use Prim.Native.Nat.{ℕ, _+_, _*_, _^_, _<_};
+ghost use lib.ListN.{length};
+ghost use Rattle.rows.specs.Convert.{sheetOver};
+ghost use Rattle.rows.specs.declared.converted.Converted.the-variants.{Length};
+ghost use Rattle.rows.specs.Answers.{sheetAnswer, sheetMeasured, Made};
 ghost use Rattle.rows.specs.Judging.{judged};
 use crate::converted::Converted;
+use crate::fill::fill;
 use crate::finals::finals_once;
 use crate::survey::Survey;
 use crate::survey::Surveyed;
+use crate::survey::start_of;
 use crate::survey::survey_of;
 use sheet::refusal;
 use sheet::tr::TRAILER;
@@ -55,5 +60,24 @@ pub fn sheet_bytes(text: &[u8]) -> Converted
     match judge(text) {
         Judged::Refused(k) => Converted::Refused(k),
         Judged::Rows(s) => Converted::Length(length_of(s.links, s.highest)),
+    }
+}
+
+// Converts rows to a sheet in the result area, which is left alone where they are refused.
+pub fn rows_to_sheet(text: &[u8], result: &mut [u8]) -> Converted
+    ensures { λ r. ⌜ r ≡ sheetAnswer (now (text .entry)) (length (now (result .entry))) ⌝ }
+    ensures { λ _. ⌜ now (result .exit) ≡ sheetOver (now (text .entry)) (now (result .entry)) ⌝ }
+    ensures { λ r. ⌜ ((size : ℕ) → r ≡ Length size → Made (now (text .entry)) size (now (result .exit))) ⌝ }
+{
+    match judge(text) {
+        Judged::Refused(k) => Converted::Refused(k),
+        Judged::Rows(s) => {
+            let size = length_of(s.links, s.highest);
+            if result.len() < size {
+                return Converted::Refused(refusal::RESULT);
+            }
+            fill(text, s.links, s.highest + 1, start_of(text), result);
+            Converted::Length(size)
+        }
     }
 }
