@@ -148,18 +148,27 @@ pub fn text_length(sheet: &[u8], t: Trailer) -> usize
 }
 
 // Stores the rows of node v, or nothing for the start.
-fn put_other(sheet: &[u8], t: Trailer, v: u32, first: u32, result: &mut [u8], at: usize) -> usize
+fn put_other(
+    sheet: &[u8],
+    links: u32,
+    start: u32,
+    v: u32,
+    first: u32,
+    result: &mut [u8],
+    at: usize,
+) -> usize
     requires { ⌜ readNumber (now sheet) ≡ 0 ⌝ }
-    requires { ⌜ t ≡ trailerAt (now sheet) ⌝ }
+    requires { ⌜ links ≡ linkCount (partsOf (now sheet)) ⌝ }
+    requires { ⌜ start ≡ partsOf (now sheet) .start ⌝ }
     requires { ⌜ v < nodeCount (partsOf (now sheet)) ⌝ }
     requires { ⌜ first ≡ firstOf (partsOf (now sheet)) v ⌝ }
     requires { ⌜ at + length (otherRows (partsOf (now sheet)) v) ≤ length (now result) ⌝ }
     ensures { λ r. ⌜ Puts (now (result .entry)) at (otherRows (partsOf (now (sheet .entry))) v) (now (result .exit)) r ⌝ }
 {
-    if v == t.start {
+    if v == start {
         return at;
     }
-    put_node(sheet, t.links, v, first, result, at)
+    put_node(sheet, links, v, first, result, at)
 }
 
 // Stores the text: the start's rows, then those of the others by rising node.
@@ -170,12 +179,13 @@ pub fn put_rows(sheet: &[u8], t: Trailer, result: &mut [u8])
     requires { ⌜ length (textOf (partsOf (now sheet))) ≤ length (now result) ⌝ }
     ensures { λ _. ⌜ now (result .exit) ≡ sets (now (result .entry)) 0 (textOf (partsOf (now (sheet .entry)))) ⌝ }
 {
-    let start_first = first_link(sheet, t.links, t.start);
-    let mut next = put_node(sheet, t.links, t.start, start_first, result, 0);
+    let start = t.start;
+    let start_first = first_link(sheet, t.links, start);
+    let mut next = put_node(sheet, t.links, start, start_first, result, 0);
     let mut first = 0u32;
     let mut v = 0u32;
     while v < t.nodes {
-        next = put_other(sheet, t, v, first, result, next);
+        next = put_other(sheet, t.links, start, v, first, result, next);
         first += link_count(sheet, t.links, v);
         v += 1;
     }

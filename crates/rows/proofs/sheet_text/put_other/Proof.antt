@@ -10,32 +10,29 @@ use Rattle.sheet.specs.Sheet.{partsOf}
 use Rattle.decimals.proofs.Storing.{puts-same}
 use Rattle.rows.specs.Written.{nodeRows}
 use Rattle.rows.specs.OtherRows.{otherRows}
-use Rattle.rows.proofs.Accepted.{links-are, start-is}
 use Rattle.rows.proofs.Stored.{puts-none}
 use Rattle.rows.proofs.sheet_text.put_other.Statement.{statement}
 use Rattle.rows.proofs.sheet_text.put_other.Tie as tie
 
 returns : tie.Need-returns
 returns c =
-    let s = c .before .before .before .before in
+    let s = c .before .before .before in
     let p = partsOf (now (s .args .sheet)) in
     let v = s .args .v in
-    let start : v ≡ p .start = c .if1 .taken ∙ start-is (now (s .args .sheet)) (s .args .t) (s .pre .1 .0) in
-    puts-same (sym (ap (λ (b : Bool). cond b [] (nodeRows p v)) (eq-eqb v (p .start) start))) (puts-none (now (s .args .result)) (s .args .at))
+    puts-same (sym (ap (λ (b : Bool). cond b [] (nodeRows p v)) (eq-eqb v (p .start) (c .if1 .taken ∙ s .pre .1 .1 .0)))) (puts-none (now (s .args .result)) (s .args .at))
 
 -- a node's own rows, where it is not the start
-own : (c : tie.Else1) → let args = c .before .before .before .before .args in otherRows (partsOf (now (args .sheet))) (args .v) ≡ nodeRows (partsOf (now (args .sheet))) (args .v)
+own : (c : tie.Else1) → let args = c .before .before .before .args in otherRows (partsOf (now (args .sheet))) (args .v) ≡ nodeRows (partsOf (now (args .sheet))) (args .v)
 own c =
-    let s = c .before .before .before .before in
+    let s = c .before .before .before in
     let p = partsOf (now (s .args .sheet)) in
     let v = s .args .v in
-    ap (λ (b : Bool). cond b [] (nodeRows p v)) (ne-eqb v (p .start) (λ e. c .if1 .left (e ∙ sym (start-is (now (s .args .sheet)) (s .args .t) (s .pre .1 .0)))))
+    ap (λ (b : Bool). cond b [] (nodeRows p v)) (ne-eqb v (p .start) (λ e. c .if1 .left (e ∙ sym (s .pre .1 .1 .0))))
 
 put-node-requires : tie.Need-put-node-requires
 put-node-requires c κs =
-    let s = c .before .before .before .before .before in
-    let bytes = now (s .args .sheet) in
-    (s .pre .0, (links-are bytes (s .args .t) (s .pre .1 .0), (s .pre .1 .1 .0, (s .pre .1 .1 .1 .0, omega (arith, ap length (own (c .before)), s .pre .1 .1 .1 .1)))))
+    let s = c .before .before .before .before in
+    (s .pre .0, (s .pre .1 .0, (s .pre .1 .1 .1 .0, (s .pre .1 .1 .1 .1 .0, omega (arith, ap length (own (c .before)), s .pre .1 .1 .1 .1 .1)))))
 
 same-length : tie.Need-same-length
 same-length c = search needs

@@ -18,11 +18,11 @@ use Rattle.rows.proofs.sheet_text.put_rows.Statement.{statement}
 use Rattle.rows.proofs.sheet_text.put_rows.Tie as tie
 
 abbrev Inv-loop : tie.InvT-loop
-Inv-loop sheet t result₀ start-first next₀ first₀ v₀ result next first v =
+Inv-loop sheet t result₀ start start-first next₀ first₀ v₀ result next first v =
     (v ≤ t .nodes) × (length result ≡ length result₀) × (first ≡ firstOf (partsOf sheet) v) × Puts result₀ next₀ (texts (otherRows (partsOf sheet)) v) result next
 
 abbrev μ-loop : tie.MeasureT-loop
-μ-loop sheet t result₀ start-first next₀ first₀ v₀ result next first v = t .nodes - v
+μ-loop sheet t result₀ start start-first next₀ first₀ v₀ result next first v = t .nodes - v
 
 -- the start, as the trailer has it
 start-in : (s : tie.Start Inv-loop μ-loop) → s .args .t .start < nodeCount (partsOf (now (s .args .sheet)))
@@ -60,7 +60,7 @@ put-other-requires c κs =
     let turn = c .before .before .before .loop in
     let put = c .before .before .before .before .before .before .put-node in
     let size = ap (λ (v : ℕ). length (nodeRows p v)) (start-is bytes (s .args .t) (s .pre .1 .0)) in
-    (s .pre .0, (s .pre .1 .0, (node (c .before), (turn .inv .2, omega (arith, size, turn .inv .1, turn .inv .3 .ends, put .ensures .ends, put .kept .1 .1 .1 .1 .0, other-fits p (turn .v) (node (c .before)), s .pre .1 .1 .1)))))
+    (s .pre .0, (links-are bytes (s .args .t) (s .pre .1 .0), (start-is bytes (s .args .t) (s .pre .1 .0), (node (c .before), (turn .inv .2, omega (arith, size, turn .inv .1, turn .inv .3 .ends, put .ensures .ends, put .kept .1 .1 .1 .1 .0, other-fits p (turn .v) (node (c .before)), s .pre .1 .1 .1))))))
 
 link-count-requires : tie.Need-link-count-requires Inv-loop μ-loop
 link-count-requires c κs =
@@ -94,7 +94,7 @@ loop-again c =
     let p = partsOf (now (s .args .sheet)) in
     let turn = c .before .before .before .before .before .before .before .loop in
     let put = c .before .before .before .put-other in
-    (search needs, put .kept .1 .1 .1 .1 .0 ∙ turn .inv .1, next c, puts-same (sym (texts-more (otherRows p) (turn .v))) (puts-then (turn .inv .3) (put .ensures)))
+    (search needs, put .kept .1 .1 .1 .1 .1 .0 ∙ turn .inv .1, next c, puts-same (sym (texts-more (otherRows p) (turn .v))) (puts-then (turn .inv .3) (put .ensures)))
 
 same-length : tie.Need-same-length Inv-loop μ-loop
 same-length c = search needs
