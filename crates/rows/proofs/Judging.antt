@@ -8,21 +8,21 @@ use native.Mathlib.Omega.{arith}
 use lib.Dec.{ltb, eqb}
 use lib.ListN.{length, drop}
 use borrow.Author.Tests.{ltb-true, lt-ltb, le-ltb, eqb-false, ne-eqb}
-use Rattle.rows.specs.Fields.{andThen}
-use Rattle.rows.specs.Rows.{Row, readRows, finalsOnce, weightsOnGrid, highest}
-use Rattle.rows.specs.Convert.{linksIn, nodesIn, lengthOf, fieldsHold, numberBy, rowsNumber, orNoRows, rowsIn, sheetOfRows, sheetOver}
+use Rattle.text_rows.specs.Fields.{andThen}
+use Rattle.text_rows.specs.Rows.{Row, readRows, finalsOnce, weightsOnGrid, highest}
+use Rattle.text_rows.specs.Convert.{linksIn, nodesIn, lengthOf, fieldsHold, numberBy, rowsNumber, orNoRows, rowsIn, sheetOfRows, sheetOver}
 use Rattle.rows.specs.Answers.{convertedBy, sheetAnswer}
-use Rattle.rows.specs.Places.{rowsLeft}
-use Rattle.rows.specs.FinalRows.{onceIn}
-use Rattle.rows.specs.Surveying.{surveyRows, surveyed}
+use Rattle.row_reader.specs.Places.{rowsLeft}
+use Rattle.row_reader.specs.FinalRows.{onceIn}
+use Rattle.row_reader.specs.Surveying.{surveyRows, surveyed}
 use Rattle.rows.specs.Judging.{surveyIn, judgedBy, judged}
 use Rattle.rows.specs.declared.converted.Converted.the-variants as Converted
-use Rattle.rows.specs.declared.survey.Survey.{Survey}
-use Rattle.rows.specs.declared.survey.Surveyed.{Surveyed}
-use Rattle.rows.specs.declared.survey.Surveyed.the-variants as Surveyed
+use Rattle.row_reader.specs.declared.survey.Survey.{Survey}
+use Rattle.row_reader.specs.declared.survey.Surveyed.{Surveyed}
+use Rattle.row_reader.specs.declared.survey.Surveyed.the-variants as Surveyed
 use Rattle.rows.specs.declared.to_sheet.Judged.{Judged}
 use Rattle.rows.specs.declared.to_sheet.Judged.the-variants.{Rows, Refused}
-use Rattle.rows.proofs.Places.{rows-begin}
+use Rattle.row_reader.proofs.Places.{rows-begin}
 
 -- ---- the rows of a text that the survey has read
 -- and the final rows: some rows, or none
@@ -130,19 +130,6 @@ passed text s e = go (readRows text) refl e
 -- the length that the code works out
 pub size-is : (text : List ℕ) (s : Survey) (g : Passed text s) → 16 * s .links + 12 * (s .highest + 1) + 20 ≡ lengthOf (g .rows)
 size-is text s g = ap (λ (x : Survey). 16 * x .links + 12 * (x .highest + 1) + 20) (g .is)
-
--- the rows from the beginning on
-pub begins : (text : List ℕ) (rs : List Row) → readRows text ≡ some rs → (0 < length text) × (rowsLeft text 0 ≡ some rs)
-begins text rs e = go (ltb 0 (length text)) refl (rowsLeft text 0) refl (sym (rows-begin text) ∙ e)
-  where
-    go : (b : Bool) → ltb 0 (length text) ≡ b → (left : Option (List Row)) → rowsLeft text 0 ≡ left → cond b (once-read left) none ≡ some rs → (0 < length text) × (rowsLeft text 0 ≡ some rs)
-    go false p left q e = let z : _≡_ {A = ℕ} 0 1 = cc in absurd (omega arith)
-    go true p none q e = let z : _≡_ {A = ℕ} 0 1 = cc in absurd (omega arith)
-    go true p (some qs) q e = by (finalsOnce qs) e
-      where
-        by : (c : Bool) → cond c (some qs) none ≡ some rs → (0 < length text) × (rowsLeft text 0 ≡ some rs)
-        by false e = let z : _≡_ {A = ℕ} 0 1 = cc in absurd (omega arith)
-        by true e = (ltb-true 0 (length text) p, q ∙ e)
 
 -- ---- what the calls answer
 module _ (room : ℕ) where

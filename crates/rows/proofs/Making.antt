@@ -14,19 +14,19 @@ use Rattle.sheet.specs.Machine.{machineOf, machine}
 use Rattle.sheet.proofs.Apart.{both}
 use Rattle.sheet.proofs.Writing.{length-sheet}
 use Rattle.sheet.proofs.Round.{parts-back, number-back}
-use Rattle.rows.specs.Rows.{Row, readRows, weightsOnGrid}
-use Rattle.rows.specs.Convert.{linksIn, nodesIn, lengthOf, fieldsHold, numberBy, rowsNumber, partsOfRows, rowsIn, sheetOfRows, sheetOver}
-use Rattle.rows.specs.RowMachine.{machineOfRows}
-use Rattle.rows.specs.Written.{hasRows}
+use Rattle.text_rows.specs.Rows.{Row, readRows, weightsOnGrid}
+use Rattle.text_rows.specs.Convert.{linksIn, nodesIn, lengthOf, fieldsHold, numberBy, rowsNumber, partsOfRows, rowsIn, sheetOfRows, sheetOver}
+use Rattle.text_rows.specs.RowMachine.{machineOfRows}
+use Rattle.text_rows.specs.Written.{hasRows}
 use Rattle.rows.specs.Answers.{sheetAnswer, Made, NoText}
 use Rattle.rows.specs.Judging.{surveyIn}
 use Rattle.rows.specs.declared.converted.Converted.the-variants.{Length}
-use Rattle.rows.specs.declared.survey.Survey.{Survey}
-use Rattle.rows.proofs.Filled.{named}
-use Rattle.rows.proofs.Judged.{first-named, start-is, records-hold, length-is, verdict-is}
-use Rattle.rows.proofs.HasRows.{text-has-rows}
-use Rattle.rows.proofs.RowFits.{read-fit, links-below, nodes-below}
-use Rattle.rows.proofs.RowMachines.{rows-machine}
+use Rattle.row_reader.specs.declared.survey.Survey.{Survey}
+use Rattle.text_rows.proofs.Filled.{named}
+use Rattle.text_rows.proofs.Judged.{first-named, start-is, records-hold, length-is, verdict-is}
+use Rattle.text_rows.proofs.HasRows.{text-has-rows}
+use Rattle.text_rows.proofs.RowFits.{read-fit, links-below, nodes-below}
+use Rattle.text_rows.proofs.RowMachines.{rows-machine}
 use Rattle.rows.proofs.Judging.{Passed, rows-are, answer-long, over-long}
 
 module _ (text : List ℕ) (s : Survey) (g : Passed text s) where

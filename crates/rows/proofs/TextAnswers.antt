@@ -16,13 +16,13 @@ use Rattle.sheet.specs.Answers.{tested, testedBy}
 use Rattle.sheet.proofs.Round.{Below}
 use Rattle.rows.specs.declared.converted.Converted.{Converted}
 use Rattle.rows.specs.declared.converted.Converted.the-variants.{Length, Refused}
-use Rattle.rows.specs.Convert.{rowsNumber, sheetOfRows}
-use Rattle.rows.specs.Written.{hasRows, textOf, textNumber, textOver}
+use Rattle.text_rows.specs.Convert.{rowsNumber, sheetOfRows}
+use Rattle.text_rows.specs.Written.{hasRows, textOf, textNumber, textOver}
 use Rattle.rows.specs.Answers.{convertedBy, textAnswer, textMeasured, Returned, NoText}
 use Rattle.rows.proofs.Making.{no-text}
-use Rattle.rows.proofs.Measured.{sets-front, text-taken}
-use Rattle.rows.proofs.Measuring.{inRoom, text-in-room}
-use Rattle.rows.proofs.RowsBack.{written-number, sheet-back, text-number}
+use Rattle.row_writer.proofs.Measured.{sets-front, text-taken}
+use Rattle.text_rows.proofs.Measuring.{inRoom, text-in-room}
+use Rattle.text_rows.proofs.RowsBack.{written-number, sheet-back, text-number}
 
 -- ---- answers told apart
 length-told : (m size n : ℕ) → convertedBy (eqb m 0) size m ≡ Length n → (m ≡ 0) × (n ≡ size)

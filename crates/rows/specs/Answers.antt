@@ -9,9 +9,9 @@ use Rattle.sheet.specs.Sheet.{partsOf, readNumber}
 use Rattle.sheet.specs.Machine.{machine}
 use Rattle.rows.specs.declared.converted.Converted.{Converted}
 use Rattle.rows.specs.declared.converted.Converted.the-variants.{Length, Refused}
-use Rattle.rows.specs.Convert.{rowsIn, lengthOf, rowsNumber, sheetOfRows}
-use Rattle.rows.specs.RowMachine.{machineOfRows}
-use Rattle.rows.specs.Written.{hasRows, textOf, textNumber}
+use Rattle.text_rows.specs.Convert.{rowsIn, lengthOf, rowsNumber, sheetOfRows}
+use Rattle.text_rows.specs.RowMachine.{machineOfRows}
+use Rattle.text_rows.specs.Written.{hasRows, textOf, textNumber}
 
 -- by the number of a refusal, or 0 for so many bytes
 abbrev pub convertedBy : Bool → ℕ → ℕ → Converted

@@ -3,9 +3,9 @@ use mathlib.Core.Bool.{not, cond}
 use mathlib.Core.Option.{Option, none, some}
 use mathlib.Core.List.{List}
 use Prim.Native.Nat.{ℕ}
-use Rattle.rows.specs.Rows.{Row, readRows, weightsOnGrid, highest}
-use Rattle.rows.specs.Convert.{linksIn, fieldsHold}
-use Rattle.rows.specs.declared.survey.Survey.{Survey}
+use Rattle.text_rows.specs.Rows.{Row, readRows, weightsOnGrid, highest}
+use Rattle.text_rows.specs.Convert.{linksIn, fieldsHold}
+use Rattle.row_reader.specs.declared.survey.Survey.{Survey}
 use Rattle.rows.specs.declared.to_sheet.Judged.{Judged}
 use Rattle.rows.specs.declared.to_sheet.Judged.the-variants.{Rows, Refused}
 

@@ -2,17 +2,17 @@
 ghost use mathlib.Core.Path.{_≡_};
 ghost use Prim.Native.Nat.{ℕ, _+_, _*_, _^_, _<_};
 ghost use lib.ListN.{length};
-ghost use Rattle.rows.specs.Convert.{sheetOver};
+ghost use Rattle.text_rows.specs.Convert.{sheetOver};
 ghost use Rattle.rows.specs.declared.converted.Converted.the-variants.{Length};
 ghost use Rattle.rows.specs.Answers.{sheetAnswer, sheetMeasured, Made};
 ghost use Rattle.rows.specs.Judging.{judged};
 use crate::converted::Converted;
-use crate::fill::fill;
-use crate::finals::finals_once;
-use crate::survey::Survey;
-use crate::survey::Surveyed;
-use crate::survey::start_of;
-use crate::survey::survey_of;
+use row_filler::fill::fill;
+use row_reader::finals::finals_once;
+use row_reader::survey::Survey;
+use row_reader::survey::Surveyed;
+use row_reader::survey::start_of;
+use row_reader::survey::survey_of;
 use sheet::refusal;
 use sheet::tr::TRAILER;
 

@@ -4,7 +4,7 @@ use denote.Ref.{now}
 use borrow.Author.Needs.{needs}
 use Rattle.rows.specs.declared.converted.Converted.the-variants.{Length}
 use Rattle.rows.specs.Answers.{textMeasured}
-use Rattle.rows.proofs.Accepted.{size-is}
+use Rattle.row_writer.proofs.Accepted.{size-is}
 use Rattle.rows.proofs.TextAnswers.{passed, promise-refused, promise-short, promise-written}
 use Rattle.rows.proofs.to_rows.sheet_to_rows.Statement.{statement}
 use Rattle.rows.proofs.to_rows.sheet_to_rows.Tie as tie

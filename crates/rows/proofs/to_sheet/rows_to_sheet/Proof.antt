@@ -4,11 +4,12 @@ use native.Mathlib.Omega.{arith}
 use lib.ListN.{length}
 use denote.Ref.{now}
 use borrow.Author.Needs.{needs}
-use Rattle.rows.specs.Convert.{lengthOf}
+use Rattle.text_rows.specs.Convert.{lengthOf}
 use Rattle.rows.specs.declared.converted.Converted.the-variants.{Length}
-use Rattle.rows.specs.declared.survey.Survey.{Survey}
-use Rattle.rows.proofs.Surveys.{start-first}
-use Rattle.rows.proofs.Judging.{passed, size-is, begins, answer-refused, over-refused, answer-short, over-short}
+use Rattle.row_reader.specs.declared.survey.Survey.{Survey}
+use Rattle.row_reader.proofs.Surveys.{start-first}
+use Rattle.row_reader.proofs.Places.{begins}
+use Rattle.rows.proofs.Judging.{passed, size-is, answer-refused, over-refused, answer-short, over-short}
 use Rattle.rows.proofs.Making.{few, made}
 use Rattle.rows.proofs.to_sheet.rows_to_sheet.Statement.{statement}
 use Rattle.rows.proofs.to_sheet.rows_to_sheet.Tie as tie

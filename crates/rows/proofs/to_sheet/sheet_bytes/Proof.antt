@@ -2,9 +2,9 @@ use mathlib.Core.Path.{_≡_, sym, ap, _∙_}
 use native.Mathlib.Omega.{arith}
 use denote.Ref.{now}
 use borrow.Author.Needs.{needs}
-use Rattle.rows.specs.Convert.{lengthOf, rowsIn}
+use Rattle.text_rows.specs.Convert.{lengthOf, rowsIn}
 use Rattle.rows.specs.declared.converted.Converted.the-variants.{Length}
-use Rattle.rows.specs.declared.survey.Survey.{Survey}
+use Rattle.row_reader.specs.declared.survey.Survey.{Survey}
 use Rattle.rows.proofs.Judging.{passed, size-is, rows-are, answer-refused, answer-long}
 use Rattle.rows.proofs.Making.{few}
 use Rattle.rows.proofs.to_sheet.sheet_bytes.Statement.{statement}

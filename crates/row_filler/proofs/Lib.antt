@@ -1,0 +1,4 @@
+pub mod Areas
+pub mod Nodes
+pub mod Passing
+pub mod Joining

@@ -1,0 +1,2 @@
+// The sheet of rows, filled into the result area.
+pub mod fill;

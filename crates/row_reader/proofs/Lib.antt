@@ -1,0 +1,12 @@
+pub mod Runs
+pub mod Lexing
+pub mod Grids
+pub mod Weighing
+pub mod Signs
+pub mod Places
+pub mod Rowing
+pub mod Steps
+pub mod ReadBench
+pub mod Surveys
+pub mod FinalRows
+pub mod LeftFits

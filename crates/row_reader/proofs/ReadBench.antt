@@ -1,0 +1,44 @@
+-- Weights and rows read, by computation. Assumes nothing.
+use mathlib.Core.Path.{_≡_, refl}
+use mathlib.Core.Option.{Option, none, some}
+use mathlib.Core.List.{List, [], _∷_}
+use Prim.Native.Nat.{ℕ}
+use lib.IntN.{ℤ, pos, negsuc}
+use Rattle.decimals.specs.Decimal.{digitsOnto}
+use Rattle.text_rows.specs.Fields.{magnitudeOf, weightOf}
+use Rattle.row_reader.specs.Reading.{weightRead}
+use Rattle.row_reader.specs.declared.values.Weight.{Weight}
+use Rattle.row_reader.specs.declared.values.Weight.the-variants as Weight
+
+abbrev nines : List ℕ
+nines = 57 ∷ 57 ∷ 57 ∷ 57 ∷ 57 ∷ 57 ∷ 57 ∷ 57 ∷ 57 ∷ 57 ∷ 57 ∷ 57 ∷ 57 ∷ 57 ∷ 57 ∷ 57 ∷ 57 ∷ 57 ∷ 57 ∷ 57 ∷ 57 ∷ 57 ∷ 57 ∷ 57 ∷ 57 ∷ 57 ∷ 57 ∷ 57 ∷ 57 ∷ 57 ∷ 57 ∷ 57 ∷ 57 ∷ 57 ∷ 57 ∷ 57 ∷ 57 ∷ 57 ∷ 57 ∷ 57 ∷ []
+
+-- forty nines are read, and are past the limit
+forty : weightRead (weightOf nines) ≡ Weight.Off
+unfolding weightOf
+forty = refl
+
+-- -0 is 0; -63.984375 is -4095 units; 64.000001 is off the grid; -.5, 1. and seven decimals are not read
+minus-zero : weightRead (weightOf (45 ∷ 48 ∷ [])) ≡ Weight.Units (pos 0)
+unfolding weightOf
+minus-zero = refl
+
+least : weightRead (weightOf (45 ∷ 54 ∷ 51 ∷ 46 ∷ 57 ∷ 56 ∷ 52 ∷ 51 ∷ 55 ∷ 53 ∷ [])) ≡ Weight.Units (negsuc 4094)
+unfolding weightOf
+least = refl
+
+millionth-more : weightRead (weightOf (54 ∷ 52 ∷ 46 ∷ 48 ∷ 48 ∷ 48 ∷ 48 ∷ 48 ∷ 49 ∷ [])) ≡ Weight.Off
+unfolding weightOf
+millionth-more = refl
+
+bare-point : weightRead (weightOf (45 ∷ 46 ∷ 53 ∷ [])) ≡ Weight.Unreadable
+unfolding weightOf
+bare-point = refl
+
+no-decimals : weightRead (weightOf (49 ∷ 46 ∷ [])) ≡ Weight.Unreadable
+unfolding weightOf
+no-decimals = refl
+
+seven-decimals : weightRead (weightOf (49 ∷ 46 ∷ 48 ∷ 48 ∷ 48 ∷ 48 ∷ 48 ∷ 48 ∷ 48 ∷ [])) ≡ Weight.Unreadable
+unfolding weightOf
+seven-decimals = refl

@@ -1,0 +1,14 @@
+pub mod Bench
+pub mod Segments
+pub mod Placing
+pub mod Numbers
+pub mod Filled
+pub mod Judged
+pub mod Back
+pub mod Texts
+pub mod RowsBack
+pub mod HasRows
+pub mod RowFits
+pub mod RowMachines
+pub mod Fitting
+pub mod Measuring

@@ -1,0 +1,1 @@
+// What rows of text say: definitions and laws alone.
