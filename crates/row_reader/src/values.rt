@@ -12,7 +12,13 @@ ghost use Rattle.row_reader.specs.Reading.{digitsRead, numberRead, magni
 use decimals::read::Digits;
 use decimals::read::HELD;
 use decimals::read::digits_in;
+use tropical_weight::UNIT;
 use tropical_weight::WEIGHT_LIMIT;
+
+// How many units are 1, and how many millionths.
+const UNITS: u64 = 1 << UNIT;
+
+const MILLION: u64 = 1_000_000;
 
 // A number, or that there is none.
 pub enum Number {
@@ -48,7 +54,7 @@ fn point_in(field: &[u8]) -> usize
 }
 
 // Millionths in one at so many decimals.
-const SCALE: [u64; 7] = [1_000_000, 100_000, 10_000, 1000, 100, 10, 1];
+const SCALE: [u64; 7] = [MILLION, 100_000, 10_000, 1000, 100, 10, 1];
 
 // One to six decimals, in millionths.
 fn part_in(decimals: &[u8]) -> Digits
@@ -76,10 +82,10 @@ fn on_grid(whole: u64, part: u64) -> Magnitude
     requires { ⌜ (whole ≤ 2 ^ 32) × (part < 1000000) ⌝ }
     ensures { λ r. ⌜ r ≡ magnitudeRead (some (whole * 1000000 + part)) ⌝ }
 {
-    if part * 64 % 1_000_000 != 0 {
+    if part * UNITS % MILLION != 0 {
         return Magnitude::Off;
     }
-    let units = whole * 64 + part * 64 / 1_000_000;
+    let units = whole * UNITS + part * UNITS / MILLION;
     if (WEIGHT_LIMIT as u64) < units {
         return Magnitude::Off;
     }

@@ -1,9 +1,9 @@
--- Areas with which a list is never refused for want of room: the slots are those that it needs, the bytes a bound. Definitions only.
+-- Areas with which a call is never refused for want of room: of a list the slots that it needs and a bound on the bytes, of a conversion the bytes. Definitions only.
 use mathlib.Core.Path.{_≡_}
 use mathlib.Core.Bool.{not, _&&_, cond}
 use mathlib.Core.List.{List}
 use Prim.Native.Nat.{ℕ, zero, suc, _+_, _*_, _≤_, _<_}
-use lib.Dec.{leb, ltb}
+use lib.Dec.{leb, ltb, eqb}
 use lib.ListN.{length, getD}
 use Rattle.tropical_weight.specs.Limits.{nodeLimit, linkLimit, listLimit}
 use Rattle.sheet.specs.Machine.{Machine, machine}
@@ -56,3 +56,8 @@ Serves nodes links finals n slots bytes =
     → length (machine sheet .links) ≤ links
     → marked (machine sheet .finals) ≤ finals
     → Enough sheet n slots bytes
+
+-- ---- of a conversion
+-- its number in an area of so many bytes, by the number and the bytes that measuring it told
+abbrev pub measuredNumber : ℕ → ℕ → ℕ → ℕ
+measuredNumber k bytes room = cond (eqb k 0) (cond (ltb room bytes) 21 0) k

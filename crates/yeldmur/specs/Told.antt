@@ -2,6 +2,8 @@
 use Prim.Native.Nat.{ℕ}
 use Rattle.sheet.specs.declared.write.Written.{Written}
 use Rattle.sheet.specs.declared.write.Written.the-variants as Written
+use Rattle.rows.specs.declared.converted.Converted.{Converted}
+use Rattle.rows.specs.declared.converted.Converted.the-variants as Converted
 use Rattle.shortest_distance.specs.declared.Distances.{Distances}
 use Rattle.shortest_distance.specs.declared.Distances.the-variants as Distances
 use Rattle.list_answer.specs.declared.Listed.{Listed}
@@ -11,6 +13,11 @@ use Rattle.list_answer.specs.declared.Listed.the-variants as Listed
 abbrev pub writtenTold : Written → ℕ → ℕ × ℕ
 writtenTold (Written.Length bytes) length = (0, bytes)
 writtenTold (Written.Refused k) length = (k, length)
+
+-- of rows or a sheet converted, the bytes
+abbrev pub convertedTold : Converted → ℕ → ℕ × ℕ
+convertedTold (Converted.Length bytes) length = (0, bytes)
+convertedTold (Converted.Refused k) length = (k, length)
 
 -- of distances, how many there are
 abbrev pub distancesTold : Distances → ℕ → ℕ × ℕ

@@ -1,23 +1,27 @@
-// Yeldmur for C and Rust: sheets read and written, distances, and lists of the cheapest readings, in
-// areas that the caller lends. Each function returns 0 or the number of the refusal, and then the
+// Yeldmur for C and Rust: sheets read and written, rows of text turned into sheets and back, distances,
+// and lists of the cheapest readings, in areas that the caller lends. Each function returns 0 or the number of the refusal, and then the
 // numbers behind its references keep their values.
 ghost use mathlib.Core.Path.{_≡_};
 ghost use mathlib.Core.Bool.{cond};
-ghost use Prim.Native.Nat.{_≤_};
+ghost use Prim.Native.Nat.{ℕ, _≤_};
 ghost use lib.Dec.{eqb};
 ghost use lib.ListN.{length};
 ghost use Rattle.tropical_weight.specs.Limits.{nodeLimit, linkLimit, listLimit};
 ghost use Rattle.sheet.specs.Sheet.{readNumber, writeNumber};
 ghost use Rattle.sheet.specs.Answers.{parts, written, writtenOver, ReadBack};
 ghost use Rattle.sheet.specs.Machine.{machine as machineFor};
+ghost use Rattle.text_rows.specs.Convert.{rowsNumber, sheetOver};
+ghost use Rattle.text_rows.specs.Written.{textNumber, textOver};
+ghost use Rattle.rows.specs.Answers.{sheetAnswer, sheetMeasured, textAnswer, textMeasured, Made, Returned, NoText};
 ghost use Rattle.shortest_distance.specs.Outcome.{distanceNumber, distanceAnswer, workAfter as distanceWork, resultAfter as distanceResult};
 ghost use Rattle.shortest_distance.specs.Promise.{Least};
 ghost use Rattle.shortest_path.specs.Outcome.{slotsNeeded, testedNumber, listNumber, listAnswer, workAfter, resultAfter};
 ghost use Rattle.shortest_path.specs.Promise.{Keeps};
-ghost use Rattle.yeldmur.specs.Told.{writtenTold, distancesTold, listedTold};
+ghost use Rattle.yeldmur.specs.Told.{writtenTold, convertedTold, distancesTold, listedTold};
 ghost use Rattle.list_answer.specs.ListAnswer.{slotsOf};
-ghost use Rattle.yeldmur.specs.Areas.{bytesOf, bytesEnough, Enough, countsNumber, finalsOf, Serves};
+ghost use Rattle.yeldmur.specs.Areas.{measuredNumber, bytesOf, bytesEnough, Enough, countsNumber, finalsOf, Serves};
 use list_answer::Listed;
+use rows::converted::Converted;
 use sheet::read::Tested;
 use sheet::refusal;
 use sheet::write::Written;
@@ -58,6 +62,64 @@ pub extern "C" fn yeldmur_write_sheet(
         }
         Written::Refused(k) => k,
     }
+}
+
+// What a conversion answers: 0 and the bytes, or the number of the refusal.
+fn tell(answer: Converted, size: &mut u64) -> u32
+    ensures { λ r. ⌜ (r, now (size .exit)) ≡ convertedTold answer (now (size .entry)) ⌝ }
+{
+    match answer {
+        Converted::Length(length) => {
+            *size = length as u64;
+            0
+        }
+        Converted::Refused(k) => k,
+    }
+}
+
+// Turns rows of text into a sheet: 8, then 1, 4 and 21.
+#[no_mangle]
+pub extern "C" fn yeldmur_rows_to_sheet(text: &[u8], result: &mut [u8], size: &mut u64) -> u32
+    ensures { λ r. ⌜ r ≡ rowsNumber (now (text .entry)) (length (now (result .entry))) ⌝ }
+    ensures { λ r. ⌜ (r, now (size .exit)) ≡ convertedTold (sheetAnswer (now (text .entry)) (length (now (result .entry)))) (now (size .entry)) ⌝ }
+    ensures { λ _. ⌜ now (result .exit) ≡ sheetOver (now (text .entry)) (now (result .entry)) ⌝ }
+    ensures { λ r. ⌜ (r ≡ 0 → Made (now (text .entry)) (now (size .exit)) (now (result .exit))) ⌝ }
+{
+    let answer = rows::to_sheet::rows_to_sheet(text, result);
+    tell(answer, size)
+}
+
+// The bytes of the sheet of these rows: 8, then 1 and 4.
+#[no_mangle]
+pub extern "C" fn yeldmur_rows_sheet_bytes(text: &[u8], bytes: &mut u64) -> u32
+    ensures { λ r. ⌜ (r, now (bytes .exit)) ≡ convertedTold (sheetMeasured (now (text .entry))) (now (bytes .entry)) ⌝ }
+    ensures { λ r. ⌜ ((room : ℕ) → rowsNumber (now (text .entry)) room ≡ measuredNumber r (now (bytes .exit)) room) ⌝ }
+{
+    let answer = rows::to_sheet::sheet_bytes(text);
+    tell(answer, bytes)
+}
+
+// Turns a sheet into rows of text, which turn into that very sheet: 1 to 4, 9 and 21.
+#[no_mangle]
+pub extern "C" fn yeldmur_sheet_to_rows(sheet: &[u8], result: &mut [u8], size: &mut u64) -> u32
+    ensures { λ r. ⌜ r ≡ textNumber (now (sheet .entry)) (length (now (result .entry))) ⌝ }
+    ensures { λ r. ⌜ (r, now (size .exit)) ≡ convertedTold (textAnswer (now (sheet .entry)) (length (now (result .entry)))) (now (size .entry)) ⌝ }
+    ensures { λ _. ⌜ now (result .exit) ≡ textOver (now (sheet .entry)) (now (result .entry)) ⌝ }
+    ensures { λ r. ⌜ (r ≡ 0 → Returned (now (sheet .entry)) (now (size .exit)) (now (result .exit))) ⌝ }
+    ensures { λ r. ⌜ (r ≡ 9 → NoText (now (sheet .entry))) ⌝ }
+{
+    let answer = rows::to_rows::sheet_to_rows(sheet, result);
+    tell(answer, size)
+}
+
+// The bytes of the rows of a sheet: 1 to 4 and 9.
+#[no_mangle]
+pub extern "C" fn yeldmur_sheet_rows_bytes(sheet: &[u8], bytes: &mut u64) -> u32
+    ensures { λ r. ⌜ (r, now (bytes .exit)) ≡ convertedTold (textMeasured (now (sheet .entry))) (now (bytes .entry)) ⌝ }
+    ensures { λ r. ⌜ ((room : ℕ) → textNumber (now (sheet .entry)) room ≡ measuredNumber r (now (bytes .exit)) room) ⌝ }
+{
+    let answer = rows::to_rows::rows_bytes(sheet);
+    tell(answer, bytes)
 }
 
 // The distances of a sheet's nodes, as 32 weight bits each, and how many there are.
