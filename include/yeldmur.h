@@ -1,11 +1,13 @@
-/* Yeldmur: sheets read and written, distances, and lists of the cheapest readings, with every promise
- * proved. Link with libyeldmur.a, which `rt staticlib yeldmur` writes.
+/* Yeldmur: sheets read and written, text rows turned into sheets and back, distances, and lists of the
+ * cheapest readings, with every promise proved. Link with libyeldmur.a, which `rt staticlib yeldmur`
+ * writes.
  *
  * A slice is a pointer and a count of its elements, and not of bytes. No pointer is NULL, also where
  * the count is 0, as that of the work area may be for n = 0: malloc(0) may give NULL, so that a caller
  * asks for one element more, or hands over any other address that is aligned. A pointer to 32-bit or
  * 64-bit numbers is aligned for them, and no two of a call's areas and numbers overlap. The calls keep
- * nothing, and take no memory but the areas and up to YELDMUR_STACK bytes of stack.
+ * nothing, and take no memory but the areas and up to YELDMUR_STACK bytes of stack, or
+ * YELDMUR_ROWS_STACK where they read text rows.
  *
  * The proofs are about rounding to nearest; what follows of other modes is tested, not proved. Weights
  * are summed in single precision, and every sum is exact. So an answer is the same in every
@@ -46,6 +48,11 @@ enum {
     YELDMUR_CLIMB = 6,
     /* n above 64 */
     YELDMUR_COUNT = 7,
+    /* a text without rows, a row that cannot be read or a second final row for a node; tested before all
+     * others */
+    YELDMUR_ROWS = 8,
+    /* a sheet that has no rows */
+    YELDMUR_NO_ROWS = 9,
     /* work area shorter than needed, in slots of eight 32-bit words: none for n = 0; N for distances
      * and for n = 1; otherwise N + T + 2 x F + 2 + n x (T + 1) */
     YELDMUR_WORK = 20,
@@ -60,6 +67,10 @@ enum {
  * queue's record takes most of it, 12 KB, and the heap's recursion about 80 bytes a level. */
 #define YELDMUR_STACK 20480u
 
+/* The same for yeldmur_rows_to_sheet and yeldmur_rows_sheet_bytes: 64 KB are a flag for each of 65,536
+ * nodes, by which a second final row is found. */
+#define YELDMUR_ROWS_STACK 69632u
+
 /* The start of a sheet that has none, and the word of a link that repeats no input link. */
 #define YELDMUR_NONE 0xffffffffu
 
@@ -72,6 +83,34 @@ uint32_t yeldmur_read_sheet(const uint8_t *sheet, size_t sheet_bytes);
 uint32_t yeldmur_write_sheet(const uint32_t *links, size_t links_words,
                              const uint32_t *nodes, size_t nodes_words, uint32_t start,
                              uint8_t *result, size_t result_bytes, uint64_t *size);
+
+/* Turns text rows into a sheet: tests 8, 1, 4, then 21. `size` becomes its bytes, 16 a link, 12 a node
+ * and 20. A row is a link, by its source, next node, input label, output label and weight, or a final
+ * node with its weight; a weight that is left out is 0. The first row's first node is the start, nodes
+ * run to the highest number named, and a node's links stand in row order. Runs of spaces or tabs part
+ * fields and may stand at a row's ends; a newline ends each row, the last too. Numbers are digits
+ * within 32 bits. Weights, taken exactly, are digits, with an optional minus sign before (-0 is 0) and
+ * perhaps a point and one to six digits after. The text is read a few times, and where final rows name
+ * nodes from 65,536 on, once more for each run of 65,536 nodes that they name. */
+uint32_t yeldmur_rows_to_sheet(const uint8_t *text, size_t text_bytes,
+                               uint8_t *result, size_t result_bytes, uint64_t *size);
+
+/* Turns a sheet into text rows, which convert to that very sheet: tests 1 to 4, 9, then 21. `size`
+ * becomes their bytes. The start's rows come first, then the others' by rising node, links before the
+ * final row; one tab stands between fields, numbers are in their shortest form, and a weight of 0 is
+ * left out. A sheet has rows if its start is present and has a link or a mark, and its last node has a
+ * link, a mark or a link to it. */
+uint32_t yeldmur_sheet_to_rows(const uint8_t *sheet, size_t sheet_bytes,
+                               uint8_t *result, size_t result_bytes, uint64_t *size);
+
+/* The bytes of the sheet that text rows give: tests 8, 1 and 4. In a result area of so many `bytes`, or
+ * a longer one, yeldmur_rows_to_sheet refuses nothing. A short text that names a high node gives a long
+ * sheet. */
+uint32_t yeldmur_rows_sheet_bytes(const uint8_t *text, size_t text_bytes, uint64_t *bytes);
+
+/* The bytes of the text rows that a sheet gives: tests 1 to 4 and 9. In a result area of so many
+ * `bytes`, or a longer one, yeldmur_sheet_to_rows refuses nothing. */
+uint32_t yeldmur_sheet_rows_bytes(const uint8_t *sheet, size_t sheet_bytes, uint64_t *bytes);
 
 /* The distances of a sheet's nodes: tests 1 to 6, 20 and 21. The result has one value per node up to
  * the highest reached, infinity for an unreached one, as 32 weight bits each, little-endian; `values`

@@ -139,20 +139,29 @@ static void check_list(const struct answer *a, uint32_t n) {
     }
 }
 
-/* Distances where n is 0. After the call the environment must be the caller's, with no flag raised. */
-static void call(uint32_t n, int mode, uint32_t flushed, struct answer *a) {
-    memset(a->counts, 0, sizeof a->counts);
-    memset(a->work, 0xa5, 4 * YELDMUR_SLOT * slots);
-    memset(a->result, 0xa5, bytes);
+static void enter(int mode, uint32_t flushed) {
     fesetround(mode);
     feclearexcept(FE_ALL_EXCEPT);
     _mm_setcsr((_mm_getcsr() & ~FLUSHED) | flushed);
-    if (n == 0) a->number = yeldmur_shortest_distance(sheet, size, a->work, YELDMUR_SLOT * slots, a->result, bytes, a->counts);
-    else a->number = yeldmur_shortest_path(sheet, size, n, a->work, YELDMUR_SLOT * slots, a->result, bytes, a->counts, a->counts + 1, a->counts + 2);
+}
+
+/* After a call the environment must be the caller's, with no flag raised. */
+static void leave(int mode, uint32_t flushed) {
     int kept = fegetround() == mode && (_mm_getcsr() & FLUSHED) == flushed && !fetestexcept(FE_ALL_EXCEPT);
     _mm_setcsr(_mm_getcsr() & ~FLUSHED);
     fesetround(FE_TONEAREST);
     if (!kept) fail("another environment after the call");
+}
+
+/* Distances where n is 0. */
+static void call(uint32_t n, int mode, uint32_t flushed, struct answer *a) {
+    memset(a->counts, 0, sizeof a->counts);
+    memset(a->work, 0xa5, 4 * YELDMUR_SLOT * slots);
+    memset(a->result, 0xa5, bytes);
+    enter(mode, flushed);
+    if (n == 0) a->number = yeldmur_shortest_distance(sheet, size, a->work, YELDMUR_SLOT * slots, a->result, bytes, a->counts);
+    else a->number = yeldmur_shortest_path(sheet, size, n, a->work, YELDMUR_SLOT * slots, a->result, bytes, a->counts, a->counts + 1, a->counts + 2);
+    leave(mode, flushed);
     if (a->number) fail("refused");
 }
 
@@ -192,10 +201,27 @@ static void compare(uint32_t n) {
     free(plain.work), free(plain.result), free(other.work), free(other.result);
 }
 
+/* The sheet's text rows, and the sheet that these give. */
+static void compare_rows(void) {
+    static uint8_t text[NODES * (55 * WIDEST + 22)], other[sizeof text], again[sizeof sheet];
+    uint64_t length, bytes = 0;
+    if (yeldmur_sheet_to_rows(sheet, size, text, sizeof text, &length)) fail("no rows");
+    for (uint32_t m = 0; m < 8; m++) {
+        enter(MODES[m / 2].mode, m % 2 ? FLUSHED : 0);
+        uint32_t number = yeldmur_sheet_to_rows(sheet, size, other, sizeof other, &bytes);
+        leave(MODES[m / 2].mode, m % 2 ? FLUSHED : 0);
+        if (number || bytes != length || memcmp(other, text, length)) fail("other rows");
+        enter(MODES[m / 2].mode, m % 2 ? FLUSHED : 0);
+        number = yeldmur_rows_to_sheet(text, length, again, sizeof again, &bytes);
+        leave(MODES[m / 2].mode, m % 2 ? FLUSHED : 0);
+        if (number || bytes != size || memcmp(again, sheet, size)) fail("another sheet of these rows");
+    }
+}
+
 static void compare_chain(const char *kind, uint32_t count, uint32_t width, int32_t least, uint32_t spread, int balanced) {
     int32_t cost[MOST];
     draw_chain(count, width, least, spread, balanced);
-    compare(0), compare(1), compare(2), compare(10);
+    compare(0), compare(1), compare(2), compare(10), compare_rows();
     cheapest(1, nodes - 1, cost);
     printf("%s, %u nodes, %u links: cheapest %d\n", kind, nodes, links, cost[0] + final_weight);
 }
@@ -207,11 +233,9 @@ static void compare_denormal(void) {
     for (uint32_t i = 0; i < 5; i++) {
         memcpy(sheet + 8, BITS + i, 4);
         for (uint32_t m = 0; m < 8; m++) {
-            fesetround(MODES[m / 2].mode);
-            _mm_setcsr((_mm_getcsr() & ~FLUSHED) | (m % 2 ? FLUSHED : 0));
+            enter(MODES[m / 2].mode, m % 2 ? FLUSHED : 0);
             uint32_t number = yeldmur_read_sheet(sheet, size);
-            _mm_setcsr(_mm_getcsr() & ~FLUSHED);
-            fesetround(FE_TONEAREST);
+            leave(MODES[m / 2].mode, m % 2 ? FLUSHED : 0);
             if (number != YELDMUR_WEIGHT) fail("a denormal weight accepted");
         }
     }

@@ -14,6 +14,10 @@ static uint8_t sheet[16 * LINKS + 12 * NODES + 20], *result;
 static uint32_t n, *work;
 static uint64_t size, slots, bytes;
 
+/* The most that rows of this sheet can take. */
+static uint8_t text[55 * LINKS + 22 * NODES];
+static uint64_t text_bytes;
+
 static void nothing(void) {}
 
 static void write_sheet(void) {
@@ -21,6 +25,18 @@ static void write_sheet(void) {
 }
 
 static void read_sheet(void) { if (yeldmur_read_sheet(sheet, size)) exit(1); }
+
+static void to_rows(void) {
+    uint64_t told;
+    if (yeldmur_sheet_rows_bytes(sheet, size, &told)) exit(1);
+    if (yeldmur_sheet_to_rows(sheet, size, text, sizeof text, &text_bytes) || told != text_bytes) exit(1);
+}
+
+static void to_sheet(void) {
+    uint64_t told;
+    if (yeldmur_rows_sheet_bytes(text, text_bytes, &told)) exit(1);
+    if (yeldmur_rows_to_sheet(text, text_bytes, sheet, sizeof sheet, &size) || told != size) exit(1);
+}
 
 static void areas(void) {
     if (yeldmur_areas(sheet, size, n, &slots, &bytes)) exit(1);
@@ -67,10 +83,17 @@ static void make_links(uint32_t dear) {
     }
 }
 
+#define WITHIN(call, name, limit) {call, name, limit, #limit}
+
+static const struct { void (*call)(void); const char *name; size_t limit; const char *limit_name; } CALLS[] = {
+    WITHIN(write_sheet, "writing", YELDMUR_STACK), WITHIN(read_sheet, "reading", YELDMUR_STACK),
+    WITHIN(to_rows, "sheet to rows", YELDMUR_STACK), WITHIN(to_sheet, "rows to sheet", YELDMUR_ROWS_STACK),
+    WITHIN(areas, "areas", YELDMUR_STACK), WITHIN(distances, "distances", YELDMUR_STACK), WITHIN(list, "lists", YELDMUR_STACK)};
+
+enum { COUNT = sizeof CALLS / sizeof *CALLS };
+
 int main(void) {
-    void (*const CALLS[])(void) = {write_sheet, read_sheet, areas, distances, list};
-    static const char *const NAMES[] = {"writing", "reading", "areas", "distances", "lists"};
-    size_t most[5] = {0}, plain = written(nothing);
+    size_t most[COUNT] = {0}, plain = written(nothing);
     for (uint32_t round = 0; round < 4; round++) {
         n = round % 2 ? 64 : 1;
         make_links(round / 2);
@@ -78,15 +101,15 @@ int main(void) {
         areas();
         work = malloc(4 * YELDMUR_SLOT * slots), result = malloc(bytes);
         if (!work || !result) return 1;
-        for (uint32_t i = 0; i < 5; i++) {
-            size_t used = written(CALLS[i]) - plain;
+        for (uint32_t i = 0; i < COUNT; i++) {
+            size_t used = written(CALLS[i].call) - plain;
             if (used > most[i]) most[i] = used;
         }
         free(work), free(result);
     }
-    for (uint32_t i = 0; i < 5; i++) {
-        fprintf(stderr, "%s: %zu bytes of stack\n", NAMES[i], most[i]);
-        printf("%s: %s YELDMUR_STACK\n", NAMES[i], most[i] <= YELDMUR_STACK ? "within" : "beyond");
+    for (uint32_t i = 0; i < COUNT; i++) {
+        fprintf(stderr, "%s: %zu bytes of stack\n", CALLS[i].name, most[i]);
+        printf("%s: %s %s\n", CALLS[i].name, most[i] <= CALLS[i].limit ? "within" : "beyond", CALLS[i].limit_name);
     }
     return 0;
 }

@@ -1,4 +1,4 @@
-//! The six functions of the static library. All that is `unsafe` in this crate stands here: each slice goes over as
+//! The ten functions of the static library. All that is `unsafe` in this crate stands here: each slice goes over as
 //! its pointer and its length, each number to be told as a pointer. The functions have no requirements; that they stay inside the
 //! slices is proved, and so is every value that they leave there. A function returns 0 or the number of the refusal,
 //! and with a refusal the numbers to be told keep their values.
@@ -55,6 +55,22 @@ extern "C" {
         slots: *mut u64,
         bytes: *mut u64,
     ) -> u32;
+    fn yeldmur_rows_to_sheet(
+        text: *const u8,
+        text_bytes: usize,
+        result: *mut u8,
+        result_bytes: usize,
+        size: *mut u64,
+    ) -> u32;
+    fn yeldmur_sheet_to_rows(
+        sheet: *const u8,
+        sheet_bytes: usize,
+        result: *mut u8,
+        result_bytes: usize,
+        size: *mut u64,
+    ) -> u32;
+    fn yeldmur_rows_sheet_bytes(text: *const u8, text_bytes: usize, bytes: *mut u64) -> u32;
+    fn yeldmur_sheet_rows_bytes(sheet: *const u8, sheet_bytes: usize, bytes: *mut u64) -> u32;
 }
 
 /// Reads a sheet: tests 1 to 4.
@@ -155,4 +171,48 @@ pub fn areas_of(
 ) -> u32 {
     // SAFETY: `slots` and `bytes`, which are written to, are lent mutably, so that they do not overlap.
     unsafe { yeldmur_areas_of(nodes, links, finals, n, slots, bytes) }
+}
+
+/// Turns text rows into a sheet: tests 8, 1, 4, then 21.
+pub fn rows_to_sheet(text: &[u8], result: &mut [u8], size: &mut u64) -> u32 {
+    // SAFETY: each pointer and length are of one slice, lent for the call; the two that are written to,
+    // `result` and `size`, are lent mutably, so that they overlap nothing.
+    unsafe {
+        yeldmur_rows_to_sheet(
+            text.as_ptr(),
+            text.len(),
+            result.as_mut_ptr(),
+            result.len(),
+            size,
+        )
+    }
+}
+
+/// Turns a sheet into text rows: tests 1 to 4, 9, then 21.
+pub fn sheet_to_rows(sheet: &[u8], result: &mut [u8], size: &mut u64) -> u32 {
+    // SAFETY: each pointer and length are of one slice, lent for the call; the two that are written to,
+    // `result` and `size`, are lent mutably, so that they overlap nothing.
+    unsafe {
+        yeldmur_sheet_to_rows(
+            sheet.as_ptr(),
+            sheet.len(),
+            result.as_mut_ptr(),
+            result.len(),
+            size,
+        )
+    }
+}
+
+/// The bytes of the sheet that text rows give: tests 8, 1 and 4.
+pub fn rows_sheet_bytes(text: &[u8], bytes: &mut u64) -> u32 {
+    // SAFETY: the pointer and the length are of one slice, lent for the call, that is only read; `bytes`,
+    // which is written to, is lent mutably, so that it overlaps nothing.
+    unsafe { yeldmur_rows_sheet_bytes(text.as_ptr(), text.len(), bytes) }
+}
+
+/// The bytes of the text rows that a sheet gives: tests 1 to 4 and 9.
+pub fn sheet_rows_bytes(sheet: &[u8], bytes: &mut u64) -> u32 {
+    // SAFETY: the pointer and the length are of one slice, lent for the call, that is only read; `bytes`,
+    // which is written to, is lent mutably, so that it overlaps nothing.
+    unsafe { yeldmur_sheet_rows_bytes(sheet.as_ptr(), sheet.len(), bytes) }
 }

@@ -6,12 +6,16 @@
 //! that is cheaper. What this crate adds, memory for the areas and the reading of results, is plain Rust with tests.
 //!
 //! ```
-//! use yeldmur::{distances, list, Link, Refusal, Sheet};
+//! use yeldmur::{distances, list, Refusal, Sheet};
 //!
 //! # fn main() -> Result<(), Refusal> {
-//! let link = |source, label, weight, next| Link { source, ilabel: label, olabel: label, weight, next };
-//! let links = [link(0, 1, 1.0, 1), link(0, 2, 0.5, 2), link(1, 3, 0.25, 3), link(1, 5, 0.0, 2), link(2, 4, 0.75, 3)];
-//! let sheet = Sheet::write(&links, &[None, None, None, Some(0.5)], Some(0))?;
+//! // text rows: a link's source, next node, two labels and weight, or a final node and its weight
+//! let sheet: Sheet = "0 1 1 1 1
+//!                     0 2 2 2 0.5
+//!                     1 3 3 3 0.25
+//!                     1 2 5 5
+//!                     2 3 4 4 0.75
+//!                     3 0.5\n".parse()?;
 //! assert_eq!(distances(&sheet)?, [0.0, 1.0, 0.5, 1.25]);
 //!
 //! let list = list(&sheet, 3)?;
@@ -24,7 +28,9 @@
 //! # }
 //! ```
 //!
-//! A sheet that is not as it should be, or too large an n, is refused with the number that the requirements give it:
+//! A program that has its links as numbers hands them to [`Sheet::write`]; bytes that were written before go to [`Sheet::read`].
+//!
+//! A sheet or a text that is not as it should be, or too large an n, is refused with the number that the requirements give it:
 //!
 //! ```
 //! use yeldmur::{Refusal, Sheet};
@@ -45,6 +51,7 @@ mod layout;
 mod list;
 pub mod raw;
 mod refusal;
+mod rows;
 mod sheet;
 
 pub use list::{distances, list, Areas, List, Reading};

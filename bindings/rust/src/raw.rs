@@ -77,6 +77,34 @@ pub fn write_sheet(
     Ok(size as usize)
 }
 
+/// Turns text rows into a sheet and tells its length: tests 8, 1, 4, then 21.
+pub fn rows_to_sheet(text: &[u8], result: &mut [u8]) -> Result<usize, Refusal> {
+    let mut size = 0;
+    told(ffi::rows_to_sheet(text, result, &mut size))?;
+    Ok(size as usize)
+}
+
+/// Turns a sheet into text rows and tells their length: tests 1 to 4, 9, then 21. These rows convert to that very sheet.
+pub fn sheet_to_rows(sheet: &[u8], result: &mut [u8]) -> Result<usize, Refusal> {
+    let mut size = 0;
+    told(ffi::sheet_to_rows(sheet, result, &mut size))?;
+    Ok(size as usize)
+}
+
+/// The length of the sheet that text rows give: tests 8, 1 and 4. In a result of this length [`rows_to_sheet`] refuses nothing.
+pub fn rows_sheet_bytes(text: &[u8]) -> Result<usize, Refusal> {
+    let mut bytes = 0;
+    told(ffi::rows_sheet_bytes(text, &mut bytes))?;
+    Ok(bytes as usize)
+}
+
+/// The length of the text rows that a sheet gives: tests 1 to 4 and 9. In a result of this length [`sheet_to_rows`] refuses nothing.
+pub fn sheet_rows_bytes(sheet: &[u8]) -> Result<usize, Refusal> {
+    let mut bytes = 0;
+    told(ffi::sheet_rows_bytes(sheet, &mut bytes))?;
+    Ok(bytes as usize)
+}
+
 /// Writes the distances of a sheet's nodes, 32 weight bits each, and tells how many there are: tests 1 to 6, then 20
 /// and 21. It needs a slot for each node.
 pub fn shortest_distance(

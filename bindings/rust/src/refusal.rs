@@ -5,7 +5,8 @@ use std::error::Error;
 use std::fmt;
 
 /// Why a call was refused. Tests go by number over the whole sheet, so that a sheet with more than one
-/// fault gets the lowest number. N is the number of nodes of a sheet, T that of its links.
+/// fault gets the lowest number; 8 alone, of a text, is tested before all others. N is the number of nodes
+/// of a sheet, T that of its links.
 #[derive(Clone, Copy, Debug, PartialEq, Eq, Hash)]
 #[non_exhaustive]
 pub enum Refusal {
@@ -25,13 +26,18 @@ pub enum Refusal {
     Climb,
     /// 7: n above 64.
     Count,
+    /// 8: a text without rows, a row that cannot be read or a second final row for a node.
+    Rows,
+    /// 9: a sheet that has no rows. A sheet has rows if its start is present and has a link or a mark, and its
+    /// last node has a link, a mark or a link to it.
+    NoRows,
     /// 20: work area shorter than needed.
     WorkArea,
     /// 21: result area shorter than this very answer.
     ResultArea,
 }
 
-const ALL: [Refusal; 9] = [
+const ALL: [Refusal; 11] = [
     Refusal::Layout,
     Refusal::Start,
     Refusal::Next,
@@ -39,6 +45,8 @@ const ALL: [Refusal; 9] = [
     Refusal::Limits,
     Refusal::Climb,
     Refusal::Count,
+    Refusal::Rows,
+    Refusal::NoRows,
     Refusal::WorkArea,
     Refusal::ResultArea,
 ];
@@ -54,6 +62,8 @@ impl Refusal {
             Refusal::Limits => 5,
             Refusal::Climb => 6,
             Refusal::Count => 7,
+            Refusal::Rows => 8,
+            Refusal::NoRows => 9,
             Refusal::WorkArea => 20,
             Refusal::ResultArea => 21,
         }
@@ -76,6 +86,10 @@ impl Refusal {
             Refusal::Limits => "N above 4,096 or T above 16,384",
             Refusal::Climb => "a link that does not lead to a higher node",
             Refusal::Count => "n above 64",
+            Refusal::Rows => {
+                "a text without rows, a row that cannot be read or a second final row for a node"
+            }
+            Refusal::NoRows => "a sheet that has no rows",
             Refusal::WorkArea => "work area shorter than needed",
             Refusal::ResultArea => "result area shorter than this very answer",
         }

@@ -68,7 +68,7 @@ impl Sheet {
     }
 
     // Of bytes that have passed tests 1 to 4.
-    fn passed(bytes: Vec<u8>) -> Sheet {
+    pub(crate) fn passed(bytes: Vec<u8>) -> Sheet {
         let firsts = firsts(&bytes);
         let finals = final_count(&bytes);
         Sheet {

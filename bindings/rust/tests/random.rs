@@ -5,29 +5,8 @@ mod common;
 
 use std::collections::HashSet;
 
-use common::{link, readings};
+use common::{link, readings, Random};
 use yeldmur::{distances, Areas, Link, Sheet};
-
-// A generator of its own (splitmix64), so that the machines are the same everywhere.
-struct Random(u64);
-
-impl Random {
-    fn word(&mut self) -> u64 {
-        self.0 = self.0.wrapping_add(0x9E37_79B9_7F4A_7C15);
-        let mut x = self.0;
-        x = (x ^ (x >> 30)).wrapping_mul(0xBF58_476D_1CE4_E5B9);
-        x = (x ^ (x >> 27)).wrapping_mul(0x94D0_49BB_1331_11EB);
-        x ^ (x >> 31)
-    }
-
-    fn below(&mut self, limit: u32) -> u32 {
-        (self.word() % u64::from(limit)) as u32
-    }
-
-    fn weight(&mut self, spread: u32) -> f32 {
-        (self.below(2 * spread + 1) as f32 - spread as f32) / 64.0
-    }
-}
 
 struct Machine {
     links: Vec<Link>,

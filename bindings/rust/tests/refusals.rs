@@ -132,7 +132,7 @@ fn raw_calls_change_nothing() {
 fn numbers_and_words() {
     for number in 0..100 {
         let refusal = Refusal::from_number(number);
-        let known = matches!(number, 1..=7 | 20 | 21);
+        let known = matches!(number, 1..=9 | 20 | 21);
         assert_eq!(refusal.is_some(), known);
         assert_eq!(refusal.map(Refusal::number), known.then_some(number));
     }

@@ -78,3 +78,24 @@ pub fn chain(nodes: u32, weight: f32) -> Sheet {
     finals[nodes as usize - 1] = Some(weight);
     Sheet::write(&links, &finals, Some(0)).unwrap()
 }
+
+/// A generator of its own (splitmix64), so that the machines are the same everywhere.
+pub struct Random(pub u64);
+
+impl Random {
+    pub fn word(&mut self) -> u64 {
+        self.0 = self.0.wrapping_add(0x9E37_79B9_7F4A_7C15);
+        let mut x = self.0;
+        x = (x ^ (x >> 30)).wrapping_mul(0xBF58_476D_1CE4_E5B9);
+        x = (x ^ (x >> 27)).wrapping_mul(0x94D0_49BB_1331_11EB);
+        x ^ (x >> 31)
+    }
+
+    pub fn below(&mut self, limit: u32) -> u32 {
+        (self.word() % u64::from(limit)) as u32
+    }
+
+    pub fn weight(&mut self, spread: u32) -> f32 {
+        (self.below(2 * spread + 1) as f32 - spread as f32) / 64.0
+    }
+}
