@@ -5,6 +5,7 @@ mod contest;
 #[cfg(openfst)]
 mod openfst;
 mod port;
+mod rows;
 mod rust;
 mod sheets;
 mod table;
@@ -16,6 +17,7 @@ use port::Port;
 
 const USAGE: &str = "usage:
   bench MILLISECONDS               prints the tables; each part of a row takes about twice so long
+  bench rows MILLISECONDS          prints those of text rows alone
   bench repeat MACHINE CALL TIMES  makes one call of the library again and again, for a profile: a
                                    machine of the first table, and distances or n";
 
@@ -35,6 +37,8 @@ fn print_tables(time: Duration) {
     table::print("Growth with n", &tables[1], false);
     table::print("Growth with the links", &tables[2], false);
     table::print_goals(&tables);
+    println!();
+    rows::print(&sheets::written(), time);
 }
 
 fn repeat(name: &str, call: &str, times: usize) -> Option<()> {
@@ -52,6 +56,13 @@ fn repeat(name: &str, call: &str, times: usize) -> Option<()> {
 fn run(arguments: &[&str]) -> Option<()> {
     match arguments {
         ["repeat", name, call, times] => repeat(name, call, times.parse().ok()?),
+        ["rows", time] => {
+            rows::print(
+                &sheets::written(),
+                Duration::from_millis(time.parse().ok()?),
+            );
+            Some(())
+        }
         [time] => {
             print_tables(Duration::from_millis(time.parse().ok()?));
             Some(())

@@ -112,3 +112,19 @@ pub fn growing() -> Vec<Kind> {
         grown("2,049 nodes, 16,384 links", 16384),
     ]
 }
+
+/// Machines that are turned from text rows into sheets and back.
+pub fn written() -> Vec<Kind> {
+    let any = any();
+    vec![
+        kind("2,000 nodes, 16,384 links", TEN, |s| {
+            tangle(s, 2000, 16384, SHORT, &any)
+        }),
+        kind("1,312 nodes, 5,000 links", TEN, |s| {
+            tangle(s, 1312, 5000, SHORT, &any)
+        }),
+        kind("40 nodes, 100 links", TEN, |s| {
+            tangle(s, 40, 100, SHORT, &any)
+        }),
+    ]
+}
