@@ -18,7 +18,7 @@ onceIn (some rs) = finalsOnce rs
 
 -- so many nodes have a flag in a pass
 abbrev pub window : ℕ
-window = 65536
+window = 16384
 
 unfoldable pub noFlags : List Bool
 noFlags = replicate window false

@@ -8,7 +8,7 @@ use crate::row::row_at;
 use crate::survey::end_of;
 
 // So many nodes have a flag in a pass.
-const WINDOW: usize = 65536;
+const WINDOW: usize = 16384;
 
 // Every node is below this.
 const NODES: u64 = 0x1_0000_0000;
