@@ -6,8 +6,7 @@
  * the count is 0, as that of the work area may be for n = 0: malloc(0) may give NULL, so that a caller
  * asks for one element more, or hands over any other address that is aligned. A pointer to 32-bit or
  * 64-bit numbers is aligned for them, and no two of a call's areas and numbers overlap. The calls keep
- * nothing, and take no memory but the areas and up to YELDMUR_STACK bytes of stack, or
- * YELDMUR_ROWS_STACK where they read text rows.
+ * nothing, and take no memory but the areas and up to YELDMUR_STACK bytes of stack.
  *
  * The proofs are about rounding to nearest; what follows of other modes is tested, not proved. Weights
  * are summed in single precision, and every sum is exact. So an answer is the same in every
@@ -63,13 +62,10 @@ enum {
 /* The words of a work slot. */
 #define YELDMUR_SLOT 8u
 
-/* Bytes of stack that are enough for a call: measured at the limits with a painted stack, where the
- * queue's record takes most of it, 12 KB, and the heap's recursion about 80 bytes a level. */
+/* Bytes of stack that are enough for a call: measured at the limits with a painted stack. Most of it are
+ * the queue's record, 12 KB, with some 80 bytes for each level of the heap's recursion; where rows are
+ * read, 16 KB of flags, by which a second final row is found. */
 #define YELDMUR_STACK 20480u
-
-/* The same for yeldmur_rows_to_sheet and yeldmur_rows_sheet_bytes: 64 KB are a flag for each of 65,536
- * nodes, by which a second final row is found. */
-#define YELDMUR_ROWS_STACK 69632u
 
 /* The start of a sheet that has none, and the word of a link that repeats no input link. */
 #define YELDMUR_NONE 0xffffffffu

@@ -83,12 +83,9 @@ static void make_links(uint32_t dear) {
     }
 }
 
-#define WITHIN(call, name, limit) {call, name, limit, #limit}
-
-static const struct { void (*call)(void); const char *name; size_t limit; const char *limit_name; } CALLS[] = {
-    WITHIN(write_sheet, "writing", YELDMUR_STACK), WITHIN(read_sheet, "reading", YELDMUR_STACK),
-    WITHIN(to_rows, "sheet to rows", YELDMUR_STACK), WITHIN(to_sheet, "rows to sheet", YELDMUR_ROWS_STACK),
-    WITHIN(areas, "areas", YELDMUR_STACK), WITHIN(distances, "distances", YELDMUR_STACK), WITHIN(list, "lists", YELDMUR_STACK)};
+static const struct { void (*call)(void); const char *name; } CALLS[] = {
+    {write_sheet, "writing"}, {read_sheet, "reading"}, {to_rows, "sheet to rows"}, {to_sheet, "rows to sheet"},
+    {areas, "areas"}, {distances, "distances"}, {list, "lists"}};
 
 enum { COUNT = sizeof CALLS / sizeof *CALLS };
 
@@ -109,7 +106,7 @@ int main(void) {
     }
     for (uint32_t i = 0; i < COUNT; i++) {
         fprintf(stderr, "%s: %zu bytes of stack\n", CALLS[i].name, most[i]);
-        printf("%s: %s %s\n", CALLS[i].name, most[i] <= CALLS[i].limit ? "within" : "beyond", CALLS[i].limit_name);
+        printf("%s: %s YELDMUR_STACK\n", CALLS[i].name, most[i] <= YELDMUR_STACK ? "within" : "beyond");
     }
     return 0;
 }
