@@ -87,7 +87,7 @@ uint32_t yeldmur_write_sheet(const uint32_t *links, size_t links_words,
  * fields and may stand at a row's ends; a newline ends each row, the last too. Numbers are digits
  * within 32 bits. Weights, taken exactly, are digits, with an optional minus sign before (-0 is 0) and
  * perhaps a point and one to six digits after. The text is read a few times, and where final rows name
- * nodes from 65,536 on, once more for each run of 65,536 nodes that they name. */
+ * nodes from 16,384 on, once more for each run of 16,384 nodes that they name. */
 uint32_t yeldmur_rows_to_sheet(const uint8_t *text, size_t text_bytes,
                                uint8_t *result, size_t result_bytes, uint64_t *size);
 

@@ -165,6 +165,12 @@ fn a_second_final_row() {
     // nodes far apart, so far that no sheet is made
     assert_eq!(refused(b"4294967294\n70000\n4294967294\n"), 8);
     assert_eq!(refused(b"70000\n4294967294\n65536\n131072\n70000 1\n"), 8);
+    // around the nodes that are flagged in one pass
+    for node in [16_383, 16_384, 16_385, 32_767, 32_768] {
+        let others = "0\n16382\n16386\n32766\n32769\n";
+        assert_eq!(refused(format!("{node}\n{others}{node}\n").as_bytes()), 8);
+        assert!(Sheet::from_rows(format!("{others}{node}\n").as_bytes()).is_ok());
+    }
 }
 
 #[test]
