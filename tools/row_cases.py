@@ -61,8 +61,10 @@ REFUSED = {
     '8 after 4': (8, b'0 65\n1 x\n'), '8 after 1': (8, b'4294967295\n1 x\n'), '1': (1, b'4294967295 9\n'), '1 with 4': (1, b'4294967295 9.3\n'),
     '1 by a next node': (1, b'0 4294967295 1 1\n'), '4 in the last row': (4, b'0\n1 64.000001\n'), '4 in the first row': (4, b'0 0.3\n1 2 3 4 5\n'),
     'final twice': (8, b'0\n0\n'), 'final twice, other weights': (8, b'0 1\n1\n0 2\n'), 'final twice, far up': (8, b'4294967294\n70000\n4294967294\n'),
-    'final twice, other digits': (8, b'3\n003 1\n'), 'final twice at 65,536': (8, b'0\n65536\n131072\n65536\n'),
+    'final twice, other digits': (8, b'3\n003 1\n'), 'final twice at 16,384': (8, b'0\n16384\n32768\n16384\n'),
+    'final twice at 16,383': (8, b'16383\n0\n16384\n16383\n'), 'final twice at 65,536': (8, b'0\n65536\n131072\n65536\n'),
     'final twice at 65,535': (8, b'65535\n0\n65536\n65535\n'), 'final twice at the top': (8, b'4294967295\n4294967295\n'),
+    'final twice, behind one further up': (8, b'90000\n20000\n50000\n20000\n'), 'final once each, 16,384 apart': (21, b'16384\n0\n32768\n49152\n'),
     'final twice and off the grid': (8, b'0 0.3\n0\n'), 'a carriage return': (8, b'0\r\n'), 'a NUL': (8, b'0\0\n'), 'a form feed': (8, b'0\x0c1 1 1\n'),
     'the highest node that has a sheet': (21, b'4294967294\n'), 'the highest by a next node': (21, b'0 4294967294 1 1\n'),
     'final rows far apart': (21, b'70000\n1\n140000 2\n'), 'the largest labels': (21, b'5 5000 4294967295 4294967295\n')}
