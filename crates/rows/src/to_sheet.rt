@@ -2,6 +2,7 @@
 ghost use mathlib.Core.Path.{_≡_};
 ghost use Prim.Native.Nat.{ℕ, _+_, _*_, _^_, _<_};
 ghost use lib.ListN.{length};
+ghost use Rattle.sheet.specs.Sheet.{trailerLength};
 ghost use Rattle.text_rows.specs.Convert.{sheetOver};
 ghost use Rattle.rows.specs.declared.converted.Converted.the-variants.{Length};
 ghost use Rattle.rows.specs.Answers.{sheetAnswer, sheetMeasured, Made};
@@ -15,6 +16,12 @@ use row_reader::survey::start_of;
 use row_reader::survey::survey_of;
 use sheet::refusal;
 use sheet::tr::TRAILER;
+
+// The highest word. N is one more than the highest node, and its field would not hold it.
+const LAST_WORD: u32 = 0xffff_ffff;
+
+// So many links that 16 bytes each are past the field of the nodes' offset.
+const LINKS_PAST: usize = 0x1000_0000;
 
 // What a text comes to: what its rows say, or the number of the refusal.
 pub enum Judged {
@@ -32,11 +39,10 @@ fn judge(text: &[u8]) -> Judged
     if !finals_once(text) {
         return Judged::Refused(refusal::ROWS);
     }
-    // N is one more than the highest node, and the nodes' offset 16 bytes a link: fields hold both
-    if s.highest == 0xffff_ffff {
+    if s.highest == LAST_WORD {
         return Judged::Refused(refusal::LAYOUT);
     }
-    if 0x1000_0000 <= s.links {
+    if LINKS_PAST <= s.links {
         return Judged::Refused(refusal::LAYOUT);
     }
     if !s.gridded {
@@ -48,7 +54,7 @@ fn judge(text: &[u8]) -> Judged
 // The length of a sheet with so many links and this highest node.
 fn length_of(links: usize, highest: u32) -> usize
     requires { ⌜ links < 2 ^ 28 ⌝ }
-    ensures { λ r. ⌜ r ≡ 16 * links + 12 * (highest + 1) + 20 ⌝ }
+    ensures { λ r. ⌜ r ≡ 16 * links + 12 * (highest + 1) + trailerLength ⌝ }
 {
     16 * links + 12 * ((highest as usize) + 1) + TRAILER
 }

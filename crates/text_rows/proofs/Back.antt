@@ -25,7 +25,7 @@ use Rattle.sheet.proofs.Below.{allBelow-at, allBelow-of, split-at}
 use Rattle.sheet.proofs.Apart.{both, or-either}
 use Rattle.sheet.proofs.Sources.{counts-sum}
 use Rattle.text_rows.specs.Rows.{Row, link, final, highest, firstNode, unitsOf, onGrid, weightIn, weightsOnGrid, anyFinal, finalsOnce}
-use Rattle.text_rows.specs.Convert.{fieldOf, linkFrom, countFrom, finalFields, nodesIn, partsOfRows}
+use Rattle.text_rows.specs.Convert.{fieldOf, linkFrom, countFrom, markFields, nodesIn, partsOfRows}
 use Rattle.text_rows.specs.Written.{firstOf, hasOwn, isLed, hasRows}
 use Rattle.text_rows.specs.RowsFor.{inMillionths, millionths, linkRowFor, finalRowFor, nodeRowsFor, rowsFor}
 use Rattle.text_rows.proofs.Segments.{segments, same-segments, sum-to, length-links}
@@ -101,14 +101,14 @@ abbrev pub finalFrom : ℕ → Row → List ℕ
 finalFrom v (link s t i o w) = []
 finalFrom v (final u w) = cond (eqb u v) (1 ∷ fieldOf w ∷ []) []
 
-pub finals-flat : (v : ℕ) (rs : List Row) → finalFields v rs ≡ take 2 (flatMap (finalFrom v) rs ++ (0 ∷ 0 ∷ []))
-unfolding finalFields flatMap
+pub finals-flat : (v : ℕ) (rs : List Row) → markFields v rs ≡ take 2 (flatMap (finalFrom v) rs ++ (0 ∷ 0 ∷ []))
+unfolding markFields flatMap
 finals-flat v [] = refl
 finals-flat v (link s t i o w ∷ rs) = finals-flat v rs
 finals-flat v (final u w ∷ rs) = go (eqb u v) (finals-flat v rs)
   where
-    go : (b : Bool) → finalFields v rs ≡ take 2 (flatMap (finalFrom v) rs ++ (0 ∷ 0 ∷ []))
-        → cond b (1 ∷ fieldOf w ∷ []) (finalFields v rs) ≡ take 2 (cond b (1 ∷ fieldOf w ∷ []) [] ++ flatMap (finalFrom v) rs ++ (0 ∷ 0 ∷ []))
+    go : (b : Bool) → markFields v rs ≡ take 2 (flatMap (finalFrom v) rs ++ (0 ∷ 0 ∷ []))
+        → cond b (1 ∷ fieldOf w ∷ []) (markFields v rs) ≡ take 2 (cond b (1 ∷ fieldOf w ∷ []) [] ++ flatMap (finalFrom v) rs ++ (0 ∷ 0 ∷ []))
     go true e = refl
     go false e = e
 
@@ -366,7 +366,7 @@ module _ (p : Parts) (four : length (p .links) ≡ 4 * linkCount p) (three : len
       go (inl q) = eqb-true (mark p v) 1 q
       go (inr q) = absurd (eqb-false (mark p v) 0 e (eqb-true (mark p v) 0 (both (eqb (mark p v) 0) (eqb (finalBits p v) 0) q .0)))
 
-  pub fields-of : (v : ℕ) → v < N → finalFields v rows ≡ mark p v ∷ finalBits p v ∷ []
+  pub fields-of : (v : ℕ) → v < N → markFields v rows ≡ mark p v ∷ finalBits p v ∷ []
   fields-of v h = finals-flat v rows ∙ ap (λ (l : List ℕ). take 2 (l ++ (0 ∷ 0 ∷ []))) (finals-of v h) ∙ go (eqb (mark p v) 0) refl
     where
       go : (b : Bool) → eqb (mark p v) 0 ≡ b → take 2 (cond b [] (1 ∷ fieldOf (millionths (finalBits p v)) ∷ []) ++ (0 ∷ 0 ∷ [])) ≡ mark p v ∷ finalBits p v ∷ []
@@ -376,10 +376,10 @@ module _ (p : Parts) (four : length (p .links) ≡ 4 * linkCount p) (three : len
           on : onGridBits (finalBits p v) ≡ true
           on = sym (ap (λ (b : Bool). b || onGridBits (finalBits p v)) e) ∙ final-on p weights-fit v h
 
-  pub nodes-whole : segments N (λ v. countFrom v rows ∷ finalFields v rows) ≡ p .nodes
-  nodes-whole = sym (by-threes (λ v. countFrom v rows ∷ finalFields v rows) (λ v. ap suc (finals-two v rows)) N (p .nodes) three each)
+  pub nodes-whole : segments N (λ v. countFrom v rows ∷ markFields v rows) ≡ p .nodes
+  nodes-whole = sym (by-threes (λ v. countFrom v rows ∷ markFields v rows) (λ v. ap suc (finals-two v rows)) N (p .nodes) three each)
     where
-      each : (v i : ℕ) → v < N → i < 3 → getD (p .nodes) (3 * v + i) 0 ≡ getD (countFrom v rows ∷ finalFields v rows) i 0
+      each : (v i : ℕ) → v < N → i < 3 → getD (p .nodes) (3 * v + i) 0 ≡ getD (countFrom v rows ∷ markFields v rows) i 0
       each v zero h b = ap (λ (k : ℕ). getD (p .nodes) k 0) (let e : 3 * v + 0 ≡ 3 * v = omega arith in e) ∙ sym (count-of v h)
       each v (suc zero) h b = sym (ap (λ (l : List ℕ). getD l 0 0) (fields-of v h))
       each v (suc (suc zero)) h b = sym (ap (λ (l : List ℕ). getD l 1 0) (fields-of v h))
@@ -471,7 +471,7 @@ module _ (p : Parts) (four : length (p .links) ≡ 4 * linkCount p) (three : len
       own : (1 ≤ count p (N - 1)) ⊎ (mark p (N - 1) ≡ 1) → ⊥
       own (inl q) = omega (arith, count-of (N - 1) in-N, length-links (N - 1) rows, ap length (named-links (N - 1) rows m))
       own (inr q) =
-          let f : finalFields (N - 1) rows ≡ 0 ∷ 0 ∷ [] = finals-flat (N - 1) rows ∙ ap (λ (l : List ℕ). take 2 (l ++ (0 ∷ 0 ∷ []))) (named-finals (N - 1) rows m) in
+          let f : markFields (N - 1) rows ≡ 0 ∷ 0 ∷ [] = finals-flat (N - 1) rows ∙ ap (λ (l : List ℕ). take 2 (l ++ (0 ∷ 0 ∷ []))) (named-finals (N - 1) rows m) in
           let z : 0 ≡ mark p (N - 1) = ap (λ (l : List ℕ). getD l 0 0) (sym f ∙ fields-of (N - 1) in-N) in
           omega (arith, z, q)
 
@@ -503,7 +503,7 @@ module _ (p : Parts) (four : length (p .links) ≡ 4 * linkCount p) (three : len
       let n = nodes-same (a .1) in
       λ i. record {
         links = (sym (segments-flat (nodesIn rows) (λ v. flatMap (linkFrom v) rows)) ∙ ap (λ (k : ℕ). segments k (λ v. flatMap (linkFrom v) rows)) n ∙ links-whole) i;
-        nodes = (sym (segments-flat (nodesIn rows) (λ v. countFrom v rows ∷ finalFields v rows)) ∙ ap (λ (k : ℕ). segments k (λ v. countFrom v rows ∷ finalFields v rows)) n ∙ nodes-whole) i;
+        nodes = (sym (segments-flat (nodesIn rows) (λ v. countFrom v rows ∷ markFields v rows)) ∙ ap (λ (k : ℕ). segments k (λ v. countFrom v rows ∷ markFields v rows)) n ∙ nodes-whole) i;
         start = first-is (both (ltb (p .start) N) (hasOwn p (p .start)) (a .0) .1) i;
       }
 

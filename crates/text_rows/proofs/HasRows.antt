@@ -15,7 +15,7 @@ use Rattle.sheet.proofs.Below.{allBelow-at}
 use Rattle.sheet.proofs.Apart.{both, or-either}
 use Rattle.text_rows.specs.Fields.{andThen, isNewline, ontoFirst, rowsOf, ended}
 use Rattle.text_rows.specs.Rows.{Row, link, final, highest, firstNode, rowOf, allRows, finalsOnce, readRows}
-use Rattle.text_rows.specs.Convert.{fieldOf, linkFrom, countFrom, finalFields, nodesIn, partsOfRows, orNoRows}
+use Rattle.text_rows.specs.Convert.{fieldOf, linkFrom, countFrom, markFields, nodesIn, partsOfRows, orNoRows}
 use Rattle.text_rows.specs.Written.{hasOwn, isLed, hasRows}
 use Rattle.text_rows.proofs.Segments.{segments}
 use Rattle.text_rows.proofs.Filled.{Named, named}
@@ -84,8 +84,8 @@ NoName h [] = Unit {0}
 NoName h (link s t i o w ∷ rs) = (s ≡ h → ⊥) × (t ≡ h → ⊥) × NoName h rs
 NoName h (final v w ∷ rs) = (v ≡ h → ⊥) × NoName h rs
 
-no-name : (h : ℕ) (rs : List Row) → EachLink (λ c d. d ≡ h → ⊥) rs → countFrom h rs ≡ 0 → getD (finalFields h rs) 0 0 ≡ 0 → NoName h rs
-unfolding countFrom finalFields
+no-name : (h : ℕ) (rs : List Row) → EachLink (λ c d. d ≡ h → ⊥) rs → countFrom h rs ≡ 0 → getD (markFields h rs) 0 0 ≡ 0 → NoName h rs
+unfolding countFrom markFields
 no-name h [] l c f = tt
 no-name h (link s t i o w ∷ rs) l c f = go (eqb s h) refl c (λ k. no-name h rs (l .1) k f)
   where
@@ -94,7 +94,7 @@ no-name h (link s t i o w ∷ rs) l c f = go (eqb s h) refl c (λ k. no-name h r
     go false e c later = (eqb-false s h e, l .0, later (omega arith))
 no-name h (final v w ∷ rs) l c f = go (eqb v h) refl f (no-name h rs l (omega arith))
   where
-    go : (b : Bool) → eqb v h ≡ b → getD (cond b (1 ∷ fieldOf w ∷ []) (finalFields h rs)) 0 0 ≡ 0 → (getD (finalFields h rs) 0 0 ≡ 0 → NoName h rs) → (v ≡ h → ⊥) × NoName h rs
+    go : (b : Bool) → eqb v h ≡ b → getD (cond b (1 ∷ fieldOf w ∷ []) (markFields h rs)) 0 0 ≡ 0 → (getD (markFields h rs) 0 0 ≡ 0 → NoName h rs) → (v ≡ h → ⊥) × NoName h rs
     go true e f later = absurd (omega arith)
     go false e f later = (eqb-false v h e, later f)
 
@@ -125,18 +125,18 @@ module _ (rs : List Row) (rows : 1 ≤ length rs) where
       in-n : firstNode rs < n
       in-n = first-named n rs (omega arith) (named rs)
 
-      go : (qs : List Row) → 1 ≤ length qs → not (eqb (countFrom (firstNode qs) qs) 0) || eqb (getD (finalFields (firstNode qs) qs) 0 0) 1 ≡ true
+      go : (qs : List Row) → 1 ≤ length qs → not (eqb (countFrom (firstNode qs) qs) 0) || eqb (getD (markFields (firstNode qs) qs) 0 0) 1 ≡ true
       go [] l = absurd (omega arith)
-      go (link s t i o w ∷ qs) l = ap (λ (b : Bool). not b || eqb (getD (finalFields s (link s t i o w ∷ qs)) 0 0) 1) (ne-eqb (countFrom s (link s t i o w ∷ qs)) 0 (λ z. some z))
+      go (link s t i o w ∷ qs) l = ap (λ (b : Bool). not b || eqb (getD (markFields s (link s t i o w ∷ qs)) 0 0) 1) (ne-eqb (countFrom s (link s t i o w ∷ qs)) 0 (λ z. some z))
         where
           some : countFrom s (link s t i o w ∷ qs) ≡ 0 → ⊥
           some z = unfold countFrom in omega (arith, z, ap {B = ℕ} (λ (b : Bool). cond b 1 0) (eq-eqb s s refl))
       go (final v w ∷ qs) l = at (not (eqb (countFrom v (final v w ∷ qs)) 0)) marked
         where
-          marked : getD (finalFields v (final v w ∷ qs)) 0 0 ≡ 1
-          marked = unfold finalFields in ap (λ (b : Bool). getD (cond b (1 ∷ fieldOf w ∷ []) (finalFields v qs)) 0 0) (eq-eqb v v refl)
+          marked : getD (markFields v (final v w ∷ qs)) 0 0 ≡ 1
+          marked = unfold markFields in ap (λ (b : Bool). getD (cond b (1 ∷ fieldOf w ∷ []) (markFields v qs)) 0 0) (eq-eqb v v refl)
 
-          at : (b : Bool) → getD (finalFields v (final v w ∷ qs)) 0 0 ≡ 1 → b || eqb (getD (finalFields v (final v w ∷ qs)) 0 0) 1 ≡ true
+          at : (b : Bool) → getD (markFields v (final v w ∷ qs)) 0 0 ≡ 1 → b || eqb (getD (markFields v (final v w ∷ qs)) 0 0) 1 ≡ true
           at true e = refl
           at false e = eq-eqb _ 1 e
 
@@ -154,15 +154,15 @@ module _ (rs : List Row) (rows : 1 ≤ length rs) where
           let a = or-false (hasOwn p (highest rs)) (isLed p (highest rs)) e in
           let o = or-false (not (eqb (count p (highest rs)) 0)) (eqb (mark p (highest rs)) 1) (a .0) in
           let none-from : countFrom (highest rs) rs ≡ 0 = sym (count-is rs (highest rs) in-n) ∙ eqb-true (count p (highest rs)) 0 (not-false (eqb (count p (highest rs)) 0) (o .0)) in
-          let no-mark : getD (finalFields (highest rs) rs) 0 0 ≡ 1 → ⊥ = λ z. eqb-false (mark p (highest rs)) 1 (o .1) (mark-is rs (highest rs) in-n ∙ z) in
+          let no-mark : getD (markFields (highest rs) rs) 0 0 ≡ 1 → ⊥ = λ z. eqb-false (mark p (highest rs)) 1 (o .1) (mark-is rs (highest rs) in-n ∙ z) in
           absurd (never (highest rs) rs (no-name (highest rs) rs (rows-each (λ c d. d ≡ highest rs → ⊥) n rs (named rs) (segments-each (λ c d. d ≡ highest rs → ⊥) n (λ v. flatMap (linkFrom v) rs) (λ v. whole-rows v rs) (subst (Fours (λ c d. d ≡ highest rs → ⊥)) (links-are rs) (all (a .1))))) none-from (zero-mark no-mark)) rows refl)
         where
-          zero-mark : (getD (finalFields (highest rs) rs) 0 0 ≡ 1 → ⊥) → getD (finalFields (highest rs) rs) 0 0 ≡ 0
-          zero-mark z = either (or-either (eqb (getD (finalFields (highest rs) rs) 0 0) 1) (eqb (getD (finalFields (highest rs) rs) 0 0) 0 && eqb (getD (finalFields (highest rs) rs) 1 0) 0) (well-marked (highest rs) rs))
+          zero-mark : (getD (markFields (highest rs) rs) 0 0 ≡ 1 → ⊥) → getD (markFields (highest rs) rs) 0 0 ≡ 0
+          zero-mark z = either (or-either (eqb (getD (markFields (highest rs) rs) 0 0) 1) (eqb (getD (markFields (highest rs) rs) 0 0) 0 && eqb (getD (markFields (highest rs) rs) 1 0) 0) (well-marked (highest rs) rs))
             where
-              either : (eqb (getD (finalFields (highest rs) rs) 0 0) 1 ≡ true) ⊎ (eqb (getD (finalFields (highest rs) rs) 0 0) 0 && eqb (getD (finalFields (highest rs) rs) 1 0) 0 ≡ true) → getD (finalFields (highest rs) rs) 0 0 ≡ 0
-              either (inl q) = absurd (z (eqb-true (getD (finalFields (highest rs) rs) 0 0) 1 q))
-              either (inr q) = eqb-true (getD (finalFields (highest rs) rs) 0 0) 0 (both (eqb (getD (finalFields (highest rs) rs) 0 0) 0) (eqb (getD (finalFields (highest rs) rs) 1 0) 0) q .0)
+              either : (eqb (getD (markFields (highest rs) rs) 0 0) 1 ≡ true) ⊎ (eqb (getD (markFields (highest rs) rs) 0 0) 0 && eqb (getD (markFields (highest rs) rs) 1 0) 0 ≡ true) → getD (markFields (highest rs) rs) 0 0 ≡ 0
+              either (inl q) = absurd (z (eqb-true (getD (markFields (highest rs) rs) 0 0) 1 q))
+              either (inr q) = eqb-true (getD (markFields (highest rs) rs) 0 0) 0 (both (eqb (getD (markFields (highest rs) rs) 0 0) 0) (eqb (getD (markFields (highest rs) rs) 1 0) 0) q .0)
 
           all : isLed p (highest rs) ≡ false → Fours (λ c d. d ≡ highest rs → ⊥) (p .links)
           all q =

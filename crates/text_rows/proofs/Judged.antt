@@ -21,7 +21,7 @@ use Rattle.sheet.proofs.Below.{allBelow-of, sumBelow-same}
 use Rattle.sheet.proofs.Apart.{both}
 use Rattle.sheet.proofs.Encoding.{bits-lt}
 use Rattle.text_rows.specs.Rows.{Row, link, final, firstNode, onGrid, unitsOf, weightsOnGrid, readRows}
-use Rattle.text_rows.specs.Convert.{fieldOf, linkFrom, countFrom, finalFields, linksIn, nodesIn, partsOfRows, fieldsHold, lengthOf, numberBy, rowsNumber, orNoRows}
+use Rattle.text_rows.specs.Convert.{fieldOf, linkFrom, countFrom, markFields, linksIn, nodesIn, partsOfRows, fieldsHold, lengthOf, numberBy, rowsNumber, orNoRows}
 use Rattle.text_rows.proofs.Segments.{segments, lengths, length-segments, length-links}
 use Rattle.text_rows.proofs.Filled.{Named, named, inside, links-by-node, segments-flat, length-threes, getD-segments, finals-two}
 
@@ -101,24 +101,24 @@ each-weight (link s t i o w ∷ rs) e = let h = both (onGrid w) (weightsOnGrid r
 each-weight (final v w ∷ rs) e = each-weight rs (both (onGrid w) (weightsOnGrid rs) e .1)
 
 -- ---- marks
-pub well-marked : (v : ℕ) (rs : List Row) → wellMarked (getD (finalFields v rs) 0 0) (getD (finalFields v rs) 1 0) ≡ true
-unfolding finalFields
+pub well-marked : (v : ℕ) (rs : List Row) → wellMarked (getD (markFields v rs) 0 0) (getD (markFields v rs) 1 0) ≡ true
+unfolding markFields
 well-marked v [] = refl
 well-marked v (link s t i o w ∷ rs) = well-marked v rs
 well-marked v (final u w ∷ rs) = go (eqb u v) (well-marked v rs)
   where
-    go : (b : Bool) → wellMarked (getD (finalFields v rs) 0 0) (getD (finalFields v rs) 1 0) ≡ true → wellMarked (getD (cond b (1 ∷ fieldOf w ∷ []) (finalFields v rs)) 0 0) (getD (cond b (1 ∷ fieldOf w ∷ []) (finalFields v rs)) 1 0) ≡ true
+    go : (b : Bool) → wellMarked (getD (markFields v rs) 0 0) (getD (markFields v rs) 1 0) ≡ true → wellMarked (getD (cond b (1 ∷ fieldOf w ∷ []) (markFields v rs)) 0 0) (getD (cond b (1 ∷ fieldOf w ∷ []) (markFields v rs)) 1 0) ≡ true
     go true e = refl
     go false e = e
 
-final-on-grid : (v : ℕ) (rs : List Row) → weightsOnGrid rs ≡ true → eqb (getD (finalFields v rs) 0 0) 0 || onGridBits (getD (finalFields v rs) 1 0) ≡ true
-unfolding finalFields weightsOnGrid
+final-on-grid : (v : ℕ) (rs : List Row) → weightsOnGrid rs ≡ true → eqb (getD (markFields v rs) 0 0) 0 || onGridBits (getD (markFields v rs) 1 0) ≡ true
+unfolding markFields weightsOnGrid
 final-on-grid v [] e = refl
 final-on-grid v (link s t i o w ∷ rs) e = final-on-grid v rs (both (onGrid w) (weightsOnGrid rs) e .1)
 final-on-grid v (final u w ∷ rs) e = go (eqb u v) (both (onGrid w) (weightsOnGrid rs) e) (final-on-grid v rs)
   where
-    go : (b : Bool) → (onGrid w ≡ true) × (weightsOnGrid rs ≡ true) → (weightsOnGrid rs ≡ true → eqb (getD (finalFields v rs) 0 0) 0 || onGridBits (getD (finalFields v rs) 1 0) ≡ true)
-        → eqb (getD (cond b (1 ∷ fieldOf w ∷ []) (finalFields v rs)) 0 0) 0 || onGridBits (getD (cond b (1 ∷ fieldOf w ∷ []) (finalFields v rs)) 1 0) ≡ true
+    go : (b : Bool) → (onGrid w ≡ true) × (weightsOnGrid rs ≡ true) → (weightsOnGrid rs ≡ true → eqb (getD (markFields v rs) 0 0) 0 || onGridBits (getD (markFields v rs) 1 0) ≡ true)
+        → eqb (getD (cond b (1 ∷ fieldOf w ∷ []) (markFields v rs)) 0 0) 0 || onGridBits (getD (cond b (1 ∷ fieldOf w ∷ []) (markFields v rs)) 1 0) ≡ true
     go true h later = field-on-grid w (h .0)
     go false h later = later (h .1)
 
@@ -139,9 +139,9 @@ module _ (rs : List Row) where
   unfolding partsOfRows
   links-are = sym (segments-flat n (λ v. flatMap (linkFrom v) rs))
 
-  pub nodes-are : p .nodes ≡ segments n (λ v. countFrom v rs ∷ finalFields v rs)
+  pub nodes-are : p .nodes ≡ segments n (λ v. countFrom v rs ∷ markFields v rs)
   unfolding partsOfRows
-  nodes-are = sym (segments-flat n (λ v. countFrom v rs ∷ finalFields v rs))
+  nodes-are = sym (segments-flat n (λ v. countFrom v rs ∷ markFields v rs))
 
   pub start-is : p .start ≡ firstNode rs
   unfolding partsOfRows
@@ -159,7 +159,7 @@ module _ (rs : List Row) where
   long-links = ap length links-are ∙ length-segments n (λ v. flatMap (linkFrom v) rs) ∙ links-long n ∙ omega (arith, T-is)
 
   pub long-nodes : length (p .nodes) ≡ 3 * n
-  long-nodes = ap length nodes-are ∙ length-threes (λ v. countFrom v rs ∷ finalFields v rs) (λ v. ap suc (finals-two v rs)) n
+  long-nodes = ap length nodes-are ∙ length-threes (λ v. countFrom v rs ∷ markFields v rs) (λ v. ap suc (finals-two v rs)) n
 
   pub link-count : linkCount p ≡ linksIn rs
   link-count = omega (arith, long-links)
@@ -167,16 +167,16 @@ module _ (rs : List Row) where
   pub node-count : nodeCount p ≡ n
   node-count = omega (arith, long-nodes)
 
-  node-field : (v i : ℕ) → v < n → i < 3 → getD (p .nodes) (3 * v + i) 0 ≡ getD (countFrom v rs ∷ finalFields v rs) i 0
-  node-field v i h b = ap (λ (l : List ℕ). getD l (3 * v + i) 0) nodes-are ∙ getD-segments (λ v. countFrom v rs ∷ finalFields v rs) (λ v. ap suc (finals-two v rs)) n v i h b
+  node-field : (v i : ℕ) → v < n → i < 3 → getD (p .nodes) (3 * v + i) 0 ≡ getD (countFrom v rs ∷ markFields v rs) i 0
+  node-field v i h b = ap (λ (l : List ℕ). getD l (3 * v + i) 0) nodes-are ∙ getD-segments (λ v. countFrom v rs ∷ markFields v rs) (λ v. ap suc (finals-two v rs)) n v i h b
 
   pub count-is : (v : ℕ) → v < n → count p v ≡ countFrom v rs
   count-is v h = ap (λ (k : ℕ). getD (p .nodes) k 0) (let e : 3 * v ≡ 3 * v + 0 = omega arith in e) ∙ node-field v 0 h (omega arith)
 
-  pub mark-is : (v : ℕ) → v < n → mark p v ≡ getD (finalFields v rs) 0 0
+  pub mark-is : (v : ℕ) → v < n → mark p v ≡ getD (markFields v rs) 0 0
   mark-is v h = node-field v 1 h (omega arith)
 
-  pub finalBits-is : (v : ℕ) → v < n → finalBits p v ≡ getD (finalFields v rs) 1 0
+  pub finalBits-is : (v : ℕ) → v < n → finalBits p v ≡ getD (markFields v rs) 1 0
   finalBits-is v h = node-field v 2 h (omega arith)
 
   pub records-hold : recordsFit p ≡ fieldsHold rs

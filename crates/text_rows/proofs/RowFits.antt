@@ -15,7 +15,7 @@ use Rattle.sheet.proofs.Encoding.{bits-lt}
 use Rattle.decimals.specs.Decimal.{digitsOf}
 use Rattle.text_rows.specs.Fields.{andThen, rowsOf, ended, fieldsOf, numberOf, weightOf}
 use Rattle.text_rows.specs.Rows.{Row, link, final, linkBy, finalBy, rowBy, rowOf, allRows, finalsOnce, readRows, unitsOf}
-use Rattle.text_rows.specs.Convert.{fieldOf, linkFrom, isFrom, countFrom, finalFields, isLink, linksIn, nodesIn, partsOfRows}
+use Rattle.text_rows.specs.Convert.{fieldOf, linkFrom, isFrom, countFrom, markFields, isLink, linksIn, nodesIn, partsOfRows}
 use Rattle.text_rows.proofs.Segments.{segments}
 use Rattle.text_rows.proofs.Judged.{links-are, nodes-are}
 
@@ -137,13 +137,13 @@ count-le v (link s t i o w ∷ rs) = go (eqb s v) (count-le v rs)
     go false h = omega arith
 count-le v (final u w ∷ rs) = omega (arith, count-le v rs)
 
-final-words : (v : ℕ) (rs : List Row) → Words (finalFields v rs)
-unfolding finalFields
+final-words : (v : ℕ) (rs : List Row) → Words (markFields v rs)
+unfolding markFields
 final-words v [] = (omega arith, (omega arith, tt))
 final-words v (link s t i o w ∷ rs) = final-words v rs
 final-words v (final u w ∷ rs) = go (eqb u v) (final-words v rs)
   where
-    go : (b : Bool) → Words (finalFields v rs) → Words (cond b (1 ∷ fieldOf w ∷ []) (finalFields v rs))
+    go : (b : Bool) → Words (markFields v rs) → Words (cond b (1 ∷ fieldOf w ∷ []) (markFields v rs))
     go true h = (omega arith, (field-lt w, tt))
     go false h = h
 
@@ -154,4 +154,4 @@ module _ (rs : List Row) where
   pub nodes-below : linksIn rs < 2 ^ 32 → Below 4294967296 (partsOfRows rs .nodes)
   nodes-below few =
       subst (Below 4294967296) (sym (nodes-are rs))
-      (words-below (segments (nodesIn rs) (λ v. countFrom v rs ∷ finalFields v rs)) (words-segments (nodesIn rs) (λ v. countFrom v rs ∷ finalFields v rs) (λ v. (omega (arith, count-le v rs), final-words v rs))))
+      (words-below (segments (nodesIn rs) (λ v. countFrom v rs ∷ markFields v rs)) (words-segments (nodesIn rs) (λ v. countFrom v rs ∷ markFields v rs) (λ v. (omega (arith, count-le v rs), final-words v rs))))

@@ -22,7 +22,7 @@ use Rattle.sheet.specs.Machine.{Link, Machine, weightOf, bitsOf, sourcesBelow, 
 use Rattle.sheet.proofs.Below.{length-listBelow, getD-listBelow, listBelow-same}
 use Rattle.sheet.proofs.Sources.{length-sources, counts-sum}
 use Rattle.text_rows.specs.Rows.{Row, link, final, firstNode, onGrid, unitsOf, weightsOnGrid, weightIn}
-use Rattle.text_rows.specs.Convert.{fieldOf, linkFrom, isFrom, countFrom, finalFields, linksIn, nodesIn, partsOfRows}
+use Rattle.text_rows.specs.Convert.{fieldOf, linkFrom, isFrom, countFrom, markFields, linksIn, nodesIn, partsOfRows}
 use Rattle.text_rows.specs.RowMachine.{weighs, linkIn, finalIn, machineOfRows}
 use Rattle.text_rows.proofs.Segments.{segments, length-links}
 use Rattle.text_rows.proofs.Filled.{named, flat-snoc}
@@ -107,14 +107,14 @@ node-links v (final u w ∷ rs) e =
     ap (λ (k : ℕ). linksBy (replicate k v) (flatMap (linkFrom v) rs)) (let z : 0 + countFrom v rs ≡ countFrom v rs = omega arith in z) ∙ node-links v rs (both (onGrid w) (weightsOnGrid rs) e .1)
 
 -- ---- a node's final weight
-final-row : (v : ℕ) (rs : List Row) → weightsOnGrid rs ≡ true → finalOf (getD (finalFields v rs) 0 0) (getD (finalFields v rs) 1 0) ≡ finalIn v rs
-unfolding finalFields finalIn weightsOnGrid
+final-row : (v : ℕ) (rs : List Row) → weightsOnGrid rs ≡ true → finalOf (getD (markFields v rs) 0 0) (getD (markFields v rs) 1 0) ≡ finalIn v rs
+unfolding markFields finalIn weightsOnGrid
 final-row v [] e = refl
 final-row v (link s t i o w ∷ rs) e = final-row v rs (both (onGrid w) (weightsOnGrid rs) e .1)
 final-row v (final u w ∷ rs) e = go (eqb u v) (both (onGrid w) (weightsOnGrid rs) e) (final-row v rs)
   where
-    go : (b : Bool) → (onGrid w ≡ true) × (weightsOnGrid rs ≡ true) → (weightsOnGrid rs ≡ true → finalOf (getD (finalFields v rs) 0 0) (getD (finalFields v rs) 1 0) ≡ finalIn v rs)
-        → finalOf (getD (cond b (1 ∷ fieldOf w ∷ []) (finalFields v rs)) 0 0) (getD (cond b (1 ∷ fieldOf w ∷ []) (finalFields v rs)) 1 0) ≡ cond b (some (weighs w)) (finalIn v rs)
+    go : (b : Bool) → (onGrid w ≡ true) × (weightsOnGrid rs ≡ true) → (weightsOnGrid rs ≡ true → finalOf (getD (markFields v rs) 0 0) (getD (markFields v rs) 1 0) ≡ finalIn v rs)
+        → finalOf (getD (cond b (1 ∷ fieldOf w ∷ []) (markFields v rs)) 0 0) (getD (cond b (1 ∷ fieldOf w ∷ []) (markFields v rs)) 1 0) ≡ cond b (some (weighs w)) (finalIn v rs)
     go true h later = ap some (weight-back w (h .0))
     go false h later = later (h .1)
 

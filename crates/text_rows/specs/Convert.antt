@@ -31,10 +31,10 @@ countFrom v [] = 0
 countFrom v (r ∷ rs) = isFrom v r + countFrom v rs
 
 -- its mark and its final weight's field
-unfoldable pub finalFields : ℕ → List Row → List ℕ
-finalFields v [] = 0 ∷ 0 ∷ []
-finalFields v (link s t i o w ∷ rs) = finalFields v rs
-finalFields v (final u w ∷ rs) = cond (eqb u v) (1 ∷ fieldOf w ∷ []) (finalFields v rs)
+unfoldable pub markFields : ℕ → List Row → List ℕ
+markFields v [] = 0 ∷ 0 ∷ []
+markFields v (link s t i o w ∷ rs) = markFields v rs
+markFields v (final u w ∷ rs) = cond (eqb u v) (1 ∷ fieldOf w ∷ []) (markFields v rs)
 
 -- how many rows are links
 abbrev pub isLink : Row → ℕ
@@ -50,10 +50,10 @@ nodesIn rs = highest rs + 1
 
 -- nodes run to the highest number named, a node's links in row order
 unfoldable pub partsOfRows : List Row → Parts
-unfolding highest flatMap listBelow countFrom finalFields
+unfolding highest flatMap listBelow countFrom markFields
 partsOfRows rs = record {
   links = flatMap (λ v. flatMap (linkFrom v) rs) (listBelow (nodesIn rs) (λ v. v));
-  nodes = flatMap (λ v. countFrom v rs ∷ finalFields v rs) (listBelow (nodesIn rs) (λ v. v));
+  nodes = flatMap (λ v. countFrom v rs ∷ markFields v rs) (listBelow (nodesIn rs) (λ v. v));
   start = firstNode rs;
 }
 
