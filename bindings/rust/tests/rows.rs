@@ -165,11 +165,25 @@ fn a_second_final_row() {
     // nodes far apart, so far that no sheet is made
     assert_eq!(refused(b"4294967294\n70000\n4294967294\n"), 8);
     assert_eq!(refused(b"70000\n4294967294\n65536\n131072\n70000 1\n"), 8);
-    // around the nodes that are flagged in one pass
+    // nodes on either side of powers of two
     for node in [16_383, 16_384, 16_385, 32_767, 32_768] {
         let others = "0\n16382\n16386\n32766\n32769\n";
         assert_eq!(refused(format!("{node}\n{others}{node}\n").as_bytes()), 8);
         assert!(Sheet::from_rows(format!("{others}{node}\n").as_bytes()).is_ok());
+    }
+}
+
+#[test]
+fn a_second_final_row_among_many() {
+    // more final rows than a pass over the text keeps: rising, falling and mixed
+    let places: [fn(u32) -> u32; 3] = [|i| i, |i| 9_999 - i, |i| 7 * i % 10_000];
+    for place in places {
+        let text: String = (0..10_000).map(|i| format!("{}\n", 1_000 * place(i))).collect();
+        assert_eq!(raw::rows_sheet_bytes(text.as_bytes()), Ok(12 * 9_999_001 + 20));
+        for twice in [0, 1, 4_094, 4_095, 4_096, 4_097, 8_192, 9_999] {
+            let more = format!("{text}{}\n", 1_000 * twice);
+            assert_eq!(raw::rows_sheet_bytes(more.as_bytes()), Err(Refusal::Rows));
+        }
     }
 }
 
