@@ -17,7 +17,7 @@ use port::Port;
 
 const USAGE: &str = "usage:
   bench MILLISECONDS               prints the tables; each part of a row takes about twice so long
-  bench rows MILLISECONDS          prints those of text rows alone
+  bench rows MILLISECONDS          prints those of text rows
   bench repeat MACHINE CALL TIMES  makes one call of the library again and again, for a profile: a
                                    machine of the first table, and distances or n";
 
@@ -37,8 +37,6 @@ fn print_tables(time: Duration) {
     table::print("Growth with n", &tables[1], false);
     table::print("Growth with the links", &tables[2], false);
     table::print_goals(&tables);
-    println!();
-    rows::print(&sheets::written(), time);
 }
 
 fn repeat(name: &str, call: &str, times: usize) -> Option<()> {

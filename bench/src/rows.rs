@@ -309,5 +309,4 @@ pub fn print(kinds: &[Kind], time: Duration) {
             ratio(times, 0, 1)
         );
     }
-    println!();
 }
