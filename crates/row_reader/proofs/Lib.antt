@@ -8,5 +8,6 @@ pub mod Rowing
 pub mod Steps
 pub mod ReadBench
 pub mod Surveys
-pub mod FinalRows
 pub mod LeftFits
+pub mod Kept
+pub mod FinalRows

@@ -1,56 +1,111 @@
-// Whether no node has two final rows, found in windows of nodes.
+// Whether no node has two final rows, found in passes over the text.
 ghost use mathlib.Core.Path.{_≡_};
-ghost use Prim.Native.Nat.{_^_, min};
+ghost use mathlib.Core.List.{[]};
+ghost use Prim.Native.Nat.{_+_, _^_, _≤_, _<_};
+ghost use lib.ListN.{length};
 ghost use Rattle.row_reader.specs.Places.{rowsLeft};
-ghost use Rattle.row_reader.specs.FinalRows.{noFlags, seenFinal, flagsFinal, seenRead, flagsRead, passFrom, onceIn};
+ghost use Rattle.row_reader.specs.FinalRows.{most, falling, told, has, putIn, withNew, withFinal, withRead, passFrom, onceIn};
 use crate::row::Read;
 use crate::row::row_at;
 use crate::survey::end_of;
 
-// So many nodes have a flag in a pass.
-const WINDOW: usize = 16384;
+// So many final nodes are kept in a pass.
+const KEPT: usize = 4096;
 
 // Every node is below this.
 const NODES: u64 = 0x1_0000_0000;
 
-// What a pass finds: a node's second final row in its window, or the least final node behind it.
+// A pass under way: a node's second final row is met, or so many nodes are kept, rising, and those from `limit` on are left.
+pub enum Pass {
+    Twice,
+    On { count: usize, limit: u64 },
+}
+
+// What a pass finds: a node's second final row, or where the next pass begins.
 pub enum Seen {
     Twice,
     Next(u64),
 }
 
-fn lesser(a: u64, b: u64) -> u64
-    ensures { λ r. ⌜ r ≡ min a b ⌝ }
+fn wide(x: u32) -> u64
+    ensures { λ r. ⌜ r ≡ x ⌝ }
 {
-    if b < a { b } else { a }
+    x as u64
 }
 
-// A final row more.
-fn with_final(flags: &mut [bool; WINDOW], first: u64, least: u64, node: u32) -> Seen
-    ensures { λ r. ⌜ r ≡ seenFinal first (now (flags .entry)) least node ⌝ }
-    ensures { λ _. ⌜ now (flags .exit) ≡ flagsFinal first (now (flags .entry)) node ⌝ }
+// Puts a node among the kept ones, from the back: final rows mostly rise. True where it is there already.
+fn put(kept: &mut [u32; KEPT], count: usize, node: u32) -> bool
+    requires { ⌜ count < most ⌝ }
+    ensures { λ r. ⌜ r ≡ has node (falling (now (kept .entry)) count) ⌝ }
+    ensures { λ _. ⌜ now (kept .exit) ≡ putIn node (now (kept .entry)) count ⌝ }
+{
+    let mut i = count;
+    while 0 < i {
+        let j = i - 1;
+        let before = kept[j];
+        if before <= node {
+            kept[i] = node;
+            return before == node;
+        }
+        kept[i] = before;
+        i = j;
+    }
+    kept[0] = node;
+    false
+}
+
+// A node more is kept.
+fn with_new(kept: &mut [u32; KEPT], count: usize, limit: u64, node: u32) -> Pass
+    requires { ⌜ count < most ⌝ }
+    requires { ⌜ length (now kept) ≡ most ⌝ }
+    ensures { λ r. ⌜ told r (now (kept .exit)) ≡ withNew node (falling (now (kept .entry)) count) limit ⌝ }
+    ensures { λ _. ⌜ length (now (kept .exit)) ≡ most ⌝ }
+{
+    let twice = put(kept, count, node);
+    if twice {
+        return Pass::Twice;
+    }
+    Pass::On {
+        count: count + 1,
+        limit,
+    }
+}
+
+// A final row more. Where no more nodes can be kept, the greatest is left to the next pass.
+fn with_final(kept: &mut [u32; KEPT], first: u64, count: usize, limit: u64, node: u32) -> Pass
+    requires { ⌜ count ≤ most ⌝ }
+    requires { ⌜ length (now kept) ≡ most ⌝ }
+    ensures { λ r. ⌜ told r (now (kept .exit)) ≡ withFinal first node (falling (now (kept .entry)) count) limit ⌝ }
+    ensures { λ _. ⌜ length (now (kept .exit)) ≡ most ⌝ }
 {
     let v = node as u64;
     if v < first {
-        return Seen::Next(least);
+        return Pass::On { count, limit };
     }
-    let i = (v - first) as usize;
-    if WINDOW <= i {
-        return Seen::Next(lesser(least, v));
+    if limit <= v {
+        return Pass::On { count, limit };
     }
-    let twice = flags[i];
-    flags[i] = true;
-    if twice {
-        Seen::Twice
-    } else {
-        Seen::Next(least)
+    if count < KEPT {
+        return with_new(kept, count, limit, node);
     }
+    let left = KEPT - 1;
+    let greatest = kept[left];
+    let lower = wide(greatest);
+    if greatest <= node {
+        return Pass::On {
+            count: left,
+            limit: lower,
+        };
+    }
+    with_new(kept, left, lower, node)
 }
 
 // A row more.
-fn with_row(flags: &mut [bool; WINDOW], first: u64, least: u64, r: Read) -> Seen
-    ensures { λ x. ⌜ x ≡ seenRead first (now (flags .entry)) least r ⌝ }
-    ensures { λ _. ⌜ now (flags .exit) ≡ flagsRead first (now (flags .entry)) r ⌝ }
+fn with_row(kept: &mut [u32; KEPT], first: u64, count: usize, limit: u64, r: Read) -> Pass
+    requires { ⌜ count ≤ most ⌝ }
+    requires { ⌜ length (now kept) ≡ most ⌝ }
+    ensures { λ x. ⌜ told x (now (kept .exit)) ≡ withRead first (falling (now (kept .entry)) count) limit r ⌝ }
+    ensures { λ _. ⌜ length (now (kept .exit)) ≡ most ⌝ }
 {
     match r {
         Read::Link {
@@ -60,39 +115,41 @@ fn with_row(flags: &mut [bool; WINDOW], first: u64, least: u64, r: Read) -> Seen
             olabel: _,
             weight: _,
             end: _,
-        } => Seen::Next(least),
+        } => Pass::On { count, limit },
         Read::Final {
             node,
             weight: _,
             end: _,
-        } => with_final(flags, first, least, node),
-        Read::Unreadable => Seen::Twice,
+        } => with_final(kept, first, count, limit, node),
+        Read::Unreadable => Pass::Twice,
     }
 }
 
-// No flag is set.
-fn no_flags() -> [bool; WINDOW]
-    ensures { λ r. ⌜ r ≡ noFlags ⌝ }
+// Room for the nodes of a pass.
+fn no_nodes() -> [u32; KEPT]
+    ensures { λ r. ⌜ length r ≡ most ⌝ }
 {
-    [false; WINDOW]
+    [0; KEPT]
 }
 
 // One pass over the final rows at nodes from `first` on.
-fn window_once(text: &[u8], first: u64) -> Seen
-    ensures { λ r. ⌜ r ≡ passFrom first noFlags (2 ^ 32) (rowsLeft (now (text .entry)) 0) ⌝ }
+fn pass_from(text: &[u8], first: u64) -> Seen
+    ensures { λ r. ⌜ r ≡ passFrom first [] (2 ^ 32) (rowsLeft (now (text .entry)) 0) ⌝ }
 {
-    let mut flags = no_flags();
-    let mut least = NODES;
+    let mut kept = no_nodes();
+    let mut count = 0usize;
+    let mut limit = NODES;
     let mut at = 0usize;
     while at < text.len() {
         let r = row_at(text, at);
-        let Seen::Next(n) = with_row(&mut flags, first, least, r) else {
+        let Pass::On { count: n, limit: l } = with_row(&mut kept, first, count, limit, r) else {
             return Seen::Twice;
         };
-        least = n;
+        count = n;
+        limit = l;
         at = end_of(r, at);
     }
-    Seen::Next(least)
+    Seen::Next(limit)
 }
 
 // Whether no node has two final rows; false too where a row cannot be read.
@@ -101,7 +158,7 @@ pub fn finals_once(text: &[u8]) -> bool
 {
     let mut first = 0u64;
     while first < NODES {
-        let Seen::Next(n) = window_once(text, first) else {
+        let Seen::Next(n) = pass_from(text, first) else {
             return false;
         };
         first = n;

@@ -19,8 +19,8 @@ abbrev μ-loop : tie.MeasureT-loop
 loop-holds : tie.Need-loop-holds Inv-loop μ-loop
 loop-holds c = (from-begin (rowsLeft (now (c .before .args .text)) 0), λ h. absurd (omega (arith, h)))
 
-window-once-requires : tie.Need-window-once-requires Inv-loop μ-loop
-window-once-requires c κs = search needs
+pass-from-requires : tie.Need-pass-from-requires Inv-loop μ-loop
+pass-from-requires c κs = search needs
 
 enum-known-n : tie.Need-enum-known-n Inv-loop μ-loop
 enum-known-n c = search needs
@@ -32,14 +32,14 @@ returns : tie.Need-returns Inv-loop μ-loop
 returns c =
     let text = now (c .before .before .before .before .before .before .args .text) in
     let turn = c .before .before .before .before .loop in
-    sym (once-twice (turn .first) (rowsLeft text 0) (sym (c .before .before .window-once .ensures) ∙ c .enum-told .given .1)) ∙ turn .inv .0
+    sym (once-twice (turn .first) (search needs) (rowsLeft text 0) (sym (c .before .before .pass-from .ensures) ∙ c .enum-told .given .1)) ∙ turn .inv .0
 
 loop-less : tie.Need-loop-less Inv-loop μ-loop
 loop-less c =
     let text = now (c .before .before .before .before .before .before .before .args .text) in
     let turn = c .before .before .before .before .before .loop in
     let next = c .before .n .given in
-    let goes = once-next (turn .first) text (next .0 .0) (search needs) (sym (c .before .before .before .window-once .ensures) ∙ next .1) in
+    let goes = once-next (turn .first) (search needs) text (next .0 .0) (sym (c .before .before .before .pass-from .ensures) ∙ next .1) in
     omega (arith, goes .later, c .before .before .before .before .loop-test)
 
 loop-again : tie.Need-loop-again Inv-loop μ-loop
@@ -47,7 +47,7 @@ loop-again c =
     let text = now (c .before .before .before .before .before .before .before .args .text) in
     let turn = c .before .before .before .before .before .loop in
     let next = c .before .n .given in
-    let goes = once-next (turn .first) text (next .0 .0) (search needs) (sym (c .before .before .before .window-once .ensures) ∙ next .1) in
+    let goes = once-next (turn .first) (search needs) text (next .0 .0) (sym (c .before .before .before .pass-from .ensures) ∙ next .1) in
     (sym (goes .same) ∙ turn .inv .0, goes .ends)
 
 returns-2 : tie.Need-returns-2 Inv-loop μ-loop
@@ -62,7 +62,7 @@ finals-once-spec =
     Inv-loop
     μ-loop
     loop-holds
-    window-once-requires
+    pass-from-requires
     enum-known-n
     enum-told
     returns

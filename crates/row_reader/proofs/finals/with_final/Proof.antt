@@ -1,48 +1,82 @@
-use mathlib.Core.Path.{sym, ap, _∙_}
+use mathlib.Core.Path.{_≡_, sym, ap, _∙_}
+use Prim.Native.Nat.{suc}
 use denote.Ref.{now}
 use borrow.Author.Needs.{needs}
-use Rattle.row_reader.specs.declared.finals.Seen.the-variants as Seen
-use Rattle.row_reader.proofs.FinalRows.{seen-below, flags-below, seen-behind, flags-behind, seen-flagged, seen-new, flags-within}
+use Rattle.row_reader.specs.FinalRows.{on, falling, withNew}
+use Rattle.row_reader.proofs.FinalRows.{final-below, final-behind, final-new, final-stays, final-less}
 use Rattle.row_reader.proofs.finals.with_final.Statement.{statement}
 use Rattle.row_reader.proofs.finals.with_final.Tie as tie
 
 returns : tie.Need-returns
 returns c =
-    let a = c .before .args in
-    (sym (seen-below (a .first) (now (a .flags)) (a .least) (a .node) (c .if1 .taken)), sym (flags-below (a .first) (now (a .flags)) (a .least) (a .node) (c .if1 .taken)))
-
-lesser-requires : tie.Need-lesser-requires
-lesser-requires c κs = search needs
+    let a = c .before .args in (
+      sym (final-below (a .first) (a .node) (now (a .kept)) (a .count) (a .limit) (c .if1 .taken)),
+      c .before .pre .1,
+    )
 
 returns-2 : tie.Need-returns-2
 returns-2 c =
-    let a = c .before .before .before .args in
-    (ap Seen.Next (c .lesser .ensures) ∙ sym (seen-behind (a .first) (now (a .flags)) (a .least) (a .node) (search needs) (search needs)), sym (flags-behind (a .first) (now (a .flags)) (a .least) (a .node) (search needs) (search needs)))
+    let a = c .before .before .args in (
+      sym (final-behind (a .first) (a .node) (now (a .kept)) (a .count) (a .limit) (search needs) (search needs)),
+      c .before .before .pre .1,
+    )
 
-element-copy-out-twice : tie.Need-element-copy-out-twice
-element-copy-out-twice c = search needs
-
-element-write-flags : tie.Need-element-write-flags
-element-write-flags c = search needs
+with-new-requires : tie.Need-with-new-requires
+with-new-requires c κs = search needs
 
 returns-3 : tie.Need-returns-3
 returns-3 c =
-    let a = c .before .before .before .before .args in
-    (sym (seen-flagged (a .first) (now (a .flags)) (a .least) (a .node) (search needs) (search needs) (c .if3 .taken)), sym (flags-within (a .first) (now (a .flags)) (a .least) (a .node) (search needs) (search needs)))
+    let a = c .before .before .before .before .before .args in (
+      c .with-new .ensures .0
+          ∙ sym (final-new (a .first) (a .node) (now (a .kept)) (a .count) (a .limit) (search needs) (search needs) (search needs)),
+      c .with-new .ensures .1,
+    )
+
+sub-left : tie.Need-sub-left
+sub-left c = search needs
+
+mul-greatest : tie.Need-mul-greatest
+mul-greatest c = search needs
+
+element-copy-out-greatest : tie.Need-element-copy-out-greatest
+element-copy-out-greatest c = search needs
+
+wide-requires : tie.Need-wide-requires
+wide-requires c κs = search needs
 
 returns-4 : tie.Need-returns-4
 returns-4 c =
-    let a = c .before .before .before .before .args in
-    (sym (seen-new (a .first) (now (a .flags)) (a .least) (a .node) (search needs) (search needs) (c .if3 .left)), sym (flags-within (a .first) (now (a .flags)) (a .least) (a .node) (search needs) (search needs)))
+    let a = c .before .before .before .before .before .before .args in
+    let full : a .count ≡ suc 4095 = search needs in (
+      ap (on (falling (now (a .kept)) 4095)) (c .before .wide .ensures)
+          ∙ sym (final-stays (a .first) (a .node) (now (a .kept)) (a .count) (a .limit) (search needs) (search needs) full (search needs) (c .if4 .taken)),
+      c .before .before .before .before .before .before .pre .1,
+    )
+
+with-new-requires-2 : tie.Need-with-new-requires-2
+with-new-requires-2 c κs = search needs
+
+returns-5 : tie.Need-returns-5
+returns-5 c =
+    let a = c .before .before .before .before .before .before .before .before .args in
+    let full : a .count ≡ suc 4095 = search needs in (
+      c .with-new2 .ensures .0 ∙ ap (withNew (a .node) (falling (now (a .kept)) 4095)) (c .before .before .before .wide .ensures)
+          ∙ sym (final-less (a .first) (a .node) (now (a .kept)) (a .count) (a .limit) (search needs) (search needs) full (search needs) (c .before .before .if4 .left)),
+      c .with-new2 .ensures .1,
+    )
 
 pub with-final-spec : {M : Type 1} → statement M
 with-final-spec =
     tie.close
     (tie.spec
     returns
-    lesser-requires
     returns-2
-    element-copy-out-twice
-    element-write-flags
+    with-new-requires
     returns-3
-    returns-4)
+    sub-left
+    mul-greatest
+    element-copy-out-greatest
+    wide-requires
+    returns-4
+    with-new-requires-2
+    returns-5)

@@ -1,7 +1,7 @@
 use mathlib.Core.Path.{sym, ap, _∙_}
 use denote.Ref.{now}
 use borrow.Author.Needs.{needs}
-use Rattle.row_reader.specs.FinalRows.{seenRead, flagsRead}
+use Rattle.row_reader.specs.FinalRows.{falling, withRead}
 use Rattle.row_reader.proofs.finals.with_row.Statement.{statement}
 use Rattle.row_reader.proofs.finals.with_row.Tie as tie
 
@@ -20,13 +20,12 @@ enum-told-2 c = search needs
 returns : tie.Need-returns
 returns c =
     let a = c .before .before .args in
-    (sym (ap (seenRead (a .first) (now (a .flags)) (a .least)) (c .enum-told .given .1)), sym (ap (flagsRead (a .first) (now (a .flags))) (c .enum-told .given .1)))
+    (sym (ap (withRead (a .first) (falling (now (a .kept)) (a .count)) (a .limit)) (c .enum-told .given .1)), c .before .before .pre .1)
 
 returns-2 : tie.Need-returns-2
 returns-2 c =
     let a = c .before .before .before .before .before .args in
-    let is = c .before .before .before .r .given .1 in
-    (c .with-final .ensures .0 ∙ sym (ap (seenRead (a .first) (now (a .flags)) (a .least)) is), c .with-final .ensures .1 ∙ sym (ap (flagsRead (a .first) (now (a .flags))) is))
+    (c .with-final .ensures .0 ∙ sym (ap (withRead (a .first) (falling (now (a .kept)) (a .count)) (a .limit)) (c .before .before .before .r .given .1)), c .with-final .ensures .1)
 
 returns-3 : tie.Need-returns-3
 returns-3 c = search needs
