@@ -64,7 +64,7 @@ enum {
 
 /* Bytes of stack that are enough for a call: measured at the limits with a painted stack. Most of it are
  * the queue's record, 12 KB, with some 80 bytes for each level of the heap's recursion; where rows are
- * read, 16 KB of flags, by which a second final row is found. */
+ * read, 16 KB of final nodes, by which a second final row is found. */
 #define YELDMUR_STACK 20480u
 
 /* The start of a sheet that has none, and the word of a link that repeats no input link. */
@@ -86,8 +86,8 @@ uint32_t yeldmur_write_sheet(const uint32_t *links, size_t links_words,
  * run to the highest number named, and a node's links stand in row order. Runs of spaces or tabs part
  * fields and may stand at a row's ends; a newline ends each row, the last too. Numbers are digits
  * within 32 bits. Weights, taken exactly, are digits, with an optional minus sign before (-0 is 0) and
- * perhaps a point and one to six digits after. The text is read a few times, and where final rows name
- * nodes from 16,384 on, once more for each run of 16,384 nodes that they name. */
+ * perhaps a point and one to six digits after. The text is read four times, and once more for each
+ * further 4,096 final rows. */
 uint32_t yeldmur_rows_to_sheet(const uint8_t *text, size_t text_bytes,
                                uint8_t *result, size_t result_bytes, uint64_t *size);
 
