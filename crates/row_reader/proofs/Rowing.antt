@@ -19,6 +19,7 @@ use Rattle.row_reader.specs.declared.values.Weight.{Weight}
 use Rattle.row_reader.specs.declared.values.Weight.the-variants as Weight
 use Rattle.row_reader.specs.declared.row.Read.{Read}
 use Rattle.row_reader.specs.declared.row.Read.the-variants as Read
+use Rattle.row_reader.proofs.Places.{none-left, one-more}
 
 either : (b : Bool) (r : Read) → r ≡ Read.Unreadable → cond b r Read.Unreadable ≡ Read.Unreadable
 either true r e = e
@@ -62,6 +63,21 @@ module _ (w : Weight) (bytes end : ℕ) where
       → linkAt (Number.Value s) (Number.Value t) (Number.Value i) (Number.Value o) w bytes end ≡ Read.Link s t i o w (end + 1)
   link-is s t i o h e = λ j. cond (lt-ltb end bytes h j) (cond (e j) (Read.Link s t i o w (end + 1)) Read.Unreadable) Read.Unreadable
 
+-- ---- an answer by the fields that are left and the row's end, from the next field's span
+module _ {text : List ℕ} {at from to : ℕ} {r : Read} (tail : List (List ℕ) → ℕ → Read) (s : Spans text at from to) where
+  pub by-none : from ≡ to → r ≡ tail [] from → r ≡ tail (rowFields text at) (lineEnd text at)
+  by-none e h = let left = none-left text at from to s e in h ∙ sym (λ i. tail (left .0 i) (left .1 i))
+
+  pub by-field : (from ≡ to → ⊥) → r ≡ tail (take (to - from) (drop from text) ∷ rowFields text to) (lineEnd text to) → r ≡ tail (rowFields text at) (lineEnd text at)
+  by-field ne h = let left = one-more text at from to s ne in h ∙ sym (λ i. tail (left .0 i) (left .1 i))
+
+-- and by what is read of a field
+pub by-read : {A : Type 0} {x y : A} {r : Read} (answer : A → Read) → x ≡ y → r ≡ answer x → r ≡ answer y
+by-read answer e h = h ∙ ap answer e
+
+pub by-two : {A : Type 0} {x y z w : A} {r : Read} (answer : A → A → Read) → x ≡ y → z ≡ w → r ≡ answer x z → r ≡ answer y w
+by-two answer e d h = h ∙ (λ i. answer (e i) (d i))
+
 -- ---- and by the definitions
 readable-some : (w : ℤ) → isReadable (weightRead (some w)) ≡ true
 readable-some w = go (onGrid w)
@@ -95,15 +111,14 @@ row-tail x (t ∷ i ∷ o ∷ []) bytes end = ap (λ (r : Read). cond (ltb end b
 row-tail x (t ∷ i ∷ o ∷ w ∷ []) bytes end = ap (λ (r : Read). cond (ltb end bytes) r Read.Unreadable) (link-by (numberOf x) (numberOf t) (numberOf i) (numberOf o) (weightOf w) (end + 1))
 row-tail x (t ∷ i ∷ o ∷ w ∷ y ∷ ys) bytes end = sym (either (ltb end bytes) Read.Unreadable refl)
 
--- a row without fields
-pub row-blank : (text : List ℕ) (at : ℕ) → rowFields text at ≡ [] → rowAt text at ≡ Read.Unreadable
-unfolding rowBy
-row-blank text at e =
-    ap (λ (fs : List (List ℕ)). cond (ltb (lineEnd text at) (length text)) (rowRead (rowBy fs) (lineEnd text at + 1)) Read.Unreadable) e
-    ∙ either (ltb (lineEnd text at) (length text)) Read.Unreadable refl
+-- the row from a place on, by its first field's span
+module _ {text : List ℕ} {at from to : ℕ} (s : Spans text at from to) where
+  abbrev answer : List (List ℕ) → ℕ → Read
+  answer fs end = cond (ltb end (length text)) (rowRead (rowBy fs) (end + 1)) Read.Unreadable
 
-pub row-fields : (text : List ℕ) (at : ℕ) (x : List ℕ) (xs : List (List ℕ)) (end : ℕ) → rowFields text at ≡ x ∷ xs → lineEnd text at ≡ end
-    → firstTail (numberRead (numberOf x)) xs (length text) end ≡ rowAt text at
-row-fields text at x xs end e l =
-    row-tail x xs (length text) end
-    ∙ sym (λ i. cond (ltb (l i) (length text)) (rowRead (rowBy (e i)) (l i + 1)) Read.Unreadable)
+  pub row-none : from ≡ to → Read.Unreadable ≡ rowAt text at
+  unfolding rowBy
+  row-none e = by-none answer s e (sym (either (ltb from (length text)) Read.Unreadable refl))
+
+  pub row-first : {r : Read} → (from ≡ to → ⊥) → r ≡ firstTail (numberRead (numberOf (take (to - from) (drop from text)))) (rowFields text to) (length text) (lineEnd text to) → r ≡ rowAt text at
+  row-first ne h = by-field answer s ne (h ∙ row-tail (take (to - from) (drop from text)) (rowFields text to) (length text) (lineEnd text to))

@@ -1,4 +1,3 @@
-use mathlib.Core.Path.{_≡_, sym, ap, _∙_}
 use mathlib.Core.List.{List, [], _∷_}
 use Prim.Native.Nat.{ℕ, _-_}
 use lib.ListN.{length, take, drop}
@@ -6,7 +5,7 @@ use denote.Ref.{now}
 use Rattle.row_reader.specs.Places.{lineEnd, rowFields}
 use Rattle.row_reader.specs.RowReading.{finalAt, thirdTail, firstTail}
 use Rattle.row_reader.specs.declared.values.Weight.{Weight}
-use Rattle.row_reader.proofs.Places.{none-left, one-more}
+use Rattle.row_reader.proofs.Rowing.{by-none, by-field, by-read, by-two}
 use borrow.Author.Needs.{needs}
 use Rattle.row_reader.proofs.row.after_one.Statement.{statement}
 use Rattle.row_reader.proofs.row.after_one.Tie as tie
@@ -21,9 +20,7 @@ returns : tie.Need-returns
 returns c =
     let args = c .before .before .before .before .args in
     let text = now (args .text) in
-    let a = c .before .before .span-at in
-    let here = none-left text (args .at) (a .result .from) (a .result .to) (a .ensures) (c .before .if1 .taken) in
-    c .final-of .ensures ∙ sym (λ j. firstTail (args .v) (here .0 j) (length text) (here .1 j))
+    by-none (λ fs end. firstTail (args .v) fs (length text) end) (c .before .before .span-at .ensures) (c .before .if1 .taken) (c .final-of .ensures)
 
 span-at-requires-2 : tie.Need-span-at-requires-2
 span-at-requires-2 c κs = search needs
@@ -48,13 +45,11 @@ returns-2 c =
     let args = c .before .before .before .before .before .before .before .before .args in
     let text = now (args .text) in
     let a = c .before .before .before .before .before .before .span-at in
-    let here = one-more text (args .at) (a .result .from) (a .result .to) (a .ensures) (c .before .before .before .before .before .if1 .left) in
     let b = c .before .before .before .before .span-at2 in
-    let then = none-left text (a .result .to) (b .result .from) (b .result .to) (b .ensures) (c .before .before .before .if2 .taken) in
     let x = take (a .result .to - a .result .from) (drop (a .result .from) text) in
-    c .final-of2 .ensures
-    ∙ ap (λ (w : Weight). finalAt (args .v) w (length text) (b .result .from)) (c .before .weight-in .ensures)
-    ∙ sym (λ j. firstTail (args .v) ((here .0 ∙ ap (λ (l : List (List ℕ)). x ∷ l) (then .0)) j) (length text) ((here .1 ∙ then .1) j))
+    by-field (λ fs end. firstTail (args .v) fs (length text) end) (a .ensures) (c .before .before .before .before .before .if1 .left)
+    (by-none (λ fs end. firstTail (args .v) (x ∷ fs) (length text) end) (b .ensures) (c .before .before .before .if2 .taken)
+    (by-read (λ w. finalAt (args .v) w (length text) (b .result .from)) (c .before .weight-in .ensures) (c .final-of2 .ensures)))
 
 sub-number-in : tie.Need-sub-number-in
 sub-number-in c = search needs
@@ -88,14 +83,12 @@ returns-3 c =
     let args = c .before .before .before .before .before .before .before .before .before .before .args in
     let text = now (args .text) in
     let a = c .before .before .before .before .before .before .before .before .span-at in
-    let here = one-more text (args .at) (a .result .from) (a .result .to) (a .ensures) (c .before .before .before .before .before .before .before .if1 .left) in
     let b = c .before .before .before .before .before .before .span-at2 in
-    let then = one-more text (a .result .to) (b .result .from) (b .result .to) (b .ensures) (c .before .before .before .before .before .if2 .left) in
     let x = take (a .result .to - a .result .from) (drop (a .result .from) text) in
     let to = b .result .to in
-    c .after-three .ensures
-    ∙ (λ j. thirdTail (args .v) (c .before .before .before .number-in .ensures j) (c .before .number-in2 .ensures j) (rowFields text to) (length text) (lineEnd text to))
-    ∙ sym (λ j. firstTail (args .v) ((here .0 ∙ ap (λ (l : List (List ℕ)). x ∷ l) (then .0)) j) (length text) ((here .1 ∙ then .1) j))
+    by-field (λ fs end. firstTail (args .v) fs (length text) end) (a .ensures) (c .before .before .before .before .before .before .before .if1 .left)
+    (by-field (λ fs end. firstTail (args .v) (x ∷ fs) (length text) end) (b .ensures) (c .before .before .before .before .before .if2 .left)
+    (by-two (λ t i. thirdTail (args .v) t i (rowFields text to) (length text) (lineEnd text to)) (c .before .before .before .number-in .ensures) (c .before .number-in2 .ensures) (c .after-three .ensures)))
 
 pub after-one-spec : {M : Type 1} → statement M
 after-one-spec =

@@ -1,4 +1,4 @@
-use mathlib.Core.Path.{_≡_, sym, ap, _∙_}
+use mathlib.Core.Path.{refl}
 use mathlib.Core.List.{List, [], _∷_}
 use Prim.Native.Nat.{ℕ, _-_}
 use lib.ListN.{length, take, drop}
@@ -6,7 +6,7 @@ use denote.Ref.{now}
 use Rattle.row_reader.specs.Places.{lineEnd, rowFields}
 use Rattle.row_reader.specs.RowReading.{linkTail, thirdTail}
 use Rattle.row_reader.specs.declared.values.Number.{Number}
-use Rattle.row_reader.proofs.Places.{none-left, one-more}
+use Rattle.row_reader.proofs.Rowing.{by-none, by-field, by-read}
 use borrow.Author.Needs.{needs}
 use Rattle.row_reader.proofs.row.after_three.Statement.{statement}
 use Rattle.row_reader.proofs.row.after_three.Tie as tie
@@ -18,9 +18,7 @@ returns : tie.Need-returns
 returns c =
     let args = c .before .before .before .args in
     let text = now (args .text) in
-    let a = c .before .span-at in
-    let here = none-left text (args .at) (a .result .from) (a .result .to) (a .ensures) (c .if1 .taken) in
-    sym (λ j. thirdTail (args .s) (args .t) (args .i) (here .0 j) (length text) (here .1 j))
+    by-none (λ fs end. thirdTail (args .s) (args .t) (args .i) fs (length text) end) (c .before .span-at .ensures) (c .if1 .taken) refl
 
 sub-number-in : tie.Need-sub-number-in
 sub-number-in c = search needs
@@ -42,11 +40,8 @@ returns-2 c =
     let args = c .before .before .before .before .before .before .args in
     let text = now (args .text) in
     let a = c .before .before .before .before .span-at in
-    let here = one-more text (args .at) (a .result .from) (a .result .to) (a .ensures) (c .before .before .before .if1 .left) in
-    let to = a .result .to in
-    c .after-four .ensures
-    ∙ ap (λ (o : Number). linkTail (args .s) (args .t) (args .i) o (rowFields text to) (length text) (lineEnd text to)) (c .before .number-in .ensures)
-    ∙ sym (λ j. thirdTail (args .s) (args .t) (args .i) (here .0 j) (length text) (here .1 j))
+    by-field (λ fs end. thirdTail (args .s) (args .t) (args .i) fs (length text) end) (a .ensures) (c .before .before .before .if1 .left)
+    (by-read (λ o. linkTail (args .s) (args .t) (args .i) o (rowFields text (a .result .to)) (length text) (lineEnd text (a .result .to))) (c .before .number-in .ensures) (c .after-four .ensures))
 
 pub after-three-spec : {M : Type 1} → statement M
 after-three-spec =
