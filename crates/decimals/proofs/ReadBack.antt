@@ -3,12 +3,11 @@ use mathlib.Core.Path.{_≡_, refl, sym, ap, _∙_}
 use mathlib.Core.Bool.{Bool, true, false, _&&_, cond}
 use mathlib.Core.Option.{Option, none, some}
 use mathlib.Core.List.{List, [], _∷_, _++_}
-use Prim.Native.Nat.{ℕ, zero, suc, _+_, _-_, _*_, _/_, _%_, _^_, _≤_, _<_}
+use Prim.Native.Nat.{ℕ, zero, suc, _+_, _-_, _*_, _/_, _%_, _^_, _<_}
 use native.Mathlib.Nat.{mul-assoc, pow-suc}
 use native.Mathlib.Omega.{arith}
-use lib.Dec.{leb, ltb}
 use borrow.Author.Tests.{lt-ltb, le-leb}
-use Rattle.io.specs.Digits.{glyph, digits}
+use Rattle.io.specs.Digits.{digits}
 use Rattle.decimals.specs.Decimal.{isDigit, withDigit, digitsOnto}
 
 -- one more at the end

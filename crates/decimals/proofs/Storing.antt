@@ -1,13 +1,17 @@
--- Texts stored one after the other are one text. Assumes nothing.
+-- A text stored in an area, and texts stored one after the other as one text. Assumes nothing.
 use mathlib.Core.Path.{_≡_, sym, ap, _∙_}
 use mathlib.Core.List.{List, [], _∷_, _++_}
-use Prim.Native.Nat.{ℕ, _+_, _<_}
+use Prim.Native.Nat.{ℕ, _+_, _≤_, _<_}
 use native.Mathlib.Numerals.{add-one}
 use native.Mathlib.Omega.{arith}
-use lib.ListN.{length, take, getD, set, length-append}
-use lib.Seq.{sets, take-suc, length-take-le}
+use lib.ListN.{length, take, drop, getD, set, length-append}
+use lib.Seq.{sets, sets-eq, take-suc, length-take-le}
 use Rattle.sheet.proofs.Bytes.{sets-append}
 use Rattle.decimals.specs.Stored.{Puts}
+
+-- at the front of an area
+pub sets-front : (old text : List ℕ) → length text ≤ length old → sets old 0 text ≡ text ++ drop (length text) old
+sets-front old text h = sets-eq text old 0 (omega (arith, h)) ∙ ap (λ (k : ℕ). text ++ drop k old) (let e : 0 + length text ≡ length text = omega arith in e)
 
 -- an equal text
 pub puts-same : {old a b new : List ℕ} {at end : ℕ} → a ≡ b → Puts old at a new end → Puts old at b new end

@@ -2,16 +2,16 @@
 use mathlib.Core.Path.{_≡_, refl, sym, ap, _∙_}
 use mathlib.Core.Bool.{Bool, true, false, _&&_, cond}
 use mathlib.Core.Option.{Option, none, some}
-use Prim.Native.Nat.{ℕ, zero, suc, _+_, _-_, _*_, _/_, _%_, _^_, _≤_, _<_, min}
+use Prim.Native.Nat.{ℕ, zero, suc, _+_, _-_, _*_, _/_, _%_, _^_, _≤_, _<_}
 use native.Mathlib.Omega.{arith}
-use lib.Dec.{leb, ltb, eqb}
-use lib.IntN.{ℤ, pos, negsuc, negℤ, natAbs}
+use lib.Dec.{leb, eqb}
+use lib.IntN.{pos, negsuc, negℤ}
 use borrow.Author.Tests.{eq-eqb, ne-eqb, le-leb, lt-leb, leb-true, leb-false}
 use Rattle.tropical_weight.specs.Limits.{weightLimit}
 use Rattle.text_rows.specs.Fields.{andThen}
 use Rattle.text_rows.specs.Rows.{onGrid, unitsOf}
 use Rattle.decimals.specs.Held.{held}
-use Rattle.row_reader.specs.Reading.{magnitudeRead, weightRead, signedBy, unitsIn, signedRead}
+use Rattle.row_reader.specs.Reading.{magnitudeRead, weightRead, unitsIn, signedRead}
 use Rattle.row_reader.specs.declared.values.Magnitude.{Magnitude}
 use Rattle.row_reader.specs.declared.values.Magnitude.the-variants as Magnitude
 use Rattle.row_reader.specs.declared.values.Weight.{Weight}

@@ -1,18 +1,18 @@
 -- Rows and fields at places: a row's next field, its end, and the rows from there on. Assumes nothing.
-use mathlib.Core.Path.{_≡_, refl, sym, ap, _∙_, subst}
+use mathlib.Core.Path.{_≡_, refl, sym, ap, _∙_}
 use mathlib.Core.Bool.{Bool, true, false, not, _&&_, cond}
 use mathlib.Core.Option.{Option, none, some}
 use mathlib.Core.List.{List, [], _∷_}
-use Prim.Native.Nat.{ℕ, zero, suc, _+_, _-_, _≤_, _<_, min}
+use Prim.Native.Nat.{ℕ, zero, suc, _+_, _-_, _≤_, _<_}
 use native.Mathlib.Omega.{arith}
-use lib.Dec.{eqb, ltb}
+use lib.Dec.{ltb}
 use lib.ListN.{length, take, drop, length-take, length-drop, drop-of-length-le}
-use lib.Seq.{drop-drop, take-take, drop-length}
-use borrow.Author.Tests.{eqb-true, lt-ltb, le-ltb, ltb-true, ltb-false}
+use lib.Seq.{drop-drop, take-take}
+use borrow.Author.Tests.{eqb-true, lt-ltb, ltb-true, ltb-false}
 use Rattle.text_rows.specs.Fields.{andThen, isNewline, isBlank, rowsOf, ended, goesOn, fieldsOf}
 use Rattle.text_rows.specs.Rows.{Row, rowOf, allRows, finalsOnce, readRows}
 use Rattle.row_reader.specs.Runs.{runOf, inField, notNewline, notBlank}
-use Rattle.row_reader.specs.Places.{lineOf, lineEnd, rowFields, fieldFrom, fieldTo, Spans, finished, rowsLeft}
+use Rattle.row_reader.specs.Places.{lineOf, lineEnd, rowFields, Spans, finished, rowsLeft}
 use Rattle.row_reader.proofs.Lexing.{rows-run, fields-past, fields-run}
 
 -- ---- a run within its list

@@ -1,11 +1,9 @@
 -- Weights and rows read, by computation. Assumes nothing.
 use mathlib.Core.Path.{_≡_, refl}
-use mathlib.Core.Option.{Option, none, some}
 use mathlib.Core.List.{List, [], _∷_}
 use Prim.Native.Nat.{ℕ}
-use lib.IntN.{ℤ, pos, negsuc}
-use Rattle.decimals.specs.Decimal.{digitsOnto}
-use Rattle.text_rows.specs.Fields.{magnitudeOf, weightOf}
+use lib.IntN.{pos, negsuc}
+use Rattle.text_rows.specs.Fields.{weightOf}
 use Rattle.row_reader.specs.Reading.{weightRead}
 use Rattle.row_reader.specs.declared.values.Weight.{Weight}
 use Rattle.row_reader.specs.declared.values.Weight.the-variants as Weight

@@ -1,5 +1,5 @@
 -- The row reader's answers: by the fields that are left, and by the definitions of rows. Assumes nothing.
-use mathlib.Core.Path.{_≡_, refl, sym, ap, _∙_, subst}
+use mathlib.Core.Path.{_≡_, refl, sym, ap, _∙_}
 use mathlib.Core.Bool.{Bool, true, false, cond}
 use mathlib.Core.Option.{Option, none, some}
 use mathlib.Core.List.{List, [], _∷_}
@@ -9,10 +9,10 @@ use lib.IntN.{ℤ, pos}
 use lib.ListN.{length, take, drop}
 use borrow.Author.Tests.{lt-ltb, le-ltb}
 use Rattle.text_rows.specs.Fields.{numberOf, weightOf}
-use Rattle.text_rows.specs.Rows.{Row, linkBy, finalBy, rowBy, onGrid, unitsOf}
+use Rattle.text_rows.specs.Rows.{linkBy, finalBy, rowBy, onGrid, unitsOf}
 use Rattle.row_reader.specs.Places.{lineEnd, rowFields, Spans}
 use Rattle.row_reader.specs.Reading.{numberRead, weightRead, isReadable}
-use Rattle.row_reader.specs.RowReading.{finalRead, linkRead, finalAt, linkAt, linkTail, thirdTail, firstTail, rowRead, rowAt}
+use Rattle.row_reader.specs.RowReading.{finalRead, linkRead, finalAt, linkAt, firstTail, rowRead, rowAt}
 use Rattle.row_reader.specs.declared.values.Number.{Number}
 use Rattle.row_reader.specs.declared.values.Number.the-variants as Number
 use Rattle.row_reader.specs.declared.values.Weight.{Weight}

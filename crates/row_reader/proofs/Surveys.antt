@@ -1,13 +1,12 @@
 -- The survey of rows: a row more, and all of them. Assumes nothing.
-use mathlib.Core.Path.{_≡_, refl, sym, ap, _∙_, subst}
+use mathlib.Core.Path.{_≡_, refl, sym, ap, _∙_}
 use mathlib.Core.Bool.{Bool, true, false, _&&_, cond}
 use mathlib.Core.Option.{Option, none, some}
 use mathlib.Core.List.{List, [], _∷_}
 use Prim.Native.Nat.{ℕ, _+_, _≤_, _<_, max}
 use native.Mathlib.Omega.{arith}
-use lib.Dec.{ltb}
 use lib.IntN.{ℤ}
-use lib.ListN.{length, drop}
+use lib.ListN.{length}
 use borrow.Author.Tests.{lt-ltb, le-ltb}
 use Rattle.text_rows.specs.Fields.{andThen}
 use Rattle.text_rows.specs.Rows.{Row, link, final, firstNode, highest, highestIn, weightsOnGrid, weightIn, onGrid, unitsOf}
@@ -23,7 +22,7 @@ use Rattle.row_reader.specs.declared.row.Read.the-variants as Read
 use Rattle.row_reader.specs.declared.survey.Survey.{Survey}
 use Rattle.row_reader.specs.declared.survey.Surveyed.{Surveyed}
 use Rattle.row_reader.specs.declared.survey.Surveyed.the-variants as Surveyed
-use Rattle.row_reader.proofs.Steps.{Stepped, step-none, step-link, step-final}
+use Rattle.row_reader.proofs.Steps.{step-none, step-link, step-final}
 
 -- ---- the fold is what the definitions say
 and-true : (b : Bool) → b ≡ (b && true)

@@ -1,8 +1,8 @@
 -- Mirrors the code: rows and fields at places of a text. A reader need not believe it: laws tie it to Rows (proofs/Places). Definitions only.
-use Prim.Native.Nat.{ℕ, suc, _+_, _-_, _≤_, _<_}
+use Prim.Native.Nat.{ℕ, _+_, _≤_}
 use mathlib.Core.Path.{_≡_}
-use mathlib.Core.Bool.{Bool, true, false, cond}
-use mathlib.Core.Option.{Option, none, some}
+use mathlib.Core.Bool.{Bool, true, cond}
+use mathlib.Core.Option.{Option, none}
 use mathlib.Core.List.{List, [], _∷_}
 use lib.ListN.{length, take, drop}
 use Rattle.text_rows.specs.Fields.{isBlank, fieldsOf, rowsOf, ended}

@@ -1,5 +1,5 @@
 -- Mirrors the code: what the readers of fields answer. A reader need not believe it: laws tie it to Fields and Rows (proofs/Weighing). Definitions only.
-use Prim.Native.Nat.{ℕ, _+_, _*_, _/_, _%_}
+use Prim.Native.Nat.{ℕ, _*_, _/_}
 use mathlib.Core.Bool.{Bool, true, false, cond}
 use mathlib.Core.Option.{Option, none, some}
 use lib.IntN.{ℤ, pos, negℤ}

@@ -1,10 +1,10 @@
 -- Mirrors the code: what the reader of a row answers. A reader need not believe it: laws tie it to Rows (proofs/Rowing). Definitions only.
 use Prim.Native.Nat.{ℕ, _+_}
-use mathlib.Core.Bool.{Bool, true, false, cond}
+use mathlib.Core.Bool.{cond}
 use mathlib.Core.Option.{Option, none, some}
 use mathlib.Core.List.{List, [], _∷_}
 use lib.Dec.{ltb}
-use lib.IntN.{ℤ, pos}
+use lib.IntN.{pos}
 use lib.ListN.{length}
 use Rattle.text_rows.specs.Fields.{numberOf, weightOf}
 use Rattle.text_rows.specs.Rows.{Row, link, final, rowBy}

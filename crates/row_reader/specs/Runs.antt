@@ -1,9 +1,8 @@
 -- Mirrors the code: runs of bytes at the front of a text. A reader need not believe it: laws tie it to Fields (proofs/Lexing). Definitions only.
-use Prim.Native.Nat.{ℕ, suc, _+_}
+use Prim.Native.Nat.{ℕ, suc}
 use mathlib.Core.Bool.{Bool, not, _&&_, cond}
 use mathlib.Core.List.{List, [], _∷_}
 use lib.Dec.{eqb}
-use lib.ListN.{take, drop}
 use Rattle.text_rows.specs.Fields.{isBlank, isNewline}
 
 -- how many bytes at the front pass

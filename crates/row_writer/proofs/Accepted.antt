@@ -1,23 +1,20 @@
 -- An accepted sheet: its fields where the code reads them, as its parts hold them, and the numbers of each node's links. Assumes nothing.
 use mathlib.Core.Path.{_≡_, sym, ap, _∙_, subst}
-use mathlib.Core.Bool.{true, _&&_, _||_}
+use mathlib.Core.Bool.{true}
 use mathlib.Core.List.{List}
 use Prim.Native.Nat.{ℕ, suc, _+_, _-_, _*_, _≤_, _<_}
 use native.Mathlib.Numerals.{add-one}
 use native.Mathlib.Omega.{arith}
-use lib.Dec.{ltb}
 use lib.ListN.{length}
-use borrow.Author.Tests.{ltb-true}
 use Rattle.sheet.specs.declared.tr.Trailer.{Trailer}
 use Rattle.sheet.specs.Below.{sumBelow}
 use Rattle.sheet.specs.Words.{word}
 use Rattle.sheet.specs.Sheet.{Parts, linkCount, nodeCount, next, count, mark, partsOf, readNumber, sizesFit, nodesFit}
 use Rattle.sheet.specs.Records.{trailerAt}
-use Rattle.sheet.proofs.Apart.{both}
 use Rattle.sheet.proofs.Below.{sum-mono}
 use Rattle.sheet.proofs.Fields.{length-read, read-fits, read-fields}
 use Rattle.sheet.proofs.Sources.{counts-sum}
-use Rattle.text_rows.specs.Written.{firstOf, hasOwn, isLed, hasRows}
+use Rattle.text_rows.specs.Written.{firstOf}
 use Rattle.text_rows.proofs.RowsBack.{accepted}
 
 module _ (bytes : List ℕ) where
@@ -35,11 +32,6 @@ module _ (bytes : List ℕ) where
     pub start-is : t .start ≡ p .start
     unfolding partsOf
     start-is = ap (λ (t : Trailer). t .start) same
-
-  -- a sheet that has rows has a start
-  pub start-below : hasRows p ≡ true → p .start < nodeCount p
-  unfolding hasRows
-  start-below e = ltb-true (p .start) (nodeCount p) (both (ltb (p .start) (nodeCount p)) (hasOwn p (p .start)) (both (ltb (p .start) (nodeCount p) && hasOwn p (p .start)) (hasOwn p (nodeCount p - 1) || isLed p (nodeCount p - 1)) e .0) .0)
 
   -- ---- fields
   pub next-at : (l : ℕ) → l < linkCount p → word bytes (16 * l + 12) ≡ next p l

@@ -7,12 +7,13 @@ use native.Mathlib.Numerals.{add-one}
 use native.Mathlib.Omega.{arith}
 use lib.Dec.{eqb}
 use lib.ListN.{length, take, drop, length-append}
-use lib.Seq.{sets, sets-eq, take-at}
+use lib.Seq.{take-at}
 use borrow.Author.Tests.{eq-eqb, ne-eqb}
 use Rattle.sheet.specs.Below.{sumBelow, listBelow}
 use Rattle.sheet.specs.Sheet.{Parts, nodeCount, count}
 use Rattle.sheet.proofs.Below.{sum-mono, sumBelow-same, sumBelow-add, sumBelow-only}
 use Rattle.decimals.specs.Stored.{Puts}
+use Rattle.decimals.proofs.Storing.{sets-front}
 use Rattle.text_rows.specs.Written.{linkRow, finalRow, firstOf, nodeRows, textOf}
 use Rattle.row_writer.specs.OtherRows.{otherRows}
 use Rattle.text_rows.proofs.Filled.{flat-snoc}
@@ -48,9 +49,6 @@ module _ (f : ℕ → List ℕ) where
   next-fits i n h = omega (arith, length-texts i, length-texts n, sum-mono (λ j. length (f j)) n (suc i) h)
 
 -- ---- a text at the front of an area
-pub sets-front : (old text : List ℕ) → length text ≤ length old → sets old 0 text ≡ text ++ drop (length text) old
-sets-front old text h = sets-eq text old 0 (omega (arith, h)) ∙ ap (λ (k : ℕ). text ++ drop k old) (let e : 0 + length text ≡ length text = omega arith in e)
-
 pub text-taken : {old text new : List ℕ} {end : ℕ} → Puts old 0 text new end → end ≤ length old → take end new ≡ text
 text-taken {old} {text} {new} {end} p h =
     let size : length text ≡ end = omega (arith, p .ends) in

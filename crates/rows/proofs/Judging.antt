@@ -1,5 +1,5 @@
 -- What the survey and the search for second final rows say together: the tests 8, 1 and 4 of a text, and what the calls answer by them. Assumes nothing.
-use mathlib.Core.Path.{_≡_, refl, sym, ap, _∙_, subst}
+use mathlib.Core.Path.{_≡_, refl, sym, ap, _∙_}
 use mathlib.Core.Bool.{Bool, true, false, not, _&&_, cond}
 use mathlib.Core.Option.{Option, none, some}
 use mathlib.Core.List.{List, _++_}
@@ -7,7 +7,7 @@ use Prim.Native.Nat.{ℕ, _+_, _*_, _^_, _≤_, _<_}
 use native.Mathlib.Omega.{arith}
 use lib.Dec.{ltb, eqb}
 use lib.ListN.{length, drop}
-use borrow.Author.Tests.{ltb-true, lt-ltb, le-ltb, eqb-false, ne-eqb}
+use borrow.Author.Tests.{ltb-true, lt-ltb, le-ltb}
 use Rattle.text_rows.specs.Fields.{andThen}
 use Rattle.text_rows.specs.Rows.{Row, readRows, finalsOnce, weightsOnGrid, highest}
 use Rattle.text_rows.specs.Convert.{linksIn, nodesIn, lengthOf, fieldsHold, numberBy, rowsNumber, orNoRows, rowsIn, sheetOfRows, sheetOver}
@@ -20,7 +20,6 @@ use Rattle.rows.specs.declared.converted.Converted.the-variants as Conve
 use Rattle.row_reader.specs.declared.survey.Survey.{Survey}
 use Rattle.row_reader.specs.declared.survey.Surveyed.{Surveyed}
 use Rattle.row_reader.specs.declared.survey.Surveyed.the-variants as Surveyed
-use Rattle.rows.specs.declared.to_sheet.Judged.{Judged}
 use Rattle.rows.specs.declared.to_sheet.Judged.the-variants.{Rows, Refused}
 use Rattle.row_reader.proofs.Places.{rows-begin}
 

@@ -1,5 +1,5 @@
 -- The sheet that a text that is not refused leaves in an area: the promise of the call. Assumes nothing.
-use mathlib.Core.Path.{_≡_, refl, sym, ap, _∙_, subst}
+use mathlib.Core.Path.{_≡_, refl, sym, ap, _∙_}
 use mathlib.Core.Bool.{Bool, true, false, not, cond, true≢false}
 use mathlib.Core.Option.{Option, none, some}
 use mathlib.Core.List.{List, _++_}
@@ -7,13 +7,14 @@ use Prim.Native.Nat.{ℕ, _+_, _*_, _^_, _≤_, _<_}
 use native.Mathlib.Omega.{arith}
 use lib.Dec.{ltb}
 use lib.ListN.{length, take, drop}
-use lib.Seq.{sets, sets-eq, take-at}
+use lib.Seq.{sets, take-at}
 use borrow.Author.Tests.{ltb-true}
-use Rattle.sheet.specs.Sheet.{Parts, recordsFit, verdict, partsOf, readNumber, sheetOf, sheetLength}
+use Rattle.sheet.specs.Sheet.{Parts, recordsFit, verdict, partsOf, readNumber, sheetOf}
 use Rattle.sheet.specs.Machine.{machineOf, machine}
 use Rattle.sheet.proofs.Apart.{both}
 use Rattle.sheet.proofs.Writing.{length-sheet}
 use Rattle.sheet.proofs.Round.{parts-back, number-back}
+use Rattle.decimals.proofs.Storing.{sets-front}
 use Rattle.text_rows.specs.Rows.{Row, readRows, weightsOnGrid}
 use Rattle.text_rows.specs.Convert.{linksIn, nodesIn, lengthOf, fieldsHold, numberBy, rowsNumber, partsOfRows, rowsIn, sheetOfRows, sheetOver}
 use Rattle.text_rows.specs.RowMachine.{machineOfRows}
@@ -84,7 +85,7 @@ module _ (text : List ℕ) (s : Survey) (g : Passed text s) where
   )
     where
       whole : sets old 0 (sheetOfRows text) ≡ sheetOfRows text ++ drop (length (sheetOfRows text)) old
-      whole = sets-eq (sheetOfRows text) old 0 (omega (arith, sheet-length)) ∙ ap (λ (k : ℕ). sheetOfRows text ++ drop k old) (let z : 0 + length (sheetOfRows text) ≡ length (sheetOfRows text) = omega arith in z)
+      whole = sets-front old (sheetOfRows text) (omega (arith, sheet-length))
 
       front : (size : ℕ) → Length (lengthOf rs) ≡ Length size → take size new ≡ sheetOfRows text
       front size e = ap (take size) (left ∙ whole) ∙ take-at (sheetOfRows text) (drop (length (sheetOfRows text)) old) size (cc sheet-length)

@@ -20,7 +20,8 @@ use Rattle.text_rows.specs.Convert.{rowsNumber, sheetOfRows}
 use Rattle.text_rows.specs.Written.{hasRows, textOf, textNumber, textOver}
 use Rattle.rows.specs.Answers.{convertedBy, textAnswer, textMeasured, Returned, NoText}
 use Rattle.rows.proofs.Making.{no-text}
-use Rattle.row_writer.proofs.Measured.{sets-front, text-taken}
+use Rattle.decimals.proofs.Storing.{sets-front}
+use Rattle.row_writer.proofs.Measured.{text-taken}
 use Rattle.text_rows.proofs.Measuring.{inRoom, text-in-room}
 use Rattle.text_rows.proofs.RowsBack.{written-number, sheet-back, text-number}
 

@@ -1,4 +1,4 @@
--- The sheet of any rows has rows: number 9 is only for sheets that no text converts to. Assumes nothing.
+-- A sheet that has rows has a start. The sheet of any rows has rows: number 9 is only for sheets that no text converts to. Assumes nothing.
 use mathlib.Core.Path.{_≡_, refl, sym, ap, _∙_, subst}
 use mathlib.Core.Logic.{_⊎_, inl, inr}
 use mathlib.Core.Bool.{Bool, true, false, not, _&&_, _||_, cond, false≢true, true≢false}
@@ -6,9 +6,9 @@ use mathlib.Core.Option.{Option, none, some}
 use mathlib.Core.List.{List, [], _∷_, _++_, flatMap}
 use Prim.Native.Nat.{ℕ, zero, suc, _+_, _-_, _*_, _≤_, _<_}
 use native.Mathlib.Omega.{arith}
-use lib.Dec.{eqb}
+use lib.Dec.{eqb, ltb}
 use lib.ListN.{length, getD}
-use borrow.Author.Tests.{eq-eqb, ne-eqb, eqb-true, eqb-false, lt-ltb, not-true, not-false}
+use borrow.Author.Tests.{eq-eqb, ne-eqb, eqb-true, eqb-false, lt-ltb, ltb-true, not-true, not-false}
 use Rattle.sheet.specs.Below.{allBelow}
 use Rattle.sheet.specs.Sheet.{Parts, linkCount, nodeCount, next, count, mark}
 use Rattle.sheet.proofs.Below.{allBelow-at}
@@ -20,6 +20,11 @@ use Rattle.text_rows.specs.Written.{hasOwn, isLed, hasRows}
 use Rattle.text_rows.proofs.Segments.{segments}
 use Rattle.text_rows.proofs.Filled.{Named, named}
 use Rattle.text_rows.proofs.Judged.{Fours, EachLink, fours-segments, fours-rows, well-marked, first-named, links-are, start-is, long-links, node-count, count-is, mark-is}
+
+pub start-below : (p : Parts) → hasRows p ≡ true → p .start < nodeCount p
+unfolding hasRows
+start-below p e =
+    ltb-true (p .start) (nodeCount p) (both (ltb (p .start) (nodeCount p)) (hasOwn p (p .start)) (both (ltb (p .start) (nodeCount p) && hasOwn p (p .start)) (hasOwn p (nodeCount p - 1) || isLed p (nodeCount p - 1)) e .0) .0)
 
 -- ---- from all words of links back to the rows
 abbrev Whole : List ℕ → Type 0

@@ -1,13 +1,12 @@
 -- The numbers of rows that are read are 32-bit, and so are the words of their sheet. Assumes nothing.
-use mathlib.Core.Path.{_≡_, refl, sym, ap, _∙_, subst}
+use mathlib.Core.Path.{_≡_, refl, sym, subst}
 use mathlib.Core.Bool.{Bool, true, false, cond}
 use mathlib.Core.Option.{Option, none, some}
 use mathlib.Core.List.{List, [], _∷_, _++_, flatMap}
-use Prim.Native.Nat.{ℕ, zero, suc, _+_, _*_, _^_, _≤_, _<_}
+use Prim.Native.Nat.{ℕ, zero, suc, _+_, _^_, _≤_, _<_}
 use native.Mathlib.Omega.{arith}
 use lib.Dec.{ltb, eqb}
 use lib.IntN.{ℤ, pos}
-use lib.ListN.{getD, drop}
 use borrow.Author.Tests.{ltb-true}
 use Rattle.tropical_weight.specs.Tropical.{fin}
 use Rattle.sheet.proofs.Round.{Below}
@@ -15,7 +14,7 @@ use Rattle.sheet.proofs.Encoding.{bits-lt}
 use Rattle.decimals.specs.Decimal.{digitsOf}
 use Rattle.text_rows.specs.Fields.{andThen, rowsOf, ended, fieldsOf, numberOf, weightOf}
 use Rattle.text_rows.specs.Rows.{Row, link, final, linkBy, finalBy, rowBy, rowOf, allRows, finalsOnce, readRows, unitsOf}
-use Rattle.text_rows.specs.Convert.{fieldOf, linkFrom, isFrom, countFrom, markFields, isLink, linksIn, nodesIn, partsOfRows}
+use Rattle.text_rows.specs.Convert.{fieldOf, linkFrom, countFrom, markFields, linksIn, nodesIn, partsOfRows}
 use Rattle.text_rows.proofs.Segments.{segments}
 use Rattle.text_rows.proofs.Judged.{links-are, nodes-are}
 

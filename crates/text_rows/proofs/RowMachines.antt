@@ -1,32 +1,31 @@
 -- The machine of the sheet of rows is the machine that the rows say. Assumes nothing.
-use mathlib.Core.Path.{_≡_, refl, sym, ap, _∙_, subst}
-use mathlib.Core.Bool.{Bool, true, false, _&&_, cond}
-use mathlib.Core.Option.{Option, none, some}
+use mathlib.Core.Path.{_≡_, refl, sym, ap, _∙_}
+use mathlib.Core.Bool.{Bool, true, false, cond}
+use mathlib.Core.Option.{none, some}
 use mathlib.Core.List.{List, [], _∷_, _++_, flatMap}
 use Prim.Native.Nat.{ℕ, zero, suc, _+_, _*_, _≤_, _<_}
 use native.Mathlib.Omega.{arith}
 use lib.Dec.{eqb}
 use lib.IntN.{ℤ}
-use lib.Ieee.{Float, binary32, ofBits}
+use lib.Ieee.{Float, ofBits}
 use lib.ListN.{length, getD, replicate, length-append, length-replicate}
 use lib.Seq.{ext-getD}
 use borrow.Author.Tests.{eqb-true, ne-eqb}
 use Rattle.tropical_weight.specs.Limits.{unit}
-use Rattle.tropical_weight.specs.Tropical.{Tropical, fin, one}
+use Rattle.tropical_weight.specs.Tropical.{fin, one}
 use Rattle.tropical_weight.specs.Grid as Grid
 use Rattle.tropical_weight.proofs.Exact.{bits-back}
 use Rattle.tropical_weight.proofs.Grid.{unitsOf-ofK}
-use Rattle.sheet.specs.Below.{listBelow, sumBelow}
-use Rattle.sheet.specs.Sheet.{Parts, noStart, linkCount, nodeCount, ilabel, olabel, linkBits, next, count, mark, finalBits}
-use Rattle.sheet.specs.Machine.{Link, Machine, weightOf, bitsOf, sourcesBelow, startOf, finalOf, linkOf, machineOf}
+use Rattle.sheet.specs.Below.{listBelow}
+use Rattle.sheet.specs.Sheet.{Parts, noStart, linkCount, nodeCount, ilabel, olabel, next, mark, finalBits}
+use Rattle.sheet.specs.Machine.{Link, weightOf, sourcesBelow, startOf, finalOf, linkOf, machineOf}
 use Rattle.sheet.proofs.Below.{length-listBelow, getD-listBelow, listBelow-same}
-use Rattle.sheet.proofs.Sources.{length-sources, counts-sum}
-use Rattle.text_rows.specs.Rows.{Row, link, final, firstNode, onGrid, unitsOf, weightsOnGrid, weightIn}
-use Rattle.text_rows.specs.Convert.{fieldOf, linkFrom, isFrom, countFrom, markFields, linksIn, nodesIn, partsOfRows}
+use Rattle.text_rows.specs.Rows.{Row, link, final, firstNode, onGrid, unitsOf, weightsOnGrid}
+use Rattle.text_rows.specs.Convert.{fieldOf, linkFrom, countFrom, markFields, nodesIn, partsOfRows}
 use Rattle.text_rows.specs.RowMachine.{weighs, linkIn, finalIn, machineOfRows}
 use Rattle.text_rows.proofs.Segments.{segments, length-links}
 use Rattle.text_rows.proofs.Filled.{named, flat-snoc}
-use Rattle.text_rows.proofs.Judged.{few-units, links-are, start-is, link-count, node-count, long-links, count-is, mark-is, finalBits-is, first-named}
+use Rattle.text_rows.proofs.Judged.{few-units, links-are, start-is, node-count, count-is, mark-is, finalBits-is, first-named}
 use Rattle.sheet.proofs.Apart.{both}
 
 -- ---- links by their sources and their words

@@ -11,7 +11,7 @@ use lib.IntN.{ℤ, pos}
 use lib.ListN.{length, getD, take, drop, length-append}
 use lib.Seq.{take-append-seam}
 use lib.Ieee.{binary32, ofBits}
-use borrow.Author.Tests.{eqb-true, eqb-false, ltb-true, le-ltb}
+use borrow.Author.Tests.{eqb-true, eqb-false, le-ltb}
 use Rattle.tropical_weight.specs.Limits.{unit}
 use Rattle.tropical_weight.specs.Grid as Grid
 use Rattle.sheet.specs.Below.{listBelow}
@@ -28,6 +28,7 @@ use Rattle.text_rows.specs.RowsFor.{inMillionths, millionths, linkRowFor
 use Rattle.text_rows.proofs.Texts.{Plain, Lined, lined-append, lined-plain, plain-numeric, numeric-decimal, long-decimal, number-back, weight-back, plain-weight, long-weight, one-field, fields-more, Reads, reads-none, reads-append, reads-line, reads-all, Ends, ends-append, ends-line, ends-all}
 use Rattle.text_rows.proofs.Back.{own-rows, rows-once, parts-again, weights-rows}
 use Rattle.text_rows.proofs.Judged.{numberOfRows, rows-number}
+use Rattle.text_rows.proofs.HasRows.{start-below}
 
 -- ---- one row
 plain-decimal : (n : ℕ) → Plain (decimal n)
@@ -247,18 +248,14 @@ module _ (bytes : List ℕ) (below : Below 256 bytes) (zero-number : readNumber 
   few-nodes : nodeCount p < 4294967296
   few-nodes = subst (λ (k : ℕ). k < 4294967296) (sym (read-fields bytes .nodes-are)) (word-lt bytes (length bytes - 20 + 4 * 2) below)
 
-  start-of : p .start < nodeCount p
-  unfolding hasRows
-  start-of = ltb-true (p .start) (nodeCount p) (both (ltb (p .start) (nodeCount p)) (hasOwn p (p .start)) (both (ltb (p .start) (nodeCount p) && hasOwn p (p .start)) (hasOwn p (nodeCount p - 1) || isLed p (nodeCount p - 1)) has .0) .0)
-
   -- A sheet that is accepted and has rows, written as text, is read as its rows,
   pub rows-back : readRows (textOf p) ≡ some (rowsFor p)
-  rows-back = rows-read p four-of three-of links-in nodes-in (fit .0) (fit .1) (fit .2) start-of few-nodes has
+  rows-back = rows-read p four-of three-of links-in nodes-in (fit .0) (fit .1) (fit .2) (start-below p has) few-nodes has
 
   -- and they convert to that very sheet.
   pub sheet-back : sheetOfRows (textOf p) ≡ bytes
   unfolding sheetOfRows
-  sheet-back = ap sheetOf (parts-read p four-of three-of links-in nodes-in (fit .0) (fit .1) (fit .2) start-of few-nodes has) ∙ bytes-back bytes below (read-fits bytes zero-number)
+  sheet-back = ap sheetOf (parts-read p four-of three-of links-in nodes-in (fit .0) (fit .1) (fit .2) (start-below p has) few-nodes has) ∙ bytes-back bytes below (read-fits bytes zero-number)
 
   -- ---- the converter refuses them only for want of room
   size-is : sheetLength p ≡ length bytes
@@ -273,9 +270,9 @@ module _ (bytes : List ℕ) (below : Below 256 bytes) (zero-number : readNumber 
   pub text-number : (room : ℕ) → rowsNumber (textOf p) room ≡ cond (ltb room (length bytes)) 21 0
   text-number room =
       rows-number (textOf p) room ∙ ap (λ (o : Option (List Row)). numberOfRows o room) rows-back
-      ∙ ap (λ (b : Bool). cond (fieldsHold (rowsFor p) && not b) 4 (writeNumber (partsOfRows (rowsFor p)) room)) (weights-rows p four-of three-of links-in nodes-in (fit .0) (fit .1) (fit .2) start-of)
+      ∙ ap (λ (b : Bool). cond (fieldsHold (rowsFor p) && not b) 4 (writeNumber (partsOfRows (rowsFor p)) room)) (weights-rows p four-of three-of links-in nodes-in (fit .0) (fit .1) (fit .2) (start-below p has))
       ∙ never (fieldsHold (rowsFor p)) (writeNumber (partsOfRows (rowsFor p)) room)
-      ∙ ap (λ (q : Parts). writeNumber q room) (parts-again p four-of three-of links-in nodes-in (fit .0) (fit .1) (fit .2) start-of has)
+      ∙ ap (λ (q : Parts). writeNumber q room) (parts-again p four-of three-of links-in nodes-in (fit .0) (fit .1) (fit .2) (start-below p has) has)
       ∙ write-again room
     where
       never : (a : Bool) (x : ℕ) → cond (a && not true) 4 x ≡ x

@@ -1,11 +1,10 @@
-use mathlib.Core.Path.{_≡_, refl, sym, ap, _∙_}
-use mathlib.Core.Bool.{Bool, not}
+use mathlib.Core.Path.{_≡_, sym, ap, _∙_}
 use Prim.Native.Nat.{ℕ, _+_, _-_, _^_, _≤_, min}
 use native.Mathlib.Omega.{arith}
 use lib.ListN.{length, getD, drop, drop-of-length-le}
 use denote.Ref.{now}
 use borrow.Author.Needs.{needs}
-use borrow.Author.Tests.{not-true, not-false, eqb-true, eqb-false}
+use borrow.Author.Tests.{not-true, not-false}
 use Rattle.decimals.specs.Decimal.{withDigit, digitsOnto, digitsOf}
 use Rattle.decimals.specs.Held.{digitsHeld}
 use Rattle.decimals.specs.declared.read.Digits.the-variants as Digits

@@ -1,4 +1,3 @@
-use native.Mathlib.Omega.{arith}
 use borrow.Author.Needs.{needs}
 use Rattle.decimals.proofs.Holding.{digit-low}
 use Rattle.decimals.proofs.read.with_digit.Statement.{statement}

@@ -1,6 +1,5 @@
-use mathlib.Core.Path.{sym, ap, _∙_}
+use mathlib.Core.Path.{sym, _∙_}
 use borrow.Author.Needs.{needs}
-use borrow.Author.Tests.{eq-eqb, ne-eqb}
 use Rattle.row_reader.proofs.fields.in_field.Statement.{statement}
 use Rattle.row_reader.proofs.fields.in_field.Tie as tie
 

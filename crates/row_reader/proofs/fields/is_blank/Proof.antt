@@ -1,4 +1,3 @@
-use mathlib.Core.Path.{sym, ap, _∙_}
 use borrow.Author.Tests.{eq-eqb, ne-eqb}
 use Rattle.row_reader.proofs.fields.is_blank.Statement.{statement}
 use Rattle.row_reader.proofs.fields.is_blank.Tie as tie

@@ -1,10 +1,9 @@
-use mathlib.Core.List.{List, [], _∷_}
-use Prim.Native.Nat.{ℕ, _-_}
+use mathlib.Core.List.{_∷_}
+use Prim.Native.Nat.{_-_}
 use lib.ListN.{length, take, drop}
 use denote.Ref.{now}
 use Rattle.row_reader.specs.Places.{lineEnd, rowFields}
 use Rattle.row_reader.specs.RowReading.{finalAt, thirdTail, firstTail}
-use Rattle.row_reader.specs.declared.values.Weight.{Weight}
 use Rattle.row_reader.proofs.Rowing.{by-none, by-field, by-read, by-two}
 use borrow.Author.Needs.{needs}
 use Rattle.row_reader.proofs.row.after_one.Statement.{statement}

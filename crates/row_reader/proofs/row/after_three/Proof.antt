@@ -1,11 +1,9 @@
 use mathlib.Core.Path.{refl}
-use mathlib.Core.List.{List, [], _∷_}
-use Prim.Native.Nat.{ℕ, _-_}
-use lib.ListN.{length, take, drop}
+use Prim.Native.Nat.{_-_}
+use lib.ListN.{length}
 use denote.Ref.{now}
 use Rattle.row_reader.specs.Places.{lineEnd, rowFields}
 use Rattle.row_reader.specs.RowReading.{linkTail, thirdTail}
-use Rattle.row_reader.specs.declared.values.Number.{Number}
 use Rattle.row_reader.proofs.Rowing.{by-none, by-field, by-read}
 use borrow.Author.Needs.{needs}
 use Rattle.row_reader.proofs.row.after_three.Statement.{statement}

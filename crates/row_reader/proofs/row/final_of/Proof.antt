@@ -1,4 +1,4 @@
-use mathlib.Core.Path.{_≡_, sym, ap, _∙_}
+use mathlib.Core.Path.{sym, ap, _∙_}
 use borrow.Author.Tests.{not-true, not-false}
 use Rattle.row_reader.specs.RowReading.{finalAt}
 use Rattle.row_reader.specs.declared.values.Number.{Number}

@@ -1,4 +1,4 @@
-use mathlib.Core.Path.{_≡_, sym, ap, _∙_}
+use mathlib.Core.Path.{sym, _∙_}
 use borrow.Author.Tests.{not-true, not-false}
 use Rattle.row_reader.specs.RowReading.{linkAt}
 use Rattle.row_reader.proofs.Rowing.{link-short, link-source, link-next, link-input, link-output, link-weight, link-is}

@@ -1,4 +1,4 @@
-use mathlib.Core.Path.{_≡_, sym, ap}
+use mathlib.Core.Path.{sym, ap}
 use Rattle.row_reader.specs.Surveying.{endOf}
 use Rattle.row_reader.specs.declared.row.Read.{Read}
 use borrow.Author.Needs.{needs}

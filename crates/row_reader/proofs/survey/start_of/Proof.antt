@@ -1,4 +1,4 @@
-use mathlib.Core.Path.{_≡_, sym, ap, _∙_}
+use mathlib.Core.Path.{sym, ap, _∙_}
 use Rattle.row_reader.specs.Surveying.{nodeOf}
 use borrow.Author.Needs.{needs}
 use Rattle.row_reader.proofs.survey.start_of.Statement.{statement}

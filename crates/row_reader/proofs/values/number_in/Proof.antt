@@ -1,4 +1,4 @@
-use mathlib.Core.Path.{_≡_, sym, _∙_}
+use mathlib.Core.Path.{sym, _∙_}
 use denote.Ref.{now}
 use Rattle.row_reader.proofs.Weighing.{number-none, number-large, number-is}
 use borrow.Author.Needs.{needs}

@@ -1,4 +1,4 @@
-use mathlib.Core.Path.{_≡_, sym}
+use mathlib.Core.Path.{sym}
 use Rattle.row_reader.proofs.Grids.{parts-rem, parts-limit, parts-within}
 use borrow.Author.Needs.{needs}
 use Rattle.row_reader.proofs.values.on_grid.Statement.{statement}

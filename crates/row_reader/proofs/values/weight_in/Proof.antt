@@ -1,7 +1,6 @@
-use mathlib.Core.Path.{_≡_, sym, ap, _∙_, subst}
+use mathlib.Core.Path.{sym, ap, _∙_, subst}
 use Prim.Native.Nat.{_≤_}
 use mathlib.Core.Bool.{true, false}
-use lib.ListN.{length}
 use denote.Ref.{now}
 use Rattle.tropical_weight.specs.Limits.{weightLimit}
 use Rattle.text_rows.specs.Fields.{magnitudeOf}

@@ -12,7 +12,8 @@ use Rattle.decimals.proofs.Storing.{puts-same, puts-then}
 use Rattle.text_rows.specs.Written.{firstOf, nodeRows}
 use Rattle.row_writer.specs.OtherRows.{otherRows}
 use Rattle.row_writer.proofs.Stored.{puts-none}
-use Rattle.row_writer.proofs.Accepted.{links-are, nodes-are, start-is, start-below, first-next, first-most}
+use Rattle.text_rows.proofs.HasRows.{start-below}
+use Rattle.row_writer.proofs.Accepted.{links-are, nodes-are, start-is, first-next, first-most}
 use Rattle.row_writer.proofs.Measured.{texts, texts-none, texts-more, text-is, start-fits, other-fits}
 use Rattle.row_writer.proofs.sheet_text.put_rows.Statement.{statement}
 use Rattle.row_writer.proofs.sheet_text.put_rows.Tie as tie
@@ -26,7 +27,7 @@ abbrev μ-loop : tie.MeasureT-loop
 
 -- the start, as the trailer has it
 start-in : (s : tie.Start Inv-loop μ-loop) → s .args .t .start < nodeCount (partsOf (now (s .args .sheet)))
-start-in s = omega (arith, start-is (now (s .args .sheet)) (s .args .t) (s .pre .1 .0), start-below (now (s .args .sheet)) (s .pre .1 .1 .0))
+start-in s = omega (arith, start-is (now (s .args .sheet)) (s .args .t) (s .pre .1 .0), start-below (partsOf (now (s .args .sheet))) (s .pre .1 .1 .0))
 
 first-link-requires : tie.Need-first-link-requires Inv-loop μ-loop
 first-link-requires c κs = let s = c .before .before in (s .pre .0, (links-are (now (s .args .sheet)) (s .args .t) (s .pre .1 .0), start-in s))

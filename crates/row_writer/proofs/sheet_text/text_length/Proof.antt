@@ -7,7 +7,8 @@ use borrow.Author.Needs.{needs}
 use Rattle.sheet.specs.Below.{sumBelow}
 use Rattle.sheet.specs.Sheet.{nodeCount, count, partsOf}
 use Rattle.text_rows.specs.Written.{firstOf, nodeRows}
-use Rattle.row_writer.proofs.Accepted.{links-are, nodes-are, start-below, first-next, first-most}
+use Rattle.text_rows.proofs.HasRows.{start-below}
+use Rattle.row_writer.proofs.Accepted.{links-are, nodes-are, first-next, first-most}
 use Rattle.row_writer.proofs.Measured.{length-text, sum-more}
 use Rattle.row_writer.proofs.sheet_text.text_length.Statement.{statement}
 use Rattle.row_writer.proofs.sheet_text.text_length.Tie as tie
@@ -76,7 +77,7 @@ returns c =
     let p = partsOf (now (s .args .sheet)) in
     let turn = c .before .before .loop in
     let all : turn .v ≡ nodeCount p = omega (arith, turn .inv .0, c .if1 .left, nodes-are (now (s .args .sheet)) (s .args .t) (s .pre .1 .0)) in
-    turn .inv .2 ∙ ap (λ (k : ℕ). sumBelow k (λ u. length (nodeRows p u))) all ∙ sym (length-text p (start-below (now (s .args .sheet)) (s .pre .1 .1)))
+    turn .inv .2 ∙ ap (λ (k : ℕ). sumBelow k (λ u. length (nodeRows p u))) all ∙ sym (length-text p (start-below (partsOf (now (s .args .sheet))) (s .pre .1 .1)))
 
 pub text-length-spec : {M : Type 1} → statement M
 text-length-spec =
