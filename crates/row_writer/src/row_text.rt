@@ -11,6 +11,7 @@ ghost use Rattle.text_rows.specs.Rows.{million};
 ghost use Rattle.text_rows.specs.Written.{partText, magnitudeText, weightText, andNumber, andWeight, linkRow, finalRow};
 use decimals::write::put_decimal;
 use decimals::write::put_text;
+use sheet::tr::link_at;
 use sheet::words::word;
 use tropical_weight::UNIT;
 
@@ -103,12 +104,13 @@ pub fn link_row(sheet: &[u8], v: u32, l: usize, row: &mut [u8]) -> usize
     ensures { λ r. ⌜ Puts (now (row .entry)) 0 (linkRow (partsOf (now (sheet .entry))) v l) (now (row .exit)) r ⌝ }
     ensures { λ r. ⌜ r ≤ 55 ⌝ }
 {
-    let from = 16 * l;
+    let k = link_at(sheet, l);
+    let bits = word(sheet, 16 * l + 8);
     let mut next = put_decimal(row, 0, v);
-    next = put_number(row, next, word(sheet, from + 12));
-    next = put_number(row, next, word(sheet, from));
-    next = put_number(row, next, word(sheet, from + 4));
-    next = put_weight(row, next, word(sheet, from + 8));
+    next = put_number(row, next, k.nextstate);
+    next = put_number(row, next, k.ilabel);
+    next = put_number(row, next, k.olabel);
+    next = put_weight(row, next, bits);
     put_text(row, next, b"\n")
 }
 
