@@ -3,7 +3,8 @@ use Prim.Native.Nat.{ℕ, _*_, _/_}
 use mathlib.Core.Bool.{Bool, true, false, cond}
 use mathlib.Core.Option.{Option, none, some}
 use lib.IntN.{ℤ, pos, negℤ}
-use Rattle.text_rows.specs.Rows.{million, unitsInOne, onGrid, unitsOf}
+use Rattle.text_rows.specs.Fields.{million}
+use Rattle.text_rows.specs.Rows.{unitsInOne, onGrid, unitsOf}
 use Rattle.decimals.specs.declared.read.Digits.{Digits}
 use Rattle.decimals.specs.declared.read.Digits.the-variants as Digits
 use Rattle.row_reader.specs.declared.values.Number.{Number}

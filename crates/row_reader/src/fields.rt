@@ -1,4 +1,4 @@
-// The fields of a row, numbers and weights.
+// The fields of a row.
 ghost use mathlib.Core.Path.{_≡_};
 ghost use Prim.Native.Nat.{_+_, _≤_};
 ghost use lib.ListN.{length, drop};
@@ -19,7 +19,7 @@ fn in_field(c: u8) -> bool
 }
 
 // Past the blanks from a place on.
-pub fn past_blanks(text: &[u8], at: usize) -> usize
+fn past_blanks(text: &[u8], at: usize) -> usize
     requires { ⌜ at ≤ length (now text) ⌝ }
     ensures { λ r. ⌜ (r ≡ at + runOf isBlank (drop at (now (text .entry)))) × (r ≤ length (now (text .entry))) ⌝ }
 {
@@ -34,7 +34,7 @@ pub fn past_blanks(text: &[u8], at: usize) -> usize
 }
 
 // Where a field that begins here ends: at a blank, a newline or the text's end.
-pub fn field_end(text: &[u8], at: usize) -> usize
+fn field_end(text: &[u8], at: usize) -> usize
     requires { ⌜ at ≤ length (now text) ⌝ }
     ensures { λ r. ⌜ (r ≡ at + runOf inField (drop at (now (text .entry)))) × (r ≤ length (now (text .entry))) ⌝ }
 {

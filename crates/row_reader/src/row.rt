@@ -96,18 +96,18 @@ fn after_four(text: &[u8], s: Number, t: Number, i: Number, o: Number, at: usize
     requires { ⌜ at ≤ length (now text) ⌝ }
     ensures { λ r. ⌜ r ≡ linkTail s t i o (rowFields (now (text .entry)) at) (length (now (text .entry))) (lineEnd (now (text .entry)) at) ⌝ }
 {
-    let a = span_at(text, at);
-    let f = a.from;
-    let e = a.to;
-    if f == e {
-        return link_of(s, t, i, o, Weight::Units(0), text.len(), f);
+    let field = span_at(text, at);
+    let from = field.from;
+    let to = field.to;
+    if from == to {
+        return link_of(s, t, i, o, Weight::Units(0), text.len(), from);
     }
-    let b = span_at(text, e);
-    let g = b.from;
-    let h = b.to;
-    if g == h {
-        let w = weight_in(&text[f..e]);
-        return link_of(s, t, i, o, w, text.len(), g);
+    let more = span_at(text, to);
+    let behind = more.from;
+    let end = more.to;
+    if behind == end {
+        let w = weight_in(&text[from..to]);
+        return link_of(s, t, i, o, w, text.len(), behind);
     }
     Read::Unreadable
 }
@@ -117,14 +117,14 @@ fn after_three(text: &[u8], s: Number, t: Number, i: Number, at: usize) -> Read
     requires { ⌜ at ≤ length (now text) ⌝ }
     ensures { λ r. ⌜ r ≡ thirdTail s t i (rowFields (now (text .entry)) at) (length (now (text .entry))) (lineEnd (now (text .entry)) at) ⌝ }
 {
-    let a = span_at(text, at);
-    let f = a.from;
-    let e = a.to;
-    if f == e {
+    let field = span_at(text, at);
+    let from = field.from;
+    let to = field.to;
+    if from == to {
         return Read::Unreadable;
     }
-    let o = number_in(&text[f..e]);
-    after_four(text, s, t, i, o, e)
+    let o = number_in(&text[from..to]);
+    after_four(text, s, t, i, o, to)
 }
 
 // The rest of a row after one field: nothing, a weight, or two numbers and what follows them.
@@ -132,22 +132,22 @@ fn after_one(text: &[u8], v: Number, at: usize) -> Read
     requires { ⌜ at ≤ length (now text) ⌝ }
     ensures { λ r. ⌜ r ≡ firstTail v (rowFields (now (text .entry)) at) (length (now (text .entry))) (lineEnd (now (text .entry)) at) ⌝ }
 {
-    let a = span_at(text, at);
-    let f = a.from;
-    let e = a.to;
-    if f == e {
-        return final_of(v, Weight::Units(0), text.len(), f);
+    let field = span_at(text, at);
+    let from = field.from;
+    let to = field.to;
+    if from == to {
+        return final_of(v, Weight::Units(0), text.len(), from);
     }
-    let b = span_at(text, e);
-    let g = b.from;
-    let h = b.to;
-    if g == h {
-        let w = weight_in(&text[f..e]);
-        return final_of(v, w, text.len(), g);
+    let more = span_at(text, to);
+    let behind = more.from;
+    let end = more.to;
+    if behind == end {
+        let w = weight_in(&text[from..to]);
+        return final_of(v, w, text.len(), behind);
     }
-    let t = number_in(&text[f..e]);
-    let i = number_in(&text[g..h]);
-    after_three(text, v, t, i, h)
+    let t = number_in(&text[from..to]);
+    let i = number_in(&text[behind..end]);
+    after_three(text, v, t, i, end)
 }
 
 // The row that begins at a place of a text: a newline ends it.
@@ -155,12 +155,12 @@ pub fn row_at(text: &[u8], at: usize) -> Read
     requires { ⌜ at ≤ length (now text) ⌝ }
     ensures { λ r. ⌜ r ≡ rowAt (now (text .entry)) at ⌝ }
 {
-    let a = span_at(text, at);
-    let f = a.from;
-    let e = a.to;
-    if f == e {
+    let field = span_at(text, at);
+    let from = field.from;
+    let to = field.to;
+    if from == to {
         return Read::Unreadable;
     }
-    let v = number_in(&text[f..e]);
-    after_one(text, v, e)
+    let v = number_in(&text[from..to]);
+    after_one(text, v, to)
 }

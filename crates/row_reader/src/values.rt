@@ -6,7 +6,7 @@ ghost use mathlib.Core.List.{_∷_};
 ghost use Prim.Native.Nat.{_+_, _*_, _^_, _≤_, _<_};
 ghost use lib.ListN.{length};
 ghost use Rattle.tropical_weight.specs.Limits.{weightLimit};
-ghost use Rattle.text_rows.specs.Fields.{numberOf, partOf, magnitudeOf, weightOf};
+ghost use Rattle.text_rows.specs.Fields.{million, numberOf, partOf, magnitudeOf, weightOf};
 ghost use Rattle.row_reader.specs.Runs.{runOf, notPoint};
 ghost use Rattle.row_reader.specs.Reading.{digitsRead, numberRead, magnitudeRead, weightRead, signedBy, unitsIn, signedRead};
 use decimals::read::Digits;
@@ -53,6 +53,9 @@ fn point_in(field: &[u8]) -> usize
     p
 }
 
+// The most decimals of a weight.
+const DECIMALS: usize = 6;
+
 // Millionths in one at so many decimals.
 const SCALE: [u64; 7] = [MILLION, 100_000, 10_000, 1000, 100, 10, 1];
 
@@ -61,7 +64,7 @@ fn part_in(decimals: &[u8]) -> Digits
     ensures { λ r. ⌜ r ≡ digitsRead (partOf (46 ∷ now (decimals .entry))) ⌝ }
 {
     let n = decimals.len();
-    if 6 < n {
+    if DECIMALS < n {
         return Digits::Unreadable;
     }
     let Digits::Value(value) = digits_in(decimals) else {
@@ -79,8 +82,8 @@ pub enum Magnitude {
 
 // So many ones and millionths.
 fn on_grid(whole: u64, part: u64) -> Magnitude
-    requires { ⌜ (whole ≤ 2 ^ 32) × (part < 1000000) ⌝ }
-    ensures { λ r. ⌜ r ≡ magnitudeRead (some (whole * 1000000 + part)) ⌝ }
+    requires { ⌜ (whole ≤ 2 ^ 32) × (part < million) ⌝ }
+    ensures { λ r. ⌜ r ≡ magnitudeRead (some (whole * million + part)) ⌝ }
 {
     if part * UNITS % MILLION != 0 {
         return Magnitude::Off;

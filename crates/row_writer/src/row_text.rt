@@ -7,7 +7,7 @@ ghost use lib.ListN.{length};
 ghost use Rattle.decimals.specs.Stored.{Puts};
 ghost use Rattle.tropical_weight.specs.Limits.{weightLimit};
 ghost use Rattle.sheet.specs.Sheet.{linkCount, nodeCount, partsOf, readNumber, onGridBits};
-ghost use Rattle.text_rows.specs.Rows.{million};
+ghost use Rattle.text_rows.specs.Fields.{million};
 ghost use Rattle.text_rows.specs.Written.{partText, magnitudeText, weightText, andNumber, andWeight, linkRow, finalRow};
 use decimals::write::put_decimal;
 use decimals::write::put_text;

@@ -55,6 +55,9 @@ unfolding digitsOnto
 numberOf f = andThen (digitsOf f) (λ n. cond (ltb n (2 ^ 32)) (some n) none)
 
 -- ---- weights, in millionths
+abbrev pub million : ℕ
+million = 1000000
+
 -- what stands before the first point
 unfoldable pub beforePoint : List ℕ → List ℕ
 beforePoint [] = []
@@ -72,7 +75,7 @@ partOf [] = some 0
 partOf (point ∷ digits) = andThen (digitsOf digits) (λ n. cond (leb (length digits) 6) (some (n * 10 ^ (6 - length digits))) none)
 
 abbrev pub bothParts : Option ℕ → Option ℕ → Option ℕ
-bothParts whole part = andThen whole (λ w. andThen part (λ m. some (w * 1000000 + m)))
+bothParts whole part = andThen whole (λ w. andThen part (λ m. some (w * million + m)))
 
 unfoldable pub magnitudeOf : List ℕ → Option ℕ
 unfolding beforePoint fromPoint partOf digitsOnto

@@ -6,7 +6,7 @@ use mathlib.Core.List.{List, [], _∷_}
 use lib.Dec.{leb, eqb}
 use lib.IntN.{ℤ, pos, negsuc, natAbs, negℤ}
 use Rattle.tropical_weight.specs.Limits.{unit, weightLimit}
-use Rattle.text_rows.specs.Fields.{andThen, rowsOf, ended, fieldsOf, numberOf, weightOf}
+use Rattle.text_rows.specs.Fields.{million, andThen, rowsOf, ended, fieldsOf, numberOf, weightOf}
 
 -- A link: source, next node, input label, output label and weight; or a final node and its weight. Weights are in millionths.
 pub data Row : Type 0 where
@@ -78,10 +78,7 @@ abbrev pub weightIn : Row → ℤ
 weightIn (link s t i o w) = w
 weightIn (final v w) = w
 
--- weights are read in millionths, and a unit is a whole number of them
-abbrev pub million : ℕ
-million = 1000000
-
+-- a unit is a whole number of millionths
 abbrev pub unitsInOne : ℕ
 unitsInOne = 2 ^ unit
 
