@@ -86,8 +86,8 @@ uint32_t yeldmur_write_sheet(const uint32_t *links, size_t links_words,
  * run to the highest number named, and a node's links stand in row order. Runs of spaces or tabs part
  * fields and may stand at a row's ends; a newline ends each row, the last too. Numbers are digits
  * within 32 bits. Weights, taken exactly, are digits, with an optional minus sign before (-0 is 0) and
- * perhaps a point and one to six digits after. The text is read four times, and once more for each
- * further 4,096 final rows. */
+ * perhaps a point and one to six digits after. The text is read four times, and at the most once
+ * more for each 4,095 final rows. */
 uint32_t yeldmur_rows_to_sheet(const uint8_t *text, size_t text_bytes,
                                uint8_t *result, size_t result_bytes, uint64_t *size);
 

@@ -100,7 +100,7 @@ fn with_final(kept: &mut [u32; KEPT], first: u64, count: usize, limit: u64, node
     with_new(kept, left, lower, node)
 }
 
-// A row more.
+// A row more. One that cannot be read ends the pass: `finals_once` is then false.
 fn with_row(kept: &mut [u32; KEPT], first: u64, count: usize, limit: u64, r: Read) -> Pass
     requires { ⌜ count ≤ most ⌝ }
     requires { ⌜ length (now kept) ≡ most ⌝ }

@@ -121,6 +121,7 @@ fn with_row(s: Survey, r: Read) -> Survey
     }
 }
 
+// What all rows of a text say. A text without a byte has no rows.
 pub fn survey_of(text: &[u8]) -> Surveyed
     ensures { λ r. ⌜ r ≡ surveyed (now (text .entry)) ⌝ }
 {

@@ -15,9 +15,10 @@ use decimals::read::digits_in;
 use tropical_weight::UNIT;
 use tropical_weight::WEIGHT_LIMIT;
 
-// How many units are 1, and how many millionths.
+// How many units are 1.
 const UNITS: u64 = 1 << UNIT;
 
+// How many millionths are 1.
 const MILLION: u64 = 1_000_000;
 
 // A number, or that there is none.

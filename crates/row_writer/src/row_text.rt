@@ -96,7 +96,7 @@ fn put_number(out: &mut [u8], at: usize, x: u32) -> usize
     put_decimal(out, next, x)
 }
 
-// Link l of node v.
+// Link l of node v. Its weight goes by its bits, since a weight of 0 is told by them.
 pub fn link_row(sheet: &[u8], v: u32, l: usize, row: &mut [u8]) -> usize
     requires { ⌜ readNumber (now sheet) ≡ 0 ⌝ }
     requires { ⌜ l < linkCount (partsOf (now sheet)) ⌝ }
