@@ -50,9 +50,12 @@ surveyFrom x none = Surveyed.Unreadable
 surveyFrom x (some rs) = Surveyed.Rows (surveyOnto x rs)
 
 -- what rows say
+abbrev pub surveyIn : List Row → Survey
+surveyIn rs = record { gridded = weightsOnGrid rs; highest = highest rs; links = linksIn rs }
+
 abbrev pub surveyRows : Option (List Row) → Surveyed
 surveyRows none = Surveyed.Unreadable
-surveyRows (some rs) = Surveyed.Rows (record { gridded = weightsOnGrid rs; highest = highest rs; links = linksIn rs })
+surveyRows (some rs) = Surveyed.Rows (surveyIn rs)
 
 abbrev pub surveyed : List ℕ → Surveyed
 surveyed text = cond (ltb 0 (length text)) (surveyRows (rowsLeft text 0)) Surveyed.Unreadable

@@ -14,8 +14,8 @@ use Rattle.text_rows.specs.Convert.{linksIn, nodesIn, lengthOf, fieldsHold, num
 use Rattle.rows.specs.Answers.{convertedBy, sheetAnswer}
 use Rattle.row_reader.specs.Places.{rowsLeft}
 use Rattle.row_reader.specs.FinalRows.{onceIn}
-use Rattle.row_reader.specs.Surveying.{surveyRows, surveyed}
-use Rattle.rows.specs.Judging.{surveyIn, judgedBy, judged}
+use Rattle.row_reader.specs.Surveying.{surveyIn, surveyRows, surveyed}
+use Rattle.rows.specs.Judging.{judgedBy, judged}
 use Rattle.rows.specs.declared.converted.Converted.the-variants as Converted
 use Rattle.row_reader.specs.declared.survey.Survey.{Survey}
 use Rattle.row_reader.specs.declared.survey.Surveyed.{Surveyed}

@@ -20,7 +20,7 @@ use Rattle.text_rows.specs.Convert.{linksIn, nodesIn, lengthOf, fieldsHold, num
 use Rattle.text_rows.specs.RowMachine.{machineOfRows}
 use Rattle.text_rows.specs.Written.{hasRows}
 use Rattle.rows.specs.Answers.{sheetAnswer, Made, NoText}
-use Rattle.rows.specs.Judging.{surveyIn}
+use Rattle.row_reader.specs.Surveying.{surveyIn}
 use Rattle.rows.specs.declared.converted.Converted.the-variants.{Length}
 use Rattle.row_reader.specs.declared.survey.Survey.{Survey}
 use Rattle.text_rows.proofs.Filled.{named}

@@ -3,15 +3,11 @@ use mathlib.Core.Bool.{not, cond}
 use mathlib.Core.Option.{Option, none, some}
 use mathlib.Core.List.{List}
 use Prim.Native.Nat.{ℕ}
-use Rattle.text_rows.specs.Rows.{Row, readRows, weightsOnGrid, highest}
-use Rattle.text_rows.specs.Convert.{linksIn, fieldsHold}
-use Rattle.row_reader.specs.declared.survey.Survey.{Survey}
+use Rattle.text_rows.specs.Rows.{Row, readRows, weightsOnGrid}
+use Rattle.text_rows.specs.Convert.{fieldsHold}
+use Rattle.row_reader.specs.Surveying.{surveyIn}
 use Rattle.rows.specs.declared.to_sheet.Judged.{Judged}
 use Rattle.rows.specs.declared.to_sheet.Judged.the-variants.{Rows, Refused}
-
--- what rows say
-abbrev pub surveyIn : List Row → Survey
-surveyIn rs = record { gridded = weightsOnGrid rs; highest = highest rs; links = linksIn rs }
 
 -- 8, then 1 and 4
 abbrev pub judgedBy : Option (List Row) → Judged
