@@ -62,6 +62,9 @@ enum {
 /* The words of a work slot. */
 #define YELDMUR_SLOT 8u
 
+/* The bytes of a distance: two words. */
+#define YELDMUR_DISTANCE 8u
+
 /* Bytes of stack that are enough for a call: measured at the limits with a painted stack. Most of it are
  * the queue's record, 12 KB, with some 80 bytes for each level of the heap's recursion; where rows are
  * read, 16 KB of final nodes, by which a second final row is found. */
@@ -109,8 +112,9 @@ uint32_t yeldmur_rows_sheet_bytes(const uint8_t *text, size_t text_bytes, uint64
 uint32_t yeldmur_sheet_rows_bytes(const uint8_t *sheet, size_t sheet_bytes, uint64_t *bytes);
 
 /* The distances of a sheet's nodes: tests 1 to 6, 20 and 21. The result has one value per node up to
- * the highest reached, infinity for an unreached one, as 32 weight bits each, little-endian; `values`
- * becomes how many there are. */
+ * the highest reached, two words each, 32-bit and little-endian: 1 and the weight bits, or 0 and 0 for an
+ * unreached node. `values` becomes how many there are, YELDMUR_DISTANCE bytes each. Areas for n = 1 are
+ * long enough. */
 uint32_t yeldmur_shortest_distance(const uint8_t *sheet, size_t sheet_bytes,
                                    uint32_t *work, size_t work_words,
                                    uint8_t *result, size_t result_bytes, uint32_t *values);
@@ -129,7 +133,8 @@ uint32_t yeldmur_shortest_path(const uint8_t *sheet, size_t sheet_bytes, uint32_
 
 /* The areas for yeldmur_shortest_path on this sheet and n: tests 1 to 7. `slots` becomes the work slots
  * that it needs, `bytes` as many as its result has at the most: with a work area of YELDMUR_SLOT x slots
- * words and a result area of so many bytes, or longer ones, it refuses nothing. */
+ * words and a result area of so many bytes, or longer ones, it refuses nothing; nor, for n = 1, does
+ * yeldmur_shortest_distance. */
 uint32_t yeldmur_areas(const uint8_t *sheet, size_t sheet_bytes, uint32_t n,
                        uint64_t *slots, uint64_t *bytes);
 

@@ -25,7 +25,7 @@ def searched(b, n):
 def differing(b, n, distances, nodes, links, taken, result):
     """what differs"""
     if input_number(b): return ['not an accepted sheet']
-    told = {'distances': distances == distance_cases.outcome(b, 1 << 20, 1 << 20)[2]}
+    told = {'distances': distance_cases.matched(distances) == distance_cases.outcome(b, 1 << 20, 1 << 20)[2]}
     expected = list_cases.made(b, n)
     list_cases.made.cache_clear()
     told.update(zip(('nodes', 'links', 'taken', 'result'), (x == y for x, y in zip((nodes, links, taken, result), expected))))

@@ -2,8 +2,9 @@
 """Writes the cases that crates/replay_distances replays: a line a case, with a space between: the number that the call must answer (0: the
 distances), the words of the work area, the bytes of the result area, the words of the work area that must be left zero, the bytes of the
 sheet, those bytes, the bytes of the answer, as sheets.py writes bytes, and what the case is. What is expected comes from `outcome` below,
-which follows the text of the requirements with exact fractions and shares nothing with the library. The last cases are the sheets of
-oracle/sample.txt, and what is expected of them is what the published Rust answered.
+which follows the text of the requirements with exact fractions and shares nothing with the library; some answers are held to words worked out
+by hand. The last cases are the sheets of oracle/sample.txt, and what is expected of them is what the published Rust answered, its infinity
+matched with an unreached node.
 
     python3 tools/distance_cases.py > crates/replay_distances/stdin
 """
@@ -14,10 +15,17 @@ from sheets import A, CHAIN, EMPTY, NONE, TRAILER, climbing, distances, f, input
 INFINITY = 0x7F800000
 
 def value(d):
-    if d is None: return INFINITY
+    """the two words of a distance, None for an unreached node"""
+    if d is None: return 0, 0
     bits = f(float(d))
     assert Fraction(real(bits)) == d
-    return bits
+    return 1, bits
+
+def packed(*words): return struct.pack('<%dI' % len(words), *words)
+
+def matched(told):
+    """the Rust's distances, 32 weight bits each, as the call writes them: its infinity is an unreached node"""
+    return b''.join(packed(0, 0) if bits == INFINITY else packed(1, bits) for bits, in struct.iter_unpack('<I', told))
 
 def outcome(b, words, room):
     """the number, how many words of the work area are left zero, and the bytes of the answer"""
@@ -25,9 +33,9 @@ def outcome(b, words, room):
     if k: return k, 0, b''
     n = struct.unpack('<I', b[-12:-8])[0]
     if words // 8 < n: return 20, 0, b''
-    ws = [value(d) for d in distances(b)]
-    if room < 4 * len(ws): return 21, 8 * n, b''
-    return 0, 8 * n, struct.pack('<%dI' % len(ws), *ws)
+    answer = b''.join(packed(*value(d)) for d in distances(b))
+    if room < len(answer): return 21, 8 * n, b''
+    return 0, 8 * n, answer
 
 lines = []
 def case(what, b, words=None, room=None):
@@ -38,6 +46,9 @@ def case(what, b, words=None, room=None):
     k, zeros, answer = outcome(b, words, room)
     assert read(written(b)) == b and read(written(answer)) == answer
     lines.append(f'{k} {words} {room} {zeros} {len(b)} {written(b)} {written(answer)} # {what}')
+    return answer
+
+def by_hand(what, b, *words): assert case(what, b) == packed(*words)
 
 HIGH = climbing(5, [(0, 1, 1), (1, -3, 2), (2, 2, 3), (2, 1, 4), (3, -2, 4)], 2)
 GAP = climbing(4, [(0, 1, 1), (0, .25, 3), (1, -2, 3), (2, -64, 3)], 0)
@@ -45,36 +56,40 @@ LOW = climbing(5, [(0, 1, 1), (0, 2, 2), (3, 1, 4)], 0)
 
 assert distances(A) == [0, 1, Fraction(1, 2), Fraction(5, 4)] and distances(CHAIN) == [64 * v for v in range(4096)]
 
-case('P1: A', A)
-case('A without a start', with_word(A, TRAILER + 4, NONE))
+by_hand('P1: A', A, 1, 0, 1, 0x3F800000, 1, 0x3F000000, 1, 0x3FA00000)
+by_hand('A without a start', with_word(A, TRAILER + 4, NONE))
 case('A without a start, no work area', with_word(A, TRAILER + 4, NONE), 0, 0)
 for v in (1, 2, 3): case(f'A, start {v}', with_word(A, TRAILER + 4, v))
 case('a start above nodes that have links', HIGH)
-case('nodes without links', sheet([], [(0, 0, 0)] * 3, 1))
-case('nodes without links, the last the start', sheet([], [(0, 0, 0)] * 3, 2))
+by_hand('nodes without links', sheet([], [(0, 0, 0)] * 3, 1), 0, 0, 1, 0)
+by_hand('nodes without links, the last the start', sheet([], [(0, 0, 0)] * 3, 2), 0, 0, 0, 0, 1, 0)
 case('nodes without links and no start', sheet([], [(0, 0, 0)] * 3, NONE))
 case('no nodes', EMPTY); case('no nodes, areas longer', EMPTY, 24, 12)
 case('a node unreached between reached ones', GAP)
+by_hand('a node unreached between nodes at 0', climbing(3, [(0, 0, 2)], 0), 1, 0, 0, 0, 1, 0)
+by_hand('a link from below the start to it', climbing(3, [(0, 1, 1), (1, 4 / 64, 2)], 1), 0, 0, 1, 0, 1, 0x3D800000)
 case('the highest nodes unreached', LOW)
-case('the highest nodes unreached, a result as long as for all of them', LOW, room=20)
+case('the highest nodes unreached, a result as long as for all of them', LOW, room=40)
+by_hand('a negative distance', climbing(2, [(0, -1 / 64, 1)], 0), 1, 0, 1, 0xBC800000)
 case('negative weights', climbing(4, [(0, -64, 1), (0, -1 / 64, 2), (1, -64, 2), (1, 64, 3), (2, -.5, 3)], 0))
 case('equal ways', climbing(4, [(0, 1, 1), (0, 1, 2), (1, 2, 3), (2, 2, 3)], 0))
 case('a way that comes back to 0', climbing(3, [(0, 1.25, 1), (1, -1.25, 2)], 0))
 case('a later link is the lesser', climbing(2, [(0, 3, 1), (0, 2, 1), (0, 2.5, 1)], 0))
 for what, b in (('A', A), ('a start above nodes that have links', HIGH), ('the highest nodes unreached', LOW), ('no nodes', EMPTY)):
-    n, long = struct.unpack('<I', b[-12:-8])[0], 4 * len(distances(b))
+    n, long = struct.unpack('<I', b[-12:-8])[0], 8 * len(distances(b))
     for w, how in ((8 * n - 8, 'a slot short'), (8 * n - 1, 'a word short'), (0, 'none'), (8 * n, 'exact'), (8 * n + 7, '7 words more'),
                    (8 * n + 8, 'a slot more'), (8 * n + 20, '20 words more')):
-        for r, so in ((long - 4, 'a value short'), (long - 1, 'a byte short'), (0, 'none'), (long, 'exact'), (long + 1, 'a byte more'), (long + 9, '9 bytes more')):
+        for r, so in ((long - 8, 'a value short'), (long - 4, 'a word short'), (long - 1, 'a byte short'), (0, 'none'), (long, 'exact'),
+                      (long + 1, 'a byte more'), (long + 9, '9 bytes more')):
             if w >= 0 and r >= 0: case(f'{what}, work area {how}, result area {so}', b, w, r)
 case('P11: the chain of 4,096 nodes', CHAIN)
-case('the chain of 4,096 nodes, work area a word short', CHAIN, 32767, 16384)
-case('the chain of 4,096 nodes, result area a byte short', CHAIN, 32768, 16383)
+case('the chain of 4,096 nodes, work area a word short', CHAIN, 32767, 32768)
+case('the chain of 4,096 nodes, result area a byte short', CHAIN, 32768, 32767)
 case('P10: 4,096 nodes without links, the last the start', sheet([], [(0, 0, 0)] * 4096, 4095))
-case('P10: 4,097 nodes', sheet([], [(0, 0, 0)] * 4097, 0), 32784, 16392)
+case('P10: 4,097 nodes', sheet([], [(0, 0, 0)] * 4097, 0), 32784, 32784)
 case('16,384 links', sheet([(1, 1, f(2), 1)] * 16383 + [(1, 1, f(-1), 1)], [(16384, 0, 0), (0, 1, 0)], 0))
 case('16,385 links', sheet([(1, 1, f(2), 1)] * 16385, [(16385, 0, 0), (0, 1, 0)], 0))
-case('4,097 nodes and a link that does not climb', sheet([(1, 1, 0, 0)], [(1, 0, 0)] + [(0, 0, 0)] * 4096, 0), 32784, 16392)
+case('4,097 nodes and a link that does not climb', sheet([(1, 1, 0, 0)], [(1, 0, 0)] + [(0, 0, 0)] * 4096, 0), 32784, 32784)
 
 LONE = climbing(2, [(0, 1, 1)], 0)
 REFUSED = [('P6: 19 bytes', EMPTY[1:]), ('no bytes', b''), ('A, a byte short', A[:-1]), ('A, 4 bytes more', A + bytes(4)), ('A, mark 2', with_word(A, 21, 2)),
@@ -84,7 +99,7 @@ REFUSED = [('P6: 19 bytes', EMPTY[1:]), ('no bytes', b''), ('A, a byte short', A
            ('start 4 and a link to its own node', with_word(with_word(A, TRAILER + 4, 4), 15, 1)),
            ('a weight off the grid and a link to its own node', with_word(with_word(A, 2, 1), 15, 1))]
 for what, b in REFUSED:
-    for w, r in ((32, 16), (0, 0), (31, 16), (32, 15), (100, 50)): case(f'{what}, {w} words, {r} bytes', b, w, r)
+    for w, r in ((32, 32), (0, 0), (31, 32), (32, 31), (100, 66)): case(f'{what}, {w} words, {r} bytes', b, w, r)
 
 random.seed(1)
 def some():
@@ -92,8 +107,8 @@ def some():
     ways = [] if n == 1 else [(v, random.randint(-4096, 4096) / 64, random.randint(v + 1, n - 1)) for v in random.choices(range(n - 1), k=random.randint(0, 12))]
     return climbing(n, ways, random.choice([0, 0, 0, random.randrange(n), random.randrange(n), NONE]))
 def areas(b):
-    n, long = struct.unpack('<I', b[-12:-8])[0], 4 * len(distances(b))
-    return max(0, 8 * n + random.choice([0, 0, 0, 3, 8, 17, -1])), max(0, long + random.choice([0, 0, 0, 1, 5, 12, -1, -4]))
+    n, long = struct.unpack('<I', b[-12:-8])[0], 8 * len(distances(b))
+    return max(0, 8 * n + random.choice([0, 0, 0, 3, 8, 17, -1])), max(0, long + random.choice([0, 0, 0, 1, 5, 12, -1, -8]))
 for i in range(150):
     b = some(); case(f'random {i}', b, *areas(b))
 for i in range(50):
@@ -104,7 +119,7 @@ for i in range(50):
     if random.random() < .2: b = b[:-random.randint(1, 16)]
     case(f'random and damaged {i}', b, w, r)
 for i, (b, _, told, *_) in enumerate(sample()):
-    n = struct.unpack('<I', b[-12:-8])[0]
+    n, told = struct.unpack('<I', b[-12:-8])[0], matched(told)
     assert outcome(b, 8 * n, len(told)) == (0, 8 * n, told)
     case(f'the Rust {i}', b)
     if i % 10 == 5: case(f'the Rust {i}, longer areas', b, 8 * n + 1 + i % 20, len(told) + 1 + i % 30)

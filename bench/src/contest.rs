@@ -84,10 +84,13 @@ impl Ready {
         ready
     }
 
-    /// All find as many distances, and as many readings for n = 2.
+    /// The library finds the Rust's distances, and all find as many, and as many readings for n = 2.
     fn agree(&self, machine: usize) {
+        let distances = rust::distances(&self.rust[machine]);
+        let reached: Vec<Option<f32>> = distances.iter().map(rust::reached).collect();
+        assert_eq!(self.fresh.distances_anew(machine), reached);
         let count = self.port.borrow_mut().distances(machine);
-        assert_eq!(count, rust::distances(&self.rust[machine]).len());
+        assert_eq!(count, reached.len());
         let (readings, _) = self.port.borrow_mut().list(machine, 2);
         assert_eq!(
             readings,

@@ -1,5 +1,6 @@
 //! Times the library, the published Rust and OpenFst on the same machines, and prints tables.
 
+mod builds;
 mod clock;
 mod contest;
 #[cfg(openfst)]
@@ -18,6 +19,8 @@ use port::Port;
 const USAGE: &str = "usage:
   bench MILLISECONDS               prints the tables; each part of a row takes about twice so long
   bench rows MILLISECONDS          prints those of text rows
+  bench builds MILLISECONDS PREVIOUS LIBRARY
+                                   prints a table of two static libraries, called in turn
   bench repeat MACHINE CALL TIMES  makes one call of the library again and again, for a profile: a
                                    machine of the first table, and distances or n";
 
@@ -59,6 +62,11 @@ fn run(arguments: &[&str]) -> Option<()> {
                 &sheets::written(),
                 Duration::from_millis(time.parse().ok()?),
             );
+            Some(())
+        }
+        ["builds", time, previous, library] => {
+            let time = Duration::from_millis(time.parse().ok()?);
+            builds::print(&[previous, library], &sheets::kinds(), time);
             Some(())
         }
         [time] => {

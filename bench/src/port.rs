@@ -48,7 +48,7 @@ impl Port {
         (list.len(), list.taken())
     }
 
-    pub fn distances_anew(&self, machine: usize) -> Vec<f32> {
+    pub fn distances_anew(&self, machine: usize) -> Vec<Option<f32>> {
         yeldmur::distances(&self.sheets[machine]).expect("accepted")
     }
 

@@ -5,10 +5,16 @@ pub use oracle::reference::{built, Fst};
 use published::algorithms::{shortest_distance_with_config, shortest_path_with_config};
 use published::algorithms::{ShortestDistanceConfig, ShortestPathConfig};
 use published::fst_traits::CoreFst;
-use published::semirings::TropicalWeight;
+use published::semirings::{Semiring, TropicalWeight};
 
 pub fn distances(fst: &Fst) -> Vec<TropicalWeight> {
     shortest_distance_with_config(fst, false, ShortestDistanceConfig::new(1e-6)).unwrap()
+}
+
+/// A distance as the library's crate has it: infinity is an unreached node.
+pub fn reached(distance: &TropicalWeight) -> Option<f32> {
+    let cost = *distance.value();
+    (cost != f32::INFINITY).then_some(cost)
 }
 
 pub fn list(fst: &Fst, n: u32) -> Fst {

@@ -58,7 +58,7 @@ pub fn list(list: &List) -> Vec<u8> {
     bytes
 }
 
-/// Distances as the result of a call: the bits of each.
+/// Distances as the Rust has them: the bits of each.
 pub fn distances(distances: &[f32]) -> Vec<u8> {
     bytes_of(distances.iter().map(|d| d.to_bits()))
 }

@@ -104,7 +104,8 @@ static void check_distances(const struct answer *a) {
     int32_t least = 0;
     if (a->counts[0] != nodes) fail("not a distance for each node");
     for (uint32_t v = 0; v < nodes; v++) {
-        if (units_of(word(a->result + 4 * v)) != least) fail("not the least distance");
+        if (word(a->result + 8 * v) != 1) fail("an unreached node");
+        if (units_of(word(a->result + 8 * v + 4)) != least) fail("not the least distance");
         if (v + 1 == nodes) break;
         int32_t step = weight[first[v]];
         for (uint32_t l = first[v]; l < first[v + 1]; l++) if (weight[l] < step) step = weight[l];
@@ -168,8 +169,8 @@ static void call(uint32_t n, int mode, uint32_t flushed, struct answer *a) {
 /* Takes the sign off each distance that is negative zero. */
 static void drop_signs(struct answer *a) {
     for (uint32_t v = 0; v < a->counts[0]; v++) {
-        if (word(a->result + 4 * v) != 0x80000000u) continue;
-        a->result[4 * v + 3] = 0;
+        if (word(a->result + 8 * v + 4) != 0x80000000u) continue;
+        a->result[8 * v + 7] = 0;
         negative_zeros++;
     }
 }

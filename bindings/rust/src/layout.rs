@@ -7,6 +7,8 @@ pub(crate) const LINK: usize = 16;
 pub(crate) const NODE: usize = 12;
 /// The bytes of the trailer: offset of links, offset of nodes, node count, link count, start.
 pub(crate) const TRAILER: usize = 20;
+/// The bytes of a written distance: 1 and the weight bits, or 0 and 0.
+pub(crate) const DISTANCE: usize = 8;
 /// What stands for no start, and for no input link.
 pub(crate) const NONE: u32 = 0xFFFF_FFFF;
 
@@ -16,6 +18,11 @@ pub(crate) fn word(bytes: &[u8], at: usize) -> u32 {
 
 pub(crate) fn weight(bytes: &[u8], at: usize) -> f32 {
     f32::from_bits(word(bytes, at))
+}
+
+/// A written distance, or none where the node is unreached.
+pub(crate) fn distance(bytes: &[u8], at: usize) -> Option<f32> {
+    (word(bytes, at) != 0).then(|| weight(bytes, at + 4))
 }
 
 /// Where a node of a machine begins, after all the links.

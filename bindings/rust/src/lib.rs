@@ -16,7 +16,7 @@
 //!                     1 2 5 5
 //!                     2 3 4 4 0.75
 //!                     3 0.5\n".parse()?;
-//! assert_eq!(distances(&sheet)?, [0.0, 1.0, 0.5, 1.25]);
+//! assert_eq!(distances(&sheet)?, [0.0, 1.0, 0.5, 1.25].map(Some)); // `None` for an unreached node
 //!
 //! let list = list(&sheet, 3)?;
 //! assert_eq!(list.taken(), 11);

@@ -4,13 +4,13 @@
 use std::borrow::Cow;
 use std::fmt;
 
-use crate::layout::{node_place, units, unless_none, weight, word, LINK};
+use crate::layout::{distance, node_place, units, unless_none, weight, word, DISTANCE, LINK};
 use crate::raw::{self, Listed};
 use crate::{Link, Refusal, Sheet};
 
-/// The distances of a sheet's nodes: one value per node up to the highest reached, infinity for an unreached one. Without
+/// The distances of a sheet's nodes: one value per node up to the highest reached, `None` for an unreached one. Without
 /// a start there are none. Refusals 5 and 6.
-pub fn distances(sheet: &Sheet) -> Result<Vec<f32>, Refusal> {
+pub fn distances(sheet: &Sheet) -> Result<Vec<Option<f32>>, Refusal> {
     let mut areas = Areas::new();
     let values = areas.distances(sheet)?.collect();
     Ok(values)
@@ -48,12 +48,12 @@ impl Areas {
     pub fn distances(
         &mut self,
         sheet: &Sheet,
-    ) -> Result<impl ExactSizeIterator<Item = f32> + '_, Refusal> {
-        // n = 1 needs the same slots, and its result has more than four bytes for each node
+    ) -> Result<impl ExactSizeIterator<Item = Option<f32>> + '_, Refusal> {
+        // n = 1 needs the same slots, and its result has more bytes for each node than a distance
         self.fit(sheet, 1);
         let count = raw::shortest_distance(sheet.bytes(), &mut self.work, &mut self.result)?;
         let result = &self.result;
-        Ok((0..count as usize).map(move |node| weight(result, 4 * node)))
+        Ok((0..count as usize).map(move |node| distance(result, DISTANCE * node)))
     }
 
     /// As [`list`], in these areas, which the list borrows.

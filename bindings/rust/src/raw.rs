@@ -105,8 +105,8 @@ pub fn sheet_rows_bytes(sheet: &[u8]) -> Result<usize, Refusal> {
     Ok(bytes as usize)
 }
 
-/// Writes the distances of a sheet's nodes, 32 weight bits each, and tells how many there are: tests 1 to 6, then 20
-/// and 21. It needs a slot for each node.
+/// Writes the distances of a sheet's nodes and tells how many there are: tests 1 to 6, then 20 and 21. A distance is two
+/// words, 1 and the weight bits, or 0 and 0 for an unreached node. It needs a slot for each node.
 pub fn shortest_distance(
     sheet: &[u8],
     work: &mut [u32],

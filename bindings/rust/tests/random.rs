@@ -69,12 +69,12 @@ struct Found {
 }
 
 impl Found {
-    fn distances(&self) -> Vec<f32> {
+    fn distances(&self) -> Vec<Option<f32>> {
         let highest = self.met.iter().map(|&(node, _)| node).max().unwrap();
         (0..=highest)
             .map(|v| {
                 let costs = self.met.iter().filter(|m| m.0 == v).map(|m| m.1);
-                costs.min().map_or(f32::INFINITY, |cost| cost as f32 / 64.0)
+                costs.min().map(|cost| cost as f32 / 64.0)
             })
             .collect()
     }
@@ -135,7 +135,7 @@ fn a_large_machine() {
     let values = distances(&sheet).unwrap();
     let totals = values.iter().zip(&machine.finals);
     let least = totals
-        .filter_map(|(distance, weight)| weight.map(|weight| units(distance + weight)))
+        .filter_map(|(distance, weight)| Some(units((*distance)? + (*weight)?)))
         .min();
     let mut areas = Areas::new();
     let longest: Vec<i32> = readings(&sheet, 64).iter().map(|r| r.0).collect();

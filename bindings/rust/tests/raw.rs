@@ -147,23 +147,55 @@ fn a_sheet_without_nodes_needs_slots_too() {
 #[test]
 fn distances_in_short_areas() {
     let a = bytes(&A);
-    let refused = raw::shortest_distance(&a, &mut [WORD; 31], &mut [BYTE; 16]);
+    let refused = raw::shortest_distance(&a, &mut [WORD; 31], &mut [BYTE; 32]);
     assert_eq!(refused.unwrap_err(), Refusal::WorkArea);
 
     let mut work = [WORD; 35];
-    let mut result = [BYTE; 15];
+    let mut result = [BYTE; 31];
     let refused = raw::shortest_distance(&a, &mut work, &mut result);
     assert_eq!(refused.unwrap_err(), Refusal::ResultArea);
     assert!(cleared(&work, 4));
     assert!(unchanged(&[], &result));
 
     let mut work = [WORD; 35];
-    let mut result = [BYTE; 18];
+    let mut result = [BYTE; 34];
     assert_eq!(raw::shortest_distance(&a, &mut work, &mut result), Ok(4));
     assert!(cleared(&work, 4));
-    let values = [0.0f32, 1.0, 0.5, 1.25].map(f32::to_bits);
-    assert_eq!(result[..16], bytes(&values));
-    assert_eq!(result[16..], [BYTE; 2]);
+    let words = [1, 0, 1, 0x3F80_0000, 1, 0x3F00_0000, 1, 0x3FA0_0000];
+    assert_eq!(result[..32], bytes(&words));
+    assert_eq!(result[32..], [BYTE; 2]);
+}
+
+// Two words a node, up to the start alone: 0 and 0 below it, 1 and the bits of 0 for itself.
+#[test]
+fn the_words_of_distances() {
+    for (start, words) in [(0, vec![1, 0]), (2, vec![0, 0, 0, 0, 1, 0]), (NONE, vec![])] {
+        let sheet = bytes(&[0, 0, 0, 0, 0, 0, 0, 0, 0, 0, 0, 3, 0, start]);
+        let mut result = [BYTE; 24];
+        let told = raw::shortest_distance(&sheet, &mut [WORD; 24], &mut result);
+        assert_eq!(told, Ok(words.len() as u32 / 2));
+        assert_eq!(result[..4 * words.len()], bytes(&words));
+        assert!(unchanged(&[], &result[4 * words.len()..]));
+    }
+}
+
+// The areas for n = 1 are enough for distances: 8 bytes a node, whatever the links are.
+#[test]
+fn areas_for_one_reading_serve_distances() {
+    for nodes in [0, 1, 2, 3, 4096] {
+        let needed = raw::areas_of(nodes, 0, 0, 1).unwrap();
+        assert_eq!(needed.slots, nodes as usize);
+        assert_eq!(needed.bytes, 32 * nodes as usize + 20);
+        assert_eq!(raw::areas_of(nodes, 16384, u32::MAX, 1), Ok(needed));
+        let fields = vec![0; 3 * nodes as usize];
+        let start = nodes.checked_sub(1).unwrap_or(NONE);
+        let sheet = bytes(&[fields, vec![0, 0, nodes, 0, start]].concat());
+        let mut work = vec![WORD; needed.words()];
+        let mut result = vec![BYTE; needed.bytes];
+        let told = raw::shortest_distance(&sheet, &mut work, &mut result);
+        assert_eq!(told, Ok(nodes));
+        assert!(unchanged(&[], &result[8 * nodes as usize..]));
+    }
 }
 
 #[test]

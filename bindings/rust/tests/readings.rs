@@ -15,7 +15,7 @@ fn a_reading_without_links() {
         assert_eq!(list.reading(0).unwrap().links().count(), 0);
     }
     // a start alone at node 1: the node below it is unreached
-    assert_eq!(distances(&sheet).unwrap(), [f32::INFINITY, 0.0]);
+    assert_eq!(distances(&sheet).unwrap(), [None, Some(0.0)]);
 }
 
 #[test]
@@ -41,7 +41,7 @@ fn negative_costs() {
         readings(&sheet, 2),
         [(-4161, vec![0, 2]), (-4065, vec![1, 2])]
     );
-    assert_eq!(distances(&sheet).unwrap(), [0.0, -1.0, -65.0]);
+    assert_eq!(distances(&sheet).unwrap(), [0.0, -1.0, -65.0].map(Some));
     assert_eq!(readings(&chain(4096, -64.0), 2)[0].0, -262_144 * 64);
 }
 
@@ -59,8 +59,14 @@ fn no_start_no_reading() {
 fn nodes_below_the_start_are_unreached() {
     let links = [link(0, 1, 0.0, 2), link(1, 2, 1.0, 2)];
     let sheet = Sheet::write(&links, &[Some(0.0), None, Some(0.0), None], Some(1)).unwrap();
-    assert_eq!(distances(&sheet).unwrap(), [f32::INFINITY, 0.0, 1.0]);
+    assert_eq!(distances(&sheet).unwrap(), [None, Some(0.0), Some(1.0)]);
     assert_eq!(readings(&sheet, 64), [(64, vec![1])]);
+}
+
+#[test]
+fn a_distance_of_0_is_no_unreached_node() {
+    let sheet = Sheet::write(&[link(0, 1, 0.0, 2)], &[None; 3], Some(0)).unwrap();
+    assert_eq!(distances(&sheet).unwrap(), [Some(0.0), None, Some(0.0)]);
 }
 
 #[test]
@@ -130,7 +136,7 @@ fn areas_used_again() {
             assert_eq!((kept.len(), kept.taken()), (new.len(), new.taken()));
             let costs: Vec<i32> = kept.readings().map(|reading| reading.cost()).collect();
             assert!(costs.iter().eq(readings(sheet, n).iter().map(|r| &r.0)));
-            let values: Vec<f32> = areas.distances(sheet).unwrap().collect();
+            let values: Vec<Option<f32>> = areas.distances(sheet).unwrap().collect();
             assert_eq!(values, distances(sheet).unwrap());
         }
     }

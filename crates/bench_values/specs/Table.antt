@@ -1,12 +1,12 @@
 -- Cases P1 to P9 of document 01: one table of what the calls tell and what the document states. Definitions only.
 use mathlib.Core.List.{List, [], _∷_, map}
-use Prim.Native.Nat.{ℕ}
+use Prim.Native.Nat.{ℕ, _*_}
 use lib.IntN.{pos}
 use lib.ListN.{length, take, replicate}
 use Rattle.tropical_weight.specs.Tropical.{Tropical, fin}
 use Rattle.sheet.specs.Below.{listBelow}
 use Rattle.sheet.specs.Words.{words, bytesOfAll}
-use Rattle.sheet.specs.Machine.{weightOf, machine}
+use Rattle.sheet.specs.Machine.{machine}
 use Rattle.machine.specs.Readings.{link, readingOf, readingCost}
 use Rattle.shortest_distance.specs.declared.Distances.{Distances}
 use Rattle.shortest_distance.specs.declared.Distances.the-variants as Distances
@@ -17,10 +17,10 @@ use Rattle.list_answer.specs.declared.Listed.{Listed}
 use Rattle.list_answer.specs.declared.Listed.the-variants as Listed
 use Rattle.shortest_path.specs.Outcome.{listAnswer, resultAfter}
 
--- What a call tells: the refusal, or the distances, or the list: the counts of its machine's nodes and links, the input labels of its readings, their costs, and the entries taken.
+-- What a call tells: the refusal, or the words of the distances, or the list: the counts of its machine's nodes and links, the input labels of its readings, their costs, and the entries taken.
 pub data Told : Type 0 where
   refused : ℕ → Told
-  distances : List Tropical → Told
+  distances : List ℕ → Told
   list : ℕ → ℕ → List (List ℕ) → List Tropical → ℕ → Told
 
 -- areas that are long enough for these cases
@@ -32,9 +32,9 @@ resultArea = replicate 512 0
 
 abbrev pub toldDistances : List ℕ → Distances → Told
 toldDistances bytes (Distances.Refused k) = refused k
-toldDistances bytes (Distances.Count n) = distances (map weightOf (words (Distance.resultAfter bytes workWords resultArea) 0 n))
+toldDistances bytes (Distances.Count n) = distances (words (Distance.resultAfter bytes workWords resultArea) 0 (2 * n))
 
--- the distances of a sheet
+-- the distances of a sheet, two words each
 abbrev pub distancesTold : List ℕ → Told
 distancesTold bytes = toldDistances bytes (distanceAnswer bytes workWords (length resultArea))
 
@@ -93,9 +93,9 @@ units k = fin (pos k)
 abbrev allA : Told
 allA = list 12 13 ((1 ∷ 3 ∷ []) ∷ (2 ∷ 4 ∷ []) ∷ (1 ∷ 5 ∷ 4 ∷ []) ∷ []) (units 112 ∷ units 112 ∷ units 144 ∷ []) 11
 
--- distances 0, 1, 0.5, 1.25
+-- distances 0, 1, 0.5, 1.25: each reached, 1 and the weight bits
 abbrev pub P1 : Case
-P1 = record { told = distancesTold sheetA ∷ []; stated = distances (units 0 ∷ units 64 ∷ units 32 ∷ units 80 ∷ []) ∷ [] }
+P1 = record { told = distancesTold sheetA ∷ []; stated = distances (1 ∷ 0 ∷ 1 ∷ 0x3f80_0000 ∷ 1 ∷ 0x3f00_0000 ∷ 1 ∷ 0x3fa0_0000 ∷ []) ∷ [] }
 
 -- best: labels 1, 3
 abbrev pub P2 : Case

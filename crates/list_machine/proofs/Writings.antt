@@ -11,7 +11,9 @@ use lib.Dec.{eqb, ltb}
 use lib.ListN.{length, getD, take, drop, replicate, length-append}
 use lib.Seq.{take-suc, take-length}
 use borrow.Author.Tests.{eq-eqb, ne-eqb}
+use lib.Ieee.{toBits, round}
 use Rattle.tropical_weight.specs.Tropical.{Tropical, one}
+use Rattle.tropical_weight.specs.Grid.{ofK}
 use Rattle.sheet.specs.Words.{word, bytesOfAll}
 use Rattle.sheet.specs.Sheet.{partsOf, statedLinks, statedNodes, sheetOf, trailerOf}
 use Rattle.sheet.specs.Machine.{Link, Machine, machineOf, machine, bitsOf, linkFields, leaving, nodeFields, partsFor}
@@ -28,7 +30,6 @@ use Rattle.search.specs.States.{kept, stateOf, later, startLink, entryLink, lis
 use Rattle.search.proofs.Numbered.{Numbered}
 use Rattle.search.proofs.Readback.{links-long, nodes-long}
 use Rattle.search.proofs.OnWays.{OnWay, cameFrom, way-listed, way-from, way-inside}
-use Rattle.shortest_distance.proofs.Starts.{bits-one}
 use Rattle.slots.specs.Slots.{nothing}
 use Rattle.search_slots.specs.Slots.{nodeWord, fromWord, inputWord, listedWord, stateWord, nodeField, inputField}
 use Rattle.list_machine.specs.TrimWords.{stated, keptCount, startWords, blankBits, entryWords, statedWords, linkWords, headWords, nodeWords, trailerWords, repeatWords, inputWords, linksPart, nodesPart, wordsPart, listWords, listLength, listAnswer, listAfter, Readable, Linked, Listable, Holding, Sourced}
@@ -36,6 +37,10 @@ use Rattle.list_answer.specs.ListAnswer.{listedBy, listedIn, listedOver}
 use Rattle.list_machine.proofs.Marks.{stated-other, from-other, listed-other, new-kept}
 use Rattle.list_machine.proofs.Placing.{length-list, stated-off, stated-on, repeat-off, repeat-on, entry-blank, entry-copied}
 use Rattle.list_machine.proofs.Trimming.{kept-count, state-on, state-off}
+
+-- the bits of the semiring's one
+bits-one : bitsOf one ≡ 0
+bits-one = unfold ofK round toBits in refl
 
 -- ---- lists
 flat-append : (a b : List Link) → flatMap linkFields (a ++ b) ≡ flatMap linkFields a ++ flatMap linkFields b

@@ -1,6 +1,6 @@
 -- The labels of a run, stored one after the other. Assumes nothing.
 use mathlib.Core.Path.{_≡_, sym, ap, _∙_}
-use mathlib.Core.List.{List, [], _∷_, _++_, map, map-append, flatMap, append-assoc, append-nil}
+use mathlib.Core.List.{List, [], _∷_, _++_, map, map-append, flatMap}
 use Prim.Native.Nat.{ℕ, _+_, _*_, _<_}
 use native.Mathlib.Numerals.{add-one}
 use lib.ListN.{length, take, getD}
@@ -8,19 +8,15 @@ use lib.Seq.{take-suc}
 use Rattle.decimals.specs.Stored.{Puts}
 use Rattle.decimals.proofs.Storing.{puts-same, puts-then}
 use Rattle.sheet.specs.Words.{word}
+use Rattle.sheet.proofs.Below.{flat-snoc}
 use Rattle.listing.specs.Text.{labelText, labelsOf}
 
 -- one label more of a run
-flatMap-snoc : (xs : List ℕ) (x : ℕ) → flatMap labelText (xs ++ (x ∷ [])) ≡ flatMap labelText xs ++ labelText x
-unfolding flatMap
-flatMap-snoc [] x = append-nil (labelText x)
-flatMap-snoc (y ∷ ys) x = ap (λ (r : List ℕ). labelText y ++ r) (flatMap-snoc ys x) ∙ sym (append-assoc (labelText y) (flatMap labelText ys) (labelText x))
-
 labels-more : (sheet run : List ℕ) (i : ℕ) → i < length run
     → flatMap labelText (labelsOf sheet (take i run)) ++ labelText (word sheet (16 * getD run i 0)) ≡ flatMap labelText (labelsOf sheet (take (i + 1) run))
 labels-more sheet run i h =
     let label : ℕ → ℕ = λ (l : ℕ). word sheet (16 * l) in
-    sym (flatMap-snoc (map label (take i run)) (label (getD run i 0)))
+    sym (flat-snoc labelText (map label (take i run)) (label (getD run i 0)))
     ∙ ap (flatMap labelText) (sym (map-append label (take i run) (getD run i 0 ∷ [])) ∙ ap (map label) (sym (ap (λ (k : ℕ). take k run) (add-one i) ∙ take-suc run i 0 h)))
 
 pub puts-label : (sheet run : List ℕ) (i : ℕ) {old mid new : List ℕ} {at here end label : ℕ} → i < length run → label ≡ word sheet (16 * getD run i 0)

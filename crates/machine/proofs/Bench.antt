@@ -11,7 +11,7 @@ use Rattle.sheet.specs.Sheet.{partsOf}
 use Rattle.sheet.specs.Machine.{Link, Machine, machineOf}
 use Rattle.sheet.proofs.Bench.{sheetA}
 use Rattle.machine.specs.Readings.{Reading, link, readings, readingsBelow, readingCost, runCost}
-use Rattle.machine.specs.Distance.{total, relax, reach, reached, distances}
+use Rattle.machine.specs.Distance.{reached, unreached, total, relax, reach, isReached, distances}
 use Rattle.machine.specs.Parents.{best}
 use Rattle.machine.specs.Demand.{sort}
 
@@ -36,7 +36,7 @@ costs-A : map (readingCost machineA) (readings machineA) ≡ fin (pos 112) ∷ f
 unfolding readingsBelow runCost
 costs-A = refl
 
-distances-A : (distances machineA ≡ fin (pos 0) ∷ fin (pos 64) ∷ fin (pos 32) ∷ fin (pos 80) ∷ []) × (relax machineA 5 ≡ distances machineA) × (total machineA ≡ fin (pos 112))
+distances-A : (distances machineA ≡ reached (pos 0) ∷ reached (pos 64) ∷ reached (pos 32) ∷ reached (pos 80) ∷ []) × (relax machineA 5 ≡ distances machineA) × (total machineA ≡ fin (pos 112))
 unfolding distances relax total
 distances-A = (refl, refl, refl)
 
@@ -59,7 +59,7 @@ ties-B = (refl, refl)
 unfoldable pub machineC : Machine
 machineC = record { links = arc 0 1 7 1 ∷ arc 1 2 4 2 ∷ []; finals = some (fin (pos 0)) ∷ some (fin (pos 4)) ∷ some (fin (pos 0)) ∷ some (fin (pos 0)) ∷ []; start = some 1 }
 
-below-C : (map (reached machineC) (0 ∷ 1 ∷ 2 ∷ 3 ∷ []) ≡ false ∷ true ∷ true ∷ false ∷ []) × (distances machineC ≡ inf ∷ fin (pos 0) ∷ fin (pos 4) ∷ []) × (best machineC ≡ some (record { run = []; end = 1 }))
+below-C : (map (isReached machineC) (0 ∷ 1 ∷ 2 ∷ 3 ∷ []) ≡ false ∷ true ∷ true ∷ false ∷ []) × (distances machineC ≡ unreached ∷ reached (pos 0) ∷ reached (pos 4) ∷ []) × (best machineC ≡ some (record { run = []; end = 1 }))
 unfolding machineC reach distances best
 below-C = (refl, refl, refl)
 

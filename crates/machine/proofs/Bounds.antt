@@ -6,21 +6,21 @@ use mathlib.Core.List.{List, [], _∷_, map}
 use Prim.Native.Nat.{ℕ, suc, _+_, _-_, _*_, _≤_, _<_}
 use native.Mathlib.Nat.{mul-le-mul-right}
 use native.Mathlib.Omega.{arith}
-use lib.ListN.{getD, length}
+use lib.ListN.{length}
 use Rattle.tropical_weight.specs.Limits.{sumLimit}
-use Rattle.tropical_weight.specs.Tropical.{Tropical, inf, _⊗_, Within}
+use Rattle.tropical_weight.specs.Tropical.{Tropical, _⊗_, Within}
 use Rattle.tropical_weight.proofs.Semiring.{⊗-zero}
 use Rattle.tropical_weight.proofs.Sums.{within-mono, within-one, terms-⊗, terms-within}
 use Rattle.sheet.specs.Below.{listBelow}
 use Rattle.sheet.specs.Machine.{Machine}
 use Rattle.machine.specs.Readings.{link, final, finalWeight, IsRun, runCost, ways, Reading, IsReading, readingCost}
 use Rattle.machine.specs.Climbs.{Climbs, Small}
-use Rattle.machine.specs.Distance.{plusAll, dist, totalAt, relax}
+use Rattle.machine.specs.Distance.{plusAll, dist, totalAt}
 use Rattle.machine.proofs.Lists.{mem-map, mem-below}
 use Rattle.machine.proofs.Sums.{plusAll-within}
 use Rattle.machine.proofs.Runs.{run-length, ways-sound}
 use Rattle.machine.proofs.Readings.{final-in}
-use Rattle.machine.proofs.Relax.{distOver, row-is}
+use Rattle.machine.proofs.Relax.{distOver, rowAt, row-is}
 
 one-term : (most : ℕ) (w : Tropical) → Within most w → Within (1 * most) w
 one-term most w h = within-mono most (1 * most) w (omega arith) h
@@ -49,7 +49,7 @@ module _ (m : Machine) (c : Climbs m) (most : ℕ) (b : Small most m) where
   unfolding dist
   dist-within v = dist-over-within (length (m .links)) v (omega arith)
 
-  pub row-within : (l v : ℕ) → l ≤ length (m .links) → v < length (m .finals) → Within (v * most) (getD (relax m l) v inf)
+  pub row-within : (l v : ℕ) → l ≤ length (m .links) → v < length (m .finals) → Within (v * most) (rowAt m l v)
   row-within l v k h = subst (Within (v * most)) (sym (row-is m c l v k h)) (dist-over-within l v k)
 
   final-within : (v : ℕ) (w : Tropical) → final m v ≡ some w → Within (1 * most) (finalWeight (final m v))
@@ -61,10 +61,10 @@ module _ (m : Machine) (c : Climbs m) (most : ℕ) (b : Small most m) where
 
   module _ (nodes : ℕ) (product : nodes * most ≡ sumLimit) (few : length (m .finals) ≤ nodes) where
     -- a step of relaxation
-    pub step-within : (l v : ℕ) → l ≤ length (m .links) → v < length (m .finals) → (k : ℕ) → k < length (m .links) → Within sumLimit (getD (relax m l) v inf ⊗ link m k .weight)
+    pub step-within : (l v : ℕ) → l ≤ length (m .links) → v < length (m .finals) → (k : ℕ) → k < length (m .links) → Within sumLimit (rowAt m l v ⊗ link m k .weight)
     step-within l v h i k j =
-        terms-within nodes most product (v + 1) (omega arith) (getD (relax m l) v inf ⊗ link m k .weight)
-        (terms-⊗ most v 1 (getD (relax m l) v inf) (link m k .weight) (row-within l v h i) (one-term most (link m k .weight) (b .onLink k j)))
+        terms-within nodes most product (v + 1) (omega arith) (rowAt m l v ⊗ link m k .weight)
+        (terms-⊗ most v 1 (rowAt m l v) (link m k .weight) (row-within l v h i) (one-term most (link m k .weight) (b .onLink k j)))
 
     pub dist-limit : (v : ℕ) → v < length (m .finals) → Within sumLimit (dist m v)
     dist-limit v h = terms-within nodes most product v (omega arith) (dist m v) (dist-within v)

@@ -8,7 +8,7 @@ use Prim.Native.Nat.{ℕ, zero, suc, _≤_, _<_}
 use native.Mathlib.Omega.{arith}
 use lib.Dec.{eqb}
 use lib.IntN.{ℤ}
-use lib.ListN.{getD, length}
+use lib.ListN.{length}
 use lib.Ieee.Bits.{is-true}
 use borrow.Author.Tests.{eqb-true, eq-eqb}
 use Rattle.tropical_weight.specs.Tropical.{Tropical, fin, inf, leT, ltT, eqT, _≼_, _⊕_, _⊗_}
@@ -17,13 +17,13 @@ use Rattle.sheet.specs.Below.{listBelow}
 use Rattle.sheet.specs.Machine.{Machine}
 use Rattle.machine.specs.Readings.{link, isAt, runCost, ways}
 use Rattle.machine.specs.Climbs.{Climbs}
-use Rattle.machine.specs.Distance.{plusAll, dist, via, total, totalAt, relax}
+use Rattle.machine.specs.Distance.{plusAll, dist, via, total, totalAt}
 use Rattle.machine.specs.Parents.{orElse, lowest, attains, parent, bestEnd}
 use Rattle.sheet.proofs.Apart.{both, not-both}
 use Rattle.machine.proofs.Lists.{below-mem, mem-below}
 use Rattle.machine.proofs.Sums.{plusAll-le, plusAll-in, plusAll-append}
 use Rattle.machine.proofs.Runs.{at-some}
-use Rattle.machine.proofs.Relax.{distOver, more-runs, same-runs, row-is, source-settled}
+use Rattle.machine.proofs.Relax.{rowAt, distOver, more-runs, same-runs, row-is, source-settled}
 use Rattle.machine.proofs.Reached.{finite-reached, reached-above}
 use Rattle.machine.proofs.Parents.{Lowest, lowest-is, lowest-found, attains-eq, eq-attains}
 
@@ -47,7 +47,8 @@ or-none (some a) = refl
 or-some : (o : Option ℕ) (i n : ℕ) → o ≡ some i → orElse o (some n) ≡ o
 or-some o i n e = ap (λ o. orElse o (some n)) e ∙ sym e
 
-attains-inf : (d : Tropical) → attains d inf ≡ false
+-- infinity attains nothing
+pub attains-inf : (d : Tropical) → attains d inf ≡ false
 attains-inf (fin k) = refl
 attains-inf inf = refl
 
@@ -161,18 +162,18 @@ module _ (m : Machine) where
 
     -- one link of the pass, on the relaxed row: it becomes the parent of its next node where it improves the value there
     pub parent-step : (l v : ℕ) → l < length (m .links) → v < length (m .finals)
-        → chosen (offer v) (suc l) ≡ cond (eqb (link m l .next) v && ltT (getD (relax m l) (link m l .source) inf ⊗ link m l .weight) (getD (relax m l) v inf)) (some l) (chosen (offer v) l)
+        → chosen (offer v) (suc l) ≡ cond (eqb (link m l .next) v && ltT (rowAt m l (link m l .source) ⊗ link m l .weight) (rowAt m l v)) (some l) (chosen (offer v) l)
     parent-step l v h b =
         chosen-suc (offer v) l
         ∙ ap (λ t. cond t (some l) (chosen (offer v) l))
-        (go (isAt (m .start) v) refl ∙ ap (λ d. eqb (link m l .next) v && ltT (d ⊗ link m l .weight) (getD (relax m l) v inf)) (sym (row-is m c l (link m l .source) (omega arith) inside ∙ source-settled m c l h)))
+        (go (isAt (m .start) v) refl ∙ ap (λ d. eqb (link m l .next) v && ltT (d ⊗ link m l .weight) (rowAt m l v)) (sym (row-is m c l (link m l .source) (omega arith) inside ∙ source-settled m c l h)))
       where
         inside : link m l .source < length (m .finals)
         inside = omega (arith, c .rises l h, c .inside l h)
 
-        less : ltT (offer v l) (getD (relax m l) v inf) ≡ (eqb (link m l .next) v && ltT (via m l) (getD (relax m l) v inf))
-        less = less-offer (eqb (link m l .next) v) (getD (relax m l) v inf) (via m l)
+        less : ltT (offer v l) (rowAt m l v) ≡ (eqb (link m l .next) v && ltT (via m l) (rowAt m l v))
+        less = less-offer (eqb (link m l .next) v) (rowAt m l v) (via m l)
 
-        go : (t : Bool) → isAt (m .start) v ≡ t → ltT (offer v l) (least (offer v) l) ≡ (eqb (link m l .next) v && ltT (via m l) (getD (relax m l) v inf))
+        go : (t : Bool) → isAt (m .start) v ≡ t → ltT (offer v l) (least (offer v) l) ≡ (eqb (link m l .next) v && ltT (via m l) (rowAt m l v))
         go false e = ap (ltT (offer v l)) (sym (row-is m c l v (omega arith) b ∙ offers l v (omega arith) e)) ∙ less
-        go true e = ap (λ o. ltT o (least (offer v) l)) (start-offer v l e h) ∙ sym (ap (λ o. ltT o (getD (relax m l) v inf)) (start-offer v l e h)) ∙ less
+        go true e = ap (λ o. ltT o (least (offer v) l)) (start-offer v l e h) ∙ sym (ap (λ o. ltT o (rowAt m l v)) (start-offer v l e h)) ∙ less

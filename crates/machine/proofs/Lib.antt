@@ -4,6 +4,7 @@ pub mod Sort
 pub mod Runs
 pub mod Readings
 pub mod Distance
+pub mod Named
 pub mod Relax
 pub mod Reached
 pub mod Bounds

@@ -56,12 +56,6 @@ pub map-append : {A B : Type 0} (f : A → B) (l k : List A) → map f (l ++ k) 
 map-append f [] k = refl
 map-append f (x ∷ l) k = ap (λ r. f x ∷ r) (map-append f l k)
 
--- a list below a bound, value by value
-pub below-map : {A : Type 0} (g : A → ℕ) (n : ℕ) (f : ℕ → ℕ) (h : ℕ → A) → ((v : ℕ) → v < n → f v ≡ g (h v)) → listBelow n f ≡ map g (listBelow n h)
-unfolding listBelow
-below-map g zero f h e = refl
-below-map g (suc n) f h e = (λ i. below-map g n f h (λ v b. e v (omega arith)) i ++ (e n (omega arith) i ∷ [])) ∙ sym (map-append g (listBelow n h) (h n ∷ []))
-
 -- a map depends only on what it does to the members
 pub map-same : {A B : Type 0} (f g : A → B) (l : List A) → ((a : A) → a ∈ l → f a ≡ g a) → map f l ≡ map g l
 map-same f g [] h = refl

@@ -17,13 +17,14 @@ use Rattle.sheet.specs.Below.{listBelow}
 use Rattle.sheet.specs.Machine.{Machine}
 use Rattle.machine.specs.Readings.{link, isAt, IsRun, ways}
 use Rattle.machine.specs.Climbs.{Climbs, Finite}
-use Rattle.machine.specs.Distance.{dist, relax, reach, reached, heightBelow, height, distances}
+use Rattle.machine.specs.Distance.{dist, relax, unreached, distance, reach, isReached, heightBelow, height, distances}
 use Rattle.machine.specs.Demand.{_∈_}
 use Rattle.sheet.proofs.Apart.{not-both}
 use Rattle.machine.proofs.Lists.{here, map-mem, mem-map}
 use Rattle.sheet.proofs.Below.{length-listBelow, getD-listBelow}
 use Rattle.machine.proofs.Runs.{FromStart, over, more, ends, run-last, run-length, ways-are}
 use Rattle.machine.proofs.Distance.{run-finite, dist-le, dist-greatest, dist-attained}
+use Rattle.machine.proofs.Named.{weight-of, same-weight}
 use Rattle.machine.proofs.Relax.{row-size, relax-is}
 
 module _ (m : Machine) where
@@ -75,23 +76,23 @@ module _ (m : Machine) where
 
   -- ---- one more than the highest reached node
   -- it bounds the reached nodes below n, and is 0 or such a node's number and one
-  pub height-above : (n v : ℕ) → v < n → reached m v ≡ true → v < heightBelow m n
+  pub height-above : (n v : ℕ) → v < n → isReached m v ≡ true → v < heightBelow m n
   unfolding heightBelow
   height-above zero v h e = absurd (omega arith)
-  height-above (suc n) v h e = go (reached m n) refl (ℕ-discrete v n) (height-above n v)
+  height-above (suc n) v h e = go (isReached m n) refl (ℕ-discrete v n) (height-above n v)
     where
-      go : (t : Bool) → reached m n ≡ t → Dec (v ≡ n) → (v < n → reached m v ≡ true → v < heightBelow m n) → v < cond t (suc n) (heightBelow m n)
+      go : (t : Bool) → isReached m n ≡ t → Dec (v ≡ n) → (v < n → isReached m v ≡ true → v < heightBelow m n) → v < cond t (suc n) (heightBelow m n)
       go true p d ih = omega arith
-      go false p (yes q) ih = absurd (not-both (ap (reached m) (sym q) ∙ e) p)
+      go false p (yes q) ih = absurd (not-both (ap (isReached m) (sym q) ∙ e) p)
       go false p (no q) ih = ih (omega (arith, q)) e
 
-  pub height-attained : (n : ℕ) → (heightBelow m n ≡ 0) ⊎ ((v : ℕ) × (v < n) × (reached m v ≡ true) × (heightBelow m n ≡ suc v))
+  pub height-attained : (n : ℕ) → (heightBelow m n ≡ 0) ⊎ ((v : ℕ) × (v < n) × (isReached m v ≡ true) × (heightBelow m n ≡ suc v))
   unfolding heightBelow
   height-attained zero = inl refl
-  height-attained (suc n) = go (reached m n) refl (height-attained n)
+  height-attained (suc n) = go (isReached m n) refl (height-attained n)
     where
-      go : (t : Bool) → reached m n ≡ t → (heightBelow m n ≡ 0) ⊎ ((v : ℕ) × (v < n) × (reached m v ≡ true) × (heightBelow m n ≡ suc v))
-          → (cond t (suc n) (heightBelow m n) ≡ 0) ⊎ ((v : ℕ) × (v < suc n) × (reached m v ≡ true) × (cond t (suc n) (heightBelow m n) ≡ suc v))
+      go : (t : Bool) → isReached m n ≡ t → (heightBelow m n ≡ 0) ⊎ ((v : ℕ) × (v < n) × (isReached m v ≡ true) × (heightBelow m n ≡ suc v))
+          → (cond t (suc n) (heightBelow m n) ≡ 0) ⊎ ((v : ℕ) × (v < suc n) × (isReached m v ≡ true) × (cond t (suc n) (heightBelow m n) ≡ suc v))
       go true e ih = inr (n, omega arith, e, refl)
       go false e (inl q) = inl q
       go false e (inr q) = inr (q .0, omega (arith, q .1), q .2, q .3)
@@ -101,14 +102,14 @@ module _ (m : Machine) where
 
   module _ (c : Climbs m) where
     -- ---- reached nodes
-    pub reached-run : (v : ℕ) → (reached m v ≡ true) ↔ ((r : List ℕ) × FromStart m r v)
+    pub reached-run : (v : ℕ) → (isReached m v ≡ true) ↔ ((r : List ℕ) × FromStart m r v)
     reached-run v = (λ e. let x = reach-ways (length (m .links)) v e in (x .0, ways-are m c v (x .0) .0 (x .1)), λ x. ways-reach (length (m .links)) v (x .0) (ways-are m c v (x .0) .1 (x .1)))
 
-    pub reached-start : (s : ℕ) → m .start ≡ some s → reached m s ≡ true
+    pub reached-start : (s : ℕ) → m .start ≡ some s → isReached m s ≡ true
     reached-start s e = reached-run s .1 ([], (s, e, refl))
 
     -- nodes below the start are not reached, and no node without a start
-    pub reached-above : (s v : ℕ) → m .start ≡ some s → reached m v ≡ true → s ≤ v
+    pub reached-above : (s v : ℕ) → m .start ≡ some s → isReached m v ≡ true → s ≤ v
     reached-above s v e h =
         let x = reached-run v .0 h in
         let y = x .1 in
@@ -116,11 +117,11 @@ module _ (m : Machine) where
         let z : y .0 ≡ s = cc in
         omega (arith, run-length m c (x .0) (y .0) v (y .2))
 
-    pub reached-none : (v : ℕ) → m .start ≡ none → reached m v ≡ true → ⊥
+    pub reached-none : (v : ℕ) → m .start ≡ none → isReached m v ≡ true → ⊥
     reached-none v e h = let y = reached-run v .0 h .1 in let q : none ≡ some (y .0) = sym e ∙ y .1 in let z : _≡_ {A = ℕ} 0 1 = cc in omega arith
 
     -- links stay inside, so that all reached nodes are below N where the start is
-    pub reached-in : (s v : ℕ) → m .start ≡ some s → s < length (m .finals) → reached m v ≡ true → v < length (m .finals)
+    pub reached-in : (s v : ℕ) → m .start ≡ some s → s < length (m .finals) → isReached m v ≡ true → v < length (m .finals)
     reached-in s v e b h = go (ends (x .0))
       where
         x : (r : List ℕ) × FromStart m r v
@@ -136,13 +137,13 @@ module _ (m : Machine) where
             omega (arith, c .inside (p .1) (y .1), y .2)
 
     -- ---- and their distances
-    pub unreached-inf : (v : ℕ) → reached m v ≡ false → dist m v ≡ inf
+    pub unreached-inf : (v : ℕ) → isReached m v ≡ false → dist m v ≡ inf
     unreached-inf v e = ≼-antisym (≼-inf (dist m v)) (dist-greatest m c v inf (λ r x. absurd (not-both (reached-run v .1 (r, x)) e)))
 
-    pub finite-reached : (v : ℕ) (k : ℤ) → dist m v ≡ fin k → reached m v ≡ true
+    pub finite-reached : (v : ℕ) (k : ℤ) → dist m v ≡ fin k → isReached m v ≡ true
     finite-reached v k e = let x = dist-attained m c v k e in reached-run v .1 (x .0, x .1)
 
-    pub reached-finite : Finite m → (v : ℕ) → reached m v ≡ true → (k : ℤ) × (dist m v ≡ fin k)
+    pub reached-finite : Finite m → (v : ℕ) → isReached m v ≡ true → (k : ℤ) × (dist m v ≡ fin k)
     reached-finite f v e =
         let x = reached-run v .0 e in
         let a = run-finite m f (x .0) (x .1 .0) v (x .1 .2) in
@@ -162,6 +163,6 @@ module _ (m : Machine) where
         let n = height m in
         let row = relax m (length (m .links)) in
         let size : length (take n row) ≡ n = length-take n row ∙ omega (arith, row-size m (length (m .links)), height-le) in
-        ext-getD inf (listBelow n (dist m)) (take n row) (length-listBelow n (dist m) ∙ sym size) (λ i h.
-        let b : i < n = omega (arith, length-listBelow n (dist m)) in
-        getD-listBelow n (dist m) i inf b ∙ sym (getD-take n row i inf b ∙ relax-is m c i (omega (arith, height-le))))
+        ext-getD unreached (listBelow n (distance m)) (take n row) (length-listBelow n (distance m) ∙ sym size) (λ i h.
+        let b : i < n = omega (arith, length-listBelow n (distance m)) in
+        getD-listBelow n (distance m) i unreached b ∙ sym (getD-take n row i unreached b ∙ same-weight (relax-is m c i (omega (arith, height-le)) ∙ sym (weight-of (dist m i)))))

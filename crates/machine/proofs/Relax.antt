@@ -9,14 +9,20 @@ use native.Mathlib.Omega.{arith}
 use lib.ListN.{getD, length, set, replicate, length-set, length-replicate, getD-replicate}
 use lib.Seq.{getD-set-same, getD-set-other}
 use borrow.Author.Tests.{eq-eqb, ne-eqb}
-use Rattle.tropical_weight.specs.Tropical.{Tropical, inf, one, _⊕_, _⊗_}
+use lib.IntN.{pos}
+use Rattle.tropical_weight.specs.Tropical.{Tropical, _⊕_, _⊗_}
 use Rattle.sheet.specs.Machine.{Link, Machine}
 use Rattle.machine.specs.Readings.{link, isAt, runCost, ways}
 use Rattle.machine.specs.Climbs.{Climbs}
-use Rattle.machine.specs.Distance.{plusAll, dist, startRow, relax}
+use Rattle.machine.specs.Distance.{Distance, reached, unreached, asWeight, nearer, onward, plusAll, dist, startRow, relax}
 use Rattle.machine.proofs.Lists.{map-append, map-same}
 use Rattle.machine.proofs.Sums.{plusAll-append, plusAll-⊗}
 use Rattle.machine.proofs.Runs.{over, cost-snoc}
+use Rattle.machine.proofs.Named.{step-weight}
+
+-- the value of node v in the row after l links, as a weight
+abbrev pub rowAt : Machine → ℕ → ℕ → Tropical
+rowAt m l v = asWeight (getD (relax m l) v unreached)
 
 module _ (m : Machine) where
   -- ⊕ over the runs to v over the first l links
@@ -46,31 +52,31 @@ module _ (m : Machine) where
   row-size zero = go (m .start)
     where
       go : (o : Option ℕ) → length (startRow o (length (m .finals))) ≡ length (m .finals)
-      go none = length-replicate (length (m .finals)) inf
-      go (some s) = simp length-set (length-replicate (length (m .finals)) inf)
+      go none = length-replicate (length (m .finals)) unreached
+      go (some s) = simp length-set (length-replicate (length (m .finals)) unreached)
   row-size (suc l) = simp length-set (row-size l)
 
-  row-start : (v : ℕ) → v < length (m .finals) → getD (startRow (m .start) (length (m .finals))) v inf ≡ distOver 0 v
+  row-start : (v : ℕ) → v < length (m .finals) → asWeight (getD (startRow (m .start) (length (m .finals))) v unreached) ≡ distOver 0 v
   unfolding ways runCost plusAll
   row-start v b = go (m .start)
     where
-      blank : getD (replicate (length (m .finals)) inf) v inf ≡ inf
-      blank = getD-replicate (length (m .finals)) v inf inf b
+      blank : getD (replicate (length (m .finals)) unreached) v unreached ≡ unreached
+      blank = getD-replicate (length (m .finals)) v unreached unreached b
 
-      go : (o : Option ℕ) → getD (startRow o (length (m .finals))) v inf ≡ plusAll (map (runCost m) (cond (isAt o v) ([] ∷ []) []))
-      go none = blank
+      go : (o : Option ℕ) → asWeight (getD (startRow o (length (m .finals))) v unreached) ≡ plusAll (map (runCost m) (cond (isAt o v) ([] ∷ []) []))
+      go none = ap asWeight blank
       go (some s) = elim (ℕ-discrete s v) [
         | yes e ↦
-            ap (λ k. getD (set (replicate (length (m .finals)) inf) k one) v inf) e
-            ∙ getD-set-same (replicate (length (m .finals)) inf) v one inf (simp length-replicate b)
+            ap asWeight (ap (λ k. getD (set (replicate (length (m .finals)) unreached) k (reached (pos 0))) v unreached) e
+            ∙ getD-set-same (replicate (length (m .finals)) unreached) v (reached (pos 0)) unreached (simp length-replicate b))
             ∙ sym (ap (λ t. plusAll (map (runCost m) (cond t ([] ∷ []) []))) (eq-eqb s v e))
         | no n ↦
-            getD-set-other (replicate (length (m .finals)) inf) s v one inf (λ e. n (sym e)) ∙ blank
+            ap asWeight (getD-set-other (replicate (length (m .finals)) unreached) s v (reached (pos 0)) unreached (λ e. n (sym e)) ∙ blank)
             ∙ sym (ap (λ t. plusAll (map (runCost m) (cond t ([] ∷ []) []))) (ne-eqb s v n))
       ]
 
   module _ (c : Climbs m) where
-    pub row-is : (l v : ℕ) → l ≤ length (m .links) → v < length (m .finals) → getD (relax m l) v inf ≡ distOver l v
+    pub row-is : (l v : ℕ) → l ≤ length (m .links) → v < length (m .finals) → rowAt m l v ≡ distOver l v
     unfolding relax
     row-is zero v a b = row-start v b
     row-is (suc l) v a b = go (ℕ-discrete (link m l .next) v) (λ u h. row-is l u (omega arith) h)
@@ -84,18 +90,19 @@ module _ (m : Machine) where
         source-in : k .source < length (m .finals)
         source-in = omega (arith, c .rises l (omega arith), next-in)
 
-        new : Tropical
-        new = getD (relax m l) (k .next) inf ⊕ getD (relax m l) (k .source) inf ⊗ k .weight
+        new : Distance
+        new = nearer (getD (relax m l) (k .next) unreached) (onward (getD (relax m l) (k .source) unreached) (k .weight))
 
-        go : Dec (k .next ≡ v) → ((u : ℕ) → u < length (m .finals) → getD (relax m l) u inf ≡ distOver l u) → getD (set (relax m l) (k .next) new) v inf ≡ distOver (suc l) v
+        go : Dec (k .next ≡ v) → ((u : ℕ) → u < length (m .finals) → rowAt m l u ≡ distOver l u) → asWeight (getD (set (relax m l) (k .next) new) v unreached) ≡ distOver (suc l) v
         go (yes e) ih =
-            ap (λ u. getD (set (relax m l) (k .next) new) u inf) (sym e)
-            ∙ getD-set-same (relax m l) (k .next) new inf (omega (arith, row-size l, next-in))
+            ap asWeight (ap (λ u. getD (set (relax m l) (k .next) new) u unreached) (sym e)
+            ∙ getD-set-same (relax m l) (k .next) new unreached (omega (arith, row-size l, next-in)))
+            ∙ step-weight (getD (relax m l) (k .next) unreached) (getD (relax m l) (k .source) unreached) (k .weight)
             ∙ ap₂ (λ x y. x ⊕ y ⊗ k .weight) (ih (k .next) next-in) (ih (k .source) source-in)
             ∙ sym (more-runs l (k .next) refl) ∙ ap (distOver (suc l)) e
-        go (no n) ih = getD-set-other (relax m l) (k .next) v new inf (λ e. n (sym e)) ∙ ih v b ∙ sym (same-runs l v n)
+        go (no n) ih = ap asWeight (getD-set-other (relax m l) (k .next) v new unreached (λ e. n (sym e))) ∙ ih v b ∙ sym (same-runs l v n)
 
-    pub relax-is : (v : ℕ) → v < length (m .finals) → getD (relax m (length (m .links))) v inf ≡ dist m v
+    pub relax-is : (v : ℕ) → v < length (m .finals) → rowAt m (length (m .links)) v ≡ dist m v
     unfolding dist
     relax-is v b = row-is (length (m .links)) v (omega arith) b
 

@@ -27,9 +27,9 @@ use Rattle.sheet.proofs.Fields.{read-fields, getD-words}
 use Rattle.sheet.proofs.Round.{Below, word-lt}
 use Rattle.sheet.proofs.Sources.{source-is, counts-sum, machine-links, machine-nodes, machine-final}
 use Rattle.machine.specs.Readings.{link, final}
-use Rattle.machine.specs.Climbs.{Climbs, Finite, Small}
+use Rattle.machine.specs.Climbs.{Climbs, Small}
 use Rattle.machine.specs.Input.{inputNumber}
-use Rattle.machine.proofs.Accepted.{Passes, passes, input-read, climbs-machine, small-machine, finite-machine, few-nodes, few-links, link-at, link-grid, final-grid, weight-value, bits-again}
+use Rattle.machine.proofs.Accepted.{Passes, passes, input-read, climbs-machine, small-machine, few-nodes, few-links, link-at, link-grid, final-grid, weight-value, bits-again}
 use Rattle.machine.proofs.Testing.{in-sheet, counts-total, counts-words}
 
 -- A sheet of T links and N nodes, and its machine.
@@ -42,7 +42,6 @@ pub record SheetFields (bytes : List ℕ) (T N : ℕ) (m : Machine) : Type 0 whe
   pub counted : sumBelow N (countAt bytes T) ≡ T
   pub climbs : Climbs m
   pub small : Small weightLimit m
-  pub finite : Finite m
   -- a link's fields
   pub source-at : (v l : ℕ) → v < N → firstLink bytes T v ≤ l → l < firstLink bytes T v + countAt bytes T v → link m l .source ≡ v
   pub ilabel-at : (l : ℕ) → l < T → word bytes (16 * l) ≡ link m l .ilabel
@@ -153,7 +152,6 @@ module _ (bytes : List ℕ) (accepted : inputNumber bytes ≡ 0) where
     counted = counts-total bytes read;
     climbs = climbs-machine p t;
     small = small-machine p t;
-    finite = finite-machine p t;
     source-at = source;
     ilabel-at = λ l h. at-word (4 * l) (16 * l) (omega arith) (omega arith) ∙ sym (ap (λ x. x .ilabel) (is l h));
     olabel-at = λ l h. at-word (4 * l + 1) (16 * l + 4) (omega arith) (omega arith) ∙ sym (ap (λ x. x .olabel) (is l h));

@@ -5,20 +5,40 @@ use mathlib.Core.List.{List, [], _∷_, map}
 use Prim.Native.Nat.{ℕ, zero, suc}
 use lib.Dec.{eqb}
 use lib.ListN.{getD, length, set, replicate}
-use Rattle.tropical_weight.specs.Tropical.{Tropical, inf, one, _⊕_, _⊗_}
+use lib.IntN.{ℤ, pos}
+use Rattle.tropical_weight.specs.Tropical.{Tropical, fin, inf, _⊕_, _⊗_}
 use Rattle.sheet.specs.Below.{listBelow}
 use Rattle.sheet.specs.Machine.{Link, Machine}
 use Rattle.machine.specs.Readings.{link, final, finalWeight, isAt, runCost, ways, waysTo}
+
+-- A distance: reached, with its cost in units, or unreached.
+pub data Distance : Type 0 where
+  reached : ℤ → Distance
+  unreached : Distance
+
+-- what it adds to a sum: infinity where it is unreached
+abbrev pub asWeight : Distance → Tropical
+asWeight (reached k) = fin k
+asWeight unreached = inf
+
+-- the distance of that weight
+abbrev pub distanceOf : Tropical → Distance
+distanceOf (fin k) = reached k
+distanceOf inf = unreached
 
 -- ⊕ along a list
 unfoldable pub plusAll : List Tropical → Tropical
 plusAll [] = inf
 plusAll (a ∷ l) = a ⊕ plusAll l
 
--- the distance of v: ⊕, over the runs from the start to v, of their ⊗
+-- Mohri's distance of v: ⊕, over the runs from the start to v, of their ⊗
 unfoldable pub dist : Machine → ℕ → Tropical
 unfolding ways runCost plusAll
 dist m v = plusAll (map (runCost m) (waysTo m v))
+
+-- the same named: reached at that cost, or unreached
+abbrev pub distance : Machine → ℕ → Distance
+distance m v = distanceOf (dist m v)
 
 -- the least cost of a run from the start that ends in link l
 abbrev pub via : Machine → ℕ → Tropical
@@ -33,18 +53,26 @@ unfoldable pub total : Machine → Tropical
 unfolding plusAll dist listBelow
 total m = plusAll (listBelow (length (m .finals)) (totalAt m))
 
--- ---- relaxation: a row of values, one a node, and the links in sheet order
--- the row before the first link: 0 at the start, infinity elsewhere
-abbrev pub startRow : Option ℕ → ℕ → List Tropical
-startRow none n = replicate n inf
-startRow (some s) n = set (replicate n inf) s one
+-- ---- relaxation: a row of distances, one a node, and the links in sheet order
+-- the nearer of two
+abbrev pub nearer : Distance → Distance → Distance
+nearer a b = distanceOf (asWeight a ⊕ asWeight b)
+
+-- on from a distance over a weight
+abbrev pub onward : Distance → Tropical → Distance
+onward d w = distanceOf (asWeight d ⊗ w)
+
+-- the row before the first link: the start reached at 0, the others unreached
+abbrev pub startRow : Option ℕ → ℕ → List Distance
+startRow none n = replicate n unreached
+startRow (some s) n = set (replicate n unreached) s (reached (pos 0))
 
 -- the row r after link k
-abbrev pub relaxed : Link → List Tropical → List Tropical
-relaxed k r = set r (k .next) (getD r (k .next) inf ⊕ getD r (k .source) inf ⊗ k .weight)
+abbrev pub relaxed : Link → List Distance → List Distance
+relaxed k r = set r (k .next) (nearer (getD r (k .next) unreached) (onward (getD r (k .source) unreached) (k .weight)))
 
 -- the row after the first l links
-unfoldable pub relax : Machine → ℕ → List Tropical
+unfoldable pub relax : Machine → ℕ → List Distance
 relax m zero = startRow (m .start) (length (m .finals))
 relax m (suc l) = relaxed (link m l) (relax m l)
 
@@ -54,21 +82,21 @@ unfoldable pub reach : Machine → ℕ → ℕ → Bool
 reach m zero v = isAt (m .start) v
 reach m (suc l) v = reach m l v || (eqb (link m l .next) v && reach m l (link m l .source))
 
--- whether some run leads from the start to v
-abbrev pub reached : Machine → ℕ → Bool
-reached m v = reach m (length (m .links)) v
+-- whether some run leads from the start to v: with finite weights, whether its distance is reached
+abbrev pub isReached : Machine → ℕ → Bool
+isReached m v = reach m (length (m .links)) v
 
 -- one more than the highest reached node below n, or 0
 unfoldable pub heightBelow : Machine → ℕ → ℕ
 unfolding reach
 heightBelow m zero = 0
-heightBelow m (suc v) = cond (reached m v) (suc v) (heightBelow m v)
+heightBelow m (suc v) = cond (isReached m v) (suc v) (heightBelow m v)
 
 -- how many distances are written
 abbrev pub height : Machine → ℕ
 height m = heightBelow m (length (m .finals))
 
--- one value per node up to the highest reached, infinity for an unreached one; no start gives none
-unfoldable pub distances : Machine → List Tropical
+-- one distance per node up to the highest reached; no start gives none
+unfoldable pub distances : Machine → List Distance
 unfolding dist heightBelow listBelow
-distances m = listBelow (height m) (dist m)
+distances m = listBelow (height m) (distance m)

@@ -10,15 +10,17 @@ use borrow.Author.Tests.{eq-eqb, ne-eqb}
 use Rattle.n_shortest.specs.declared.entry.Entry.{Entry}
 use Rattle.n_shortest.specs.declared.entry.Entry.the-variants.{Half, Finished}
 use Rattle.slots.specs.Slots.{nothing}
-use Rattle.search_slots.specs.Slots.{nodeWord, costWord, distanceWord}
+use Rattle.distance.specs.declared.Distance.{Distance}
+use Rattle.distance.specs.Held.{weightIn, distanceIn}
+use Rattle.search_slots.specs.Slots.{nodeWord, costWord}
 use Rattle.n_shortest.specs.EntryWords.{rankW, Inside, entryW}
 
 module _ (part : List ℕ) (nodes : ℕ) where
-  pub inside-half : {e : Entry} {v : ℕ} {c : Float} → e ≡ Half v c → Inside part nodes e → nodes + 8 * v < length part
+  pub inside-half : {e : Entry} {v : ℕ} {c : Float} → e ≡ Half v c → Inside part nodes e → nodes + 8 * v + 1 < length part
   inside-half q i = subst (Inside part nodes) q i
 
-  pub rank-half : {e : Entry} {v : ℕ} {c d r : Float} → e ≡ Half v c → d ≡ ofBits binary32 (distanceWord part nodes v) → r ≡ add binary32 d c → r ≡ rankW part nodes e
-  rank-half {e} {v} {c} q k z = z ∙ ap (λ x. add binary32 x c) k ∙ ap (rankW part nodes) (sym q)
+  pub rank-half : {e : Entry} {v : ℕ} {c w r : Float} {d : Distance} → e ≡ Half v c → d ≡ distanceIn part (nodes + 8 * v) → w ≡ weightIn d → r ≡ add binary32 w c → r ≡ rankW part nodes e
+  rank-half {e} {v} {c} q k l z = z ∙ ap (λ x. add binary32 x c) (l ∙ ap weightIn k) ∙ ap (rankW part nodes) (sym q)
 
 module _ (part : List ℕ) (x : ℕ) where
   abbrev cost : Float

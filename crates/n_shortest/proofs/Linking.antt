@@ -52,7 +52,7 @@ module _ (p : Places) (x : ℕ) (cost : Float) where
   -- the link that is next, and the room for its entry
   pub record Next (k : ℕ) (s : Words) (fan : ℕ) : Type 0 where
     pub slot : p .links + 8 * k + 2 < length (s .part)
-    pub node : p .nodes + 8 * nextWord (s .part) (p .links) k < length (s .part)
+    pub node : p .nodes + 8 * nextWord (s .part) (p .links) k + 1 < length (s .part)
     pub fewer : ℕ
     pub one-more : fan ≡ suc fewer
     pub chain : Chain p (s .part) fewer (chainWord (s .part) (p .links) k)

@@ -20,6 +20,7 @@ use Rattle.sheet.specs.Below.{listBelow}
 use Rattle.sheet.proofs.Below.{listBelow-same}
 use Rattle.machine.specs.Demand.{_∈_}
 use Rattle.machine.proofs.Lists.{here, map-mem, mem-getD, perm-length}
+use Rattle.distance.proofs.Words.{same-words}
 use Rattle.search.specs.Reversed.{Back, Reversed}
 use Rattle.search.specs.Heap.{popped}
 use Rattle.search.specs.Search as S
@@ -174,7 +175,7 @@ module _ (p : Places) (size : ℕ) (r : Reversed) where
           (ap (heapOf (without w .part)) n ∙ heap-without)
           (listBelow-same (length (s .listed)) (listedWord (without w .part)) (listedWord (w .part)) (λ i b. pop-other (w .part) (w .counts .heap) heap-some (8 * i + 6) 0 (λ z. omega arith)) ∙ t .listed)
           (t .listed-few) (λ q b. beyond (p .nodes + 8 * q + 3) (omega arith) ∙ t .visits q b)
-          (laid-kept p size r (w .part) (without w .part) (sym (pop-length (w .part) (w .counts .heap) heap-some)) (λ q b. sym (beyond (p .nodes + 8 * q) (omega arith))) (λ q b. sym (beyond (p .nodes + 8 * q + 2) (omega arith))) (λ j b. sym (beyond j (omega (arith, t .sized .after)))) (t .laid))
+          (laid-kept p size r (w .part) (without w .part) (sym (pop-length (w .part) (w .counts .heap) heap-some)) (λ q b. same-words (w .part) (without w .part) (p .nodes + 8 * q) (p .nodes + 8 * q) (sym (beyond (p .nodes + 8 * q) (omega arith))) (sym (beyond (p .nodes + 8 * q + 1) (omega arith)))) (λ q b. sym (beyond (p .nodes + 8 * q + 2) (omega arith))) (λ j b. sym (beyond j (omega (arith, t .sized .after)))) (t .laid))
 
       -- the head, and its entry
       pub head-is : heapWord (w .part) 0 ≡ getD (s .heap) 0 0
@@ -213,7 +214,7 @@ module _ (p : Places) (size : ℕ) (r : Reversed) where
         (heap-same (set (w .part) at x) (w .part) (length (s .heap)) (λ i b. other (8 * i + 5) (λ z. omega (arith, z))) ∙ t .heap)
         (ap (listedOf (set (w .part) at x)) (grown ∙ let z : length (s .listed) + 1 ≡ suc (length (s .listed)) = omega arith in z) ∙ list-more at refl other low)
         (omega (arith, grown)) (λ q b. other (p .nodes + 8 * q + 3) (λ z. omega (arith, z)) ∙ t .visits q b)
-        (laid-kept p size r (w .part) (set (w .part) at x) (sym long) (λ q b. sym (other (p .nodes + 8 * q) (λ z. omega (arith, z)))) (λ q b. sym (other (p .nodes + 8 * q + 2) (λ z. omega (arith, z)))) (λ j b. sym (other j (λ z. omega (arith, z, t .sized .after)))) (t .laid))
+        (laid-kept p size r (w .part) (set (w .part) at x) (sym long) (λ q b. same-words (w .part) (set (w .part) at x) (p .nodes + 8 * q) (p .nodes + 8 * q) (sym (other (p .nodes + 8 * q) (λ z. omega (arith, z)))) (sym (other (p .nodes + 8 * q + 1) (λ z. omega (arith, z))))) (λ q b. sym (other (p .nodes + 8 * q + 2) (λ z. omega (arith, z)))) (λ j b. sym (other j (λ z. omega (arith, z, t .sized .after)))) (t .laid))
       where
         list-more : (at : ℕ) → at ≡ 8 * w .counts .listed + 6 → ((j : ℕ) → (j ≡ at → ⊥) → getD (set (w .part) at x) j 0 ≡ getD (w .part) j 0) → at < p .nodes → listedOf (set (w .part) at x) (suc (length (s .listed))) ≡ s .listed ++ (x ∷ [])
         list-more at e o b =
@@ -243,7 +244,7 @@ module _ (p : Places) (size : ℕ) (r : Reversed) where
           (heap-same (visited p v w .part) (w .part) (length (s .heap)) (λ i b. other (8 * i + 5) (λ z. omega (arith, z, t .heap-count, t .sized .heap-few, t .sized .room))) ∙ t .heap)
           (listBelow-same (length (s .listed)) (listedWord (visited p v w .part)) (listedWord (w .part)) (λ i b. other (8 * i + 6) (λ z. omega (arith, z, t .listed-few, slots-in))) ∙ t .listed)
           (t .listed-few) (λ q b. counts q b (ℕ-discrete q v))
-          (laid-kept p size r (w .part) (visited p v w .part) (sym long) (λ q b. sym (other (p .nodes + 8 * q) (λ z. omega (arith, z)))) (λ q b. sym (other (p .nodes + 8 * q + 2) (λ z. omega (arith, z)))) (λ j b. sym (other j (λ z. omega (arith, z, at-low)))) (t .laid))
+          (laid-kept p size r (w .part) (visited p v w .part) (sym long) (λ q b. same-words (w .part) (visited p v w .part) (p .nodes + 8 * q) (p .nodes + 8 * q) (sym (other (p .nodes + 8 * q) (λ z. omega (arith, z)))) (sym (other (p .nodes + 8 * q + 1) (λ z. omega (arith, z))))) (λ q b. sym (other (p .nodes + 8 * q + 2) (λ z. omega (arith, z)))) (λ j b. sym (other j (λ z. omega (arith, z, at-low)))) (t .laid))
         where
           counts : (q : ℕ) → q < size → Dec (q ≡ v) → visitsWord (visited p v w .part) (p .nodes) q ≡ getD (set (s .visits) v (suc (getD (s .visits) v 0))) q 0
           counts q b (yes z) =
@@ -314,7 +315,7 @@ module _ (p : Places) (size : ℕ) (r : Reversed) where
         (taking (getD (s .entries) (getD (s .heap) 0 0) first .entry) refl few fine room)
 
   -- ---- and what it asks
-  chain-of : (part : List ℕ) (bs : List Back) (k : ℕ) → ChainIs p size r part k bs → ((b : Back) → b ∈ bs → p .nodes + 8 * b .next < length part) → Chain p part (length bs) k
+  chain-of : (part : List ℕ) (bs : List Back) (k : ℕ) → ChainIs p size r part k bs → ((b : Back) → b ∈ bs → p .nodes + 8 * b .next + 1 < length part) → Chain p part (length bs) k
   unfolding Chain
   chain-of part [] k h f = h
   chain-of part (b ∷ bs) k h f = (h .1, omega (arith, h .2, f b (here b bs)), chain-of part bs (chainWord part (p .links) k) (h .5) (λ y i. f y (List·Memᴰ·tail i)))

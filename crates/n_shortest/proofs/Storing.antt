@@ -1,10 +1,10 @@
 -- The words of a search hold the search as it is defined: an entry put in keeps that. Assumes nothing.
 use mathlib.Core.Path.{_≡_, refl, sym, ap, _∙_, subst}
 use mathlib.Core.List.{List, [], _∷_, _++_}
-use Prim.Native.Nat.{ℕ, suc, _+_, _-_, _*_, _%_, _≤_, _<_}
+use Prim.Native.Nat.{ℕ, suc, _+_, _*_, _%_, _≤_, _<_}
 use native.Mathlib.Decide.{ℕ-discrete}
 use native.Mathlib.Omega.{arith}
-use lib.Dec.{eqb, lit≤}
+use lib.Dec.{eqb}
 use lib.Ieee.{binary32, add, ofBits, toBits}
 use lib.ListN.{length, getD, length-append, List·getD-append}
 use lib.Seq.{getD-append-seam}
@@ -12,7 +12,7 @@ use Rattle.tropical_weight.specs.Limits.{unit, sumLimit}
 use Rattle.tropical_weight.specs.Tropical.{Tropical, _⊗_, Within}
 use Rattle.tropical_weight.specs.Grid.{ofT}
 use Rattle.tropical_weight.specs.Single.{numberBits}
-use Rattle.tropical_weight.proofs.Exact.{covered, times-ofT, bits-back}
+use Rattle.tropical_weight.proofs.Exact.{covered, times-ofT}
 use Rattle.tropical_weight.proofs.Numbers.{number-ofT}
 use Rattle.sheet.specs.Machine.{bitsOf}
 use Rattle.sheet.proofs.Below.{listBelow-same}
@@ -20,13 +20,17 @@ use Rattle.search.specs.Reversed.{Back, Reversed}
 use Rattle.search.specs.Heap.{pushed}
 use Rattle.search.specs.Search as S
 use Rattle.search.specs.Search.{half, finished, Put, first, Search, rank, before, put}
+use Rattle.machine.specs.Distance.{asWeight}
 use Rattle.machine.proofs.Lists.{perm-length}
+use Rattle.distance.specs.Held.{held, weightIn, distanceIn}
+use Rattle.distance.proofs.Words.{same-words}
+use Rattle.distance.proofs.Offers.{weight-held}
 use Rattle.search.proofs.Contents.{pushed-keeps}
 use Rattle.n_shortest.specs.declared.n_best.Places.{Places}
 use Rattle.n_shortest.specs.declared.entry.Entry.{Entry}
 use Rattle.n_shortest.specs.declared.entry.Entry.the-variants.{Half, Finished}
 use Rattle.slots.specs.Slots.{nothing}
-use Rattle.search_slots.specs.Slots.{nodeWord, rankWord, listedWord, heapOf, listedOf, distanceWord, headWord, visitsWord, nextWord, weightWord, chainWord, nodeField, inputField, Slot, Entries}
+use Rattle.search_slots.specs.Slots.{nodeWord, rankWord, listedWord, heapOf, listedOf, headWord, visitsWord, nextWord, weightWord, chainWord, nodeField, inputField, Slot, Entries}
 use Rattle.n_shortest.specs.EntryWords.{nodeOf, costOf, rankW, stored}
 use Rattle.n_shortest.specs.HeapWords.{pushW}
 use Rattle.n_shortest.specs.SearchWords.{Words, putW, repeated, Sized}
@@ -58,8 +62,8 @@ module _ (p : Places) (size : ℕ) (r : Reversed) where
   pub record Laid (part : List ℕ) : Type 0 where
     pub room : p .nodes + 8 * size ≤ p .links
     pub small : size ≤ nothing
-    pub distances : (q : ℕ) → q < size → distanceWord part (p .nodes) q ≡ bitsOf (r .toGo q)
-    pub within : (q : ℕ) → q < size → Within sumLimit (r .toGo q)
+    pub distances : (q : ℕ) → q < size → distanceIn part (p .nodes + 8 * q) ≡ held (r .toGo q)
+    pub within : (q : ℕ) → q < size → Within sumLimit (asWeight (r .toGo q))
     pub chains : (q : ℕ) → q < size → ChainIs part (headWord part (p .nodes) q) (r .out q)
     pub leads : (q : ℕ) (b : Back) → Rattle.machine.specs.Demand._∈_ b (r .out q) → (b .next < size) × Within sumLimit (b .weight)
     pub ends : (q : ℕ) → q < size → eqb q (p .end) ≡ r .ends q
@@ -94,7 +98,7 @@ module _ (p : Places) (size : ℕ) (r : Reversed) where
       let on : chainWord a (p .links) k ≡ chainWord b (p .links) k = f (p .links + 8 * k + 2) (omega arith) in
       (h .0, omega (arith, h .1, l), next ∙ h .2, ap (ofBits binary32) weight ∙ h .3, h .4, chain-kept a b l f (chainWord b (p .links) k) bs (subst (λ y. ChainIs a y bs) on (h .5)))
 
-  pub laid-kept : (a b : List ℕ) → length a ≡ length b → ((q : ℕ) → q < size → distanceWord a (p .nodes) q ≡ distanceWord b (p .nodes) q) → ((q : ℕ) → q < size → headWord a (p .nodes) q ≡ headWord b (p .nodes) q)
+  pub laid-kept : (a b : List ℕ) → length a ≡ length b → ((q : ℕ) → q < size → distanceIn a (p .nodes + 8 * q) ≡ distanceIn b (p .nodes + 8 * q)) → ((q : ℕ) → q < size → headWord a (p .nodes) q ≡ headWord b (p .nodes) q)
       → ((j : ℕ) → p .links ≤ j → getD a j 0 ≡ getD b j 0) → Laid a → Laid b
   laid-kept a b l d h f t = record {
     room = t .room;
@@ -110,8 +114,9 @@ module _ (p : Places) (size : ℕ) (r : Reversed) where
   rank-coded : (part : List ℕ) (e : S.Entry) → Laid part → Fine e → numberBits (rankW part (p .nodes) (coded e)) ≡ bitsOf (rank r e)
   rank-coded part (half v c) t f =
       let b = f .node v c refl in
-      let sum = (λ i. add binary32 (ofBits binary32 (t .distances v b i)) (ofT unit c)) ∙ (λ i. add binary32 (bits-back unit covered (r .toGo v) i) (ofT unit c)) ∙ times-ofT unit covered (r .toGo v) c (t .within v b) (f .cost) in
-      ap numberBits sum ∙ number-ofT unit covered (r .toGo v ⊗ c) (f .ranked)
+      let d = ap weightIn (t .distances v b) ∙ weight-held (r .toGo v) in
+      let sum = ap (λ x. add binary32 x (ofT unit c)) d ∙ times-ofT unit covered (asWeight (r .toGo v)) c (t .within v b) (f .cost) in
+      ap numberBits sum ∙ number-ofT unit covered (asWeight (r .toGo v) ⊗ c) (f .ranked)
   rank-coded part (finished c) t f = number-ofT unit covered c (f .ranked)
 
   pub named : (e : S.Entry) → size ≤ nothing → Fine e → Named e
@@ -236,7 +241,7 @@ module _ (p : Places) (size : ℕ) (r : Reversed) where
       listed = listed-same ∙ t .listed;
       listed-few = omega (arith, t .listed-few, long);
       visits = λ q b. beyond (p .nodes + 8 * q + 3) (omega arith) ∙ t .visits q b;
-      laid = laid-kept (w .part) (new .part) (sym (length-put p w (coded (e .entry)) (e .from) (inputField (e .input)) (t .sized) room)) (λ q b. sym (beyond (p .nodes + 8 * q) (omega arith))) (λ q b. sym (beyond (p .nodes + 8 * q + 2) (omega arith))) (λ j b. sym (beyond j (omega (arith, t .sized .after)))) (t .laid);
+      laid = laid-kept (w .part) (new .part) (sym (length-put p w (coded (e .entry)) (e .from) (inputField (e .input)) (t .sized) room)) (λ q b. same-words (w .part) (new .part) (p .nodes + 8 * q) (p .nodes + 8 * q) (sym (beyond (p .nodes + 8 * q) (omega arith))) (sym (beyond (p .nodes + 8 * q + 1) (omega arith)))) (λ q b. sym (beyond (p .nodes + 8 * q + 2) (omega arith))) (λ j b. sym (beyond j (omega (arith, t .sized .after)))) (t .laid);
     }
       where
         beyond : (j : ℕ) → p .nodes ≤ j → getD (new .part) j 0 ≡ getD (w .part) j 0

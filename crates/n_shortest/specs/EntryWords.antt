@@ -7,7 +7,8 @@ use lib.Ieee.{Float, binary32, add, ofBits, toBits}
 use lib.ListN.{length, set}
 use Rattle.tropical_weight.specs.Single.{numberBits}
 use Rattle.slots.specs.Slots.{nothing}
-use Rattle.search_slots.specs.Slots.{nodeWord, costWord, rankWord, distanceWord}
+use Rattle.distance.specs.Held.{weightIn, distanceIn}
+use Rattle.search_slots.specs.Slots.{nodeWord, costWord, rankWord}
 use Rattle.n_shortest.specs.declared.entry.Entry.{Entry}
 use Rattle.n_shortest.specs.declared.entry.Entry.the-variants.{Half, Finished}
 
@@ -19,17 +20,17 @@ abbrev pub costOf : Entry → Float
 costOf (Half v c) = c
 costOf (Finished c) = c
 
--- distance plus cost
+-- distance plus cost: what an unreached one adds is infinity
 abbrev pub rankBy : Float → Entry → Float
 rankBy d (Half v c) = add binary32 d c
 rankBy d (Finished c) = c
 
 abbrev pub rankW : List ℕ → ℕ → Entry → Float
-rankW part nodes e = rankBy (ofBits binary32 (distanceWord part nodes (nodeOf e))) e
+rankW part nodes e = rankBy (weightIn (distanceIn part (nodes + 8 * nodeOf e))) e
 
 -- the node of a half-built one has a slot
 abbrev pub Inside : List ℕ → ℕ → Entry → Type 0
-Inside part nodes (Half v c) = nodes + 8 * v < length part
+Inside part nodes (Half v c) = nodes + 8 * v + 1 < length part
 Inside part nodes (Finished c) = Unit
 
 -- the entry in slot x

@@ -119,7 +119,7 @@ pub record Sized (p : Places) (s : Words) : Type 0 where
 -- a chain of so many reversed links from k on, each in its slot, to nodes that have slots
 unfoldable pub Chain : Places → List ℕ → ℕ → ℕ → Type 0
 Chain p part zero k = k ≡ nothing
-Chain p part (suc n) k = (p .links + 8 * k + 2 < length part) × (p .nodes + 8 * nextWord part (p .links) k < length part) × Chain p part n (chainWord part (p .links) k)
+Chain p part (suc n) k = (p .links + 8 * k + 2 < length part) × (p .nodes + 8 * nextWord part (p .links) k + 1 < length part) × Chain p part n (chainWord part (p .links) k)
 
 -- what an expansion at node v asks: a chain, and slots for what it puts in
 pub record Expands (p : Places) (s : Words) (v : ℕ) : Type 0 where
@@ -149,4 +149,4 @@ Runs p n most part = (k : ℕ) → stoppedW n (afterW p n most k (begunW p part)
 pub record Begins (p : Places) (part : List ℕ) : Type 0 where
   pub sized : Sized p (noneW part)
   pub free : 8 ≤ p .nodes
-  pub node : p .nodes < length part
+  pub node : p .nodes + 1 < length part

@@ -36,15 +36,15 @@ fn cost_of(e: Entry) -> f32
     }
 }
 
-// Distance plus cost.
+// Distance plus cost, infinite where the node is unreached.
 fn rank(part: &[u32], nodes: usize, e: Entry) -> f32
     requires { ⌜ Inside (now part) nodes e ⌝ }
     ensures { λ r. ⌜ r ≡ rankW (now (part .entry)) nodes e ⌝ }
 {
     match e {
         Entry::Half(v, c) => {
-            let distance = tropical_weight::from_bits(part[nodes + SLOT * (v as usize)]);
-            tropical_weight::times(distance, c)
+            let d = distance::distance_at(part, nodes + SLOT * (v as usize));
+            tropical_weight::times(distance::as_weight(d), c)
         }
         Entry::Finished(c) => c,
     }

@@ -3,6 +3,7 @@
 // the distances), the words of the work area, the bytes of the result area, the words of the work
 // area that must be left zero, the bytes of the sheet, those bytes, the bytes of the answer, and what
 // the case is. Prints the lines that differ, and how many there were.
+use distance::WRITTEN;
 use libc::STDIN_FILENO;
 use shortest_distance::Distances;
 use stored_cases::areas;
@@ -17,7 +18,7 @@ use stored_cases::tally;
 // Whether the call answered this number, and where it is 0 so many bytes of distances.
 fn answered(answer: Distances, said: usize, bytes: usize) -> bool {
     match answer {
-        Distances::Count(n) => said == 0 && bytes == 4 * (n as usize),
+        Distances::Count(n) => said == 0 && bytes == WRITTEN * (n as usize),
         Distances::Refused(k) => said == (k as usize) && 0 < k && bytes == 0,
     }
 }
@@ -36,8 +37,8 @@ fn call(sheet: &[u8], work: &mut [u32], words: usize, result: &mut [u8], room: u
 // Whether the call on this sheet does what the line says.
 fn does(line: &[u8], sheet: &[u8]) -> bool {
     let mut work = [WORK_MARK; 32784];
-    let mut result = [RESULT_MARK; 16392];
-    let mut bytes = [0u8; 16392];
+    let mut result = [RESULT_MARK; 32784];
+    let mut bytes = [0u8; 32784];
     let answer = call(
         sheet,
         &mut work,

@@ -14,14 +14,16 @@ use Rattle.tropical_weight.specs.Grid.{ofT}
 use Rattle.sheet.specs.declared.tr.Trailer.{Trailer}
 use Rattle.sheet.specs.Records.{trailerAt}
 use Rattle.sheet.specs.Sheet.{partsOf}
-use Rattle.sheet.specs.Machine.{Machine, machineOf, weightOf, bitsOf}
+use Rattle.sheet.specs.Machine.{Machine, machineOf, weightOf}
 use Rattle.sheet.proofs.Fields.{read-fields}
 use Rattle.sheet.proofs.Sources.{machine-nodes}
-use Rattle.machine.specs.Distance.{dist}
+use Rattle.machine.specs.Distance.{distance}
+use Rattle.distance.specs.Held.{held, distanceIn}
+use Rattle.distance.proofs.Words.{same-words}
 use Rattle.shortest_distance.specs.Outcome.{slotsNeeded}
 use Rattle.shortest_distance.specs.Sound.{Made}
 use Rattle.slots.specs.Slots.{nothing}
-use Rattle.search_slots.specs.Slots.{distanceWord, headWord, nextWord, weightWord, chainWord}
+use Rattle.search_slots.specs.Slots.{headWord, nextWord, weightWord, chainWord}
 use Rattle.reversed_machine.specs.ReverseWords.{chainOf, backOf}
 use Rattle.reversed_machine.specs.Laid.{backCount, MeasuredIn, Laid}
 
@@ -43,7 +45,7 @@ module _ (m : Machine) (nodes links : ℕ) (part : List ℕ) (laid : Laid m node
     inside = λ k h. subst (λ (j : ℕ). (0 < j) × (j ≤ length (m .finals))) (sym (next k)) (laid .inside k h);
     valued = λ k h. subst (λ (w : ℕ). ofBits binary32 w ≡ ofT unit (weightOf w)) (sym (weight k)) (laid .valued k h);
     out = λ q h n b. (λ i. map (back i) ((chain-same part new links chain n (headWord new nodes q) ∙ ap (λ (k : ℕ). chainOf part links k n) (head q)) i)) ∙ laid .out q h n b;
-    distances = λ q h. same (nodes + 8 * q) (omega arith) (λ j b z. omega arith) ∙ laid .distances q h;
+    distances = λ q h. same-words new part (nodes + 8 * q) (nodes + 8 * q) (same (nodes + 8 * q) (omega arith) (λ j b z. omega arith)) (same (nodes + 8 * q + 1) (omega arith) (λ j b z. omega arith)) ∙ laid .distances q h;
   }
     where
       head : (q : ℕ) → headWord new nodes q ≡ headWord part nodes q
@@ -85,11 +87,17 @@ module _ (bytes : List ℕ) (nodes : ℕ) (old made : List ℕ) (fits : nodes + 
     lent-size : length made ≡ length old - (nodes + 8)
     lent-size = h .size ∙ length-take-le (length old - (nodes + 8)) (drop (nodes + 8) old) (omega (arith, length-drop (nodes + 8) old))
 
-    here : (v : ℕ) → v < slotsNeeded bytes → distanceWord (take (nodes + 8) old ++ (made ++ rest)) nodes (v + 1) ≡ bitsOf (dist (machineOf (partsOf bytes)) v)
-    here v b =
-        ap (λ (i : ℕ). getD (take (nodes + 8) old ++ (made ++ rest)) i 0) (let z : nodes + 8 * (v + 1) ≡ length (take (nodes + 8) old) + 8 * v = omega (arith, front-size) in z)
-        ∙ getD-append-add (take (nodes + 8) old) (made ++ rest) (8 * v) 0
-        ∙ List·getD-append made rest 0 (8 * v) (omega (arith, lent-size))
+    -- a word of the nodes' slots
+    here : (i j : ℕ) → i ≡ nodes + 8 + j → j < 8 * slotsNeeded bytes → getD (take (nodes + 8) old ++ (made ++ rest)) i 0 ≡ getD made j 0
+    here i j at b =
+        ap (λ (k : ℕ). getD (take (nodes + 8) old ++ (made ++ rest)) k 0) (let z : i ≡ length (take (nodes + 8) old) + j = omega (arith, front-size) in z)
+        ∙ getD-append-add (take (nodes + 8) old) (made ++ rest) j 0
+        ∙ List·getD-append made rest 0 j (omega (arith, lent-size))
+
+    distance-here : (v : ℕ) → v < slotsNeeded bytes → distanceIn (take (nodes + 8) old ++ (made ++ rest)) (nodes + 8 * (v + 1)) ≡ held (distance (machineOf (partsOf bytes)) v)
+    distance-here v b =
+        same-words (take (nodes + 8) old ++ (made ++ rest)) made (nodes + 8 * (v + 1)) (8 * v) (here (nodes + 8 * (v + 1)) (8 * v) (omega arith) (omega arith))
+        (here (nodes + 8 * (v + 1) + 1) (8 * v + 1) (omega arith) (omega arith))
         ∙ h .each v b
 
     after : drop (nodes + 8 * (slotsNeeded bytes + 1)) (take (nodes + 8) old ++ (made ++ rest)) ≡ drop (nodes + 8 * (slotsNeeded bytes + 1)) old
@@ -106,7 +114,7 @@ module _ (bytes : List ℕ) (nodes : ℕ) (old made : List ℕ) (fits : nodes + 
 
     pub measured-in : MeasuredIn bytes nodes old (take (nodes + 8) old ++ (made ++ rest))
     measured-in = record {
-      measured = λ v b. here v (subst (λ (n : ℕ). v < n) (machine-nodes (partsOf bytes)) b);
+      measured = λ v b. distance-here v (subst (λ (n : ℕ). v < n) (machine-nodes (partsOf bytes)) b);
       size =
           length-append (take (nodes + 8) old) (made ++ rest)
           ∙ omega (arith, front-size, length-append made rest, lent-size, length-drop (length old - (nodes + 8)) (drop (nodes + 8) old), length-drop (nodes + 8) old);

@@ -1,28 +1,23 @@
 -- The passes of the reversal, a turn at a time. Assumes nothing.
-use mathlib.Core.Path.{_≡_, refl, sym, ap, _∙_}
-use mathlib.Core.Logic.{_⊎_, inl, inr}
+use mathlib.Core.Path.{_≡_, sym, ap, _∙_}
 use mathlib.Core.Bool.{Bool, true, false, cond}
-use mathlib.Core.Option.{Option, none, some}
-use mathlib.Core.List.{List, [], _∷_, _++_}
-use Prim.Native.Nat.{ℕ, zero, suc, _+_, _-_, _*_, _≤_, _<_}
-use native.Mathlib.Nat.{le-of-eq, eq-or-lt-of-le}
+use mathlib.Core.List.{List}
+use Prim.Native.Nat.{ℕ, suc, _+_, _-_, _*_, _<_}
 use native.Mathlib.Numerals.{add-one}
 use native.Mathlib.Omega.{arith}
 use lib.Dec.{eqb}
 use lib.ListN.{set}
-use lib.Ieee.{Float, binary32, add, ofBits, toBits}
+use lib.Ieee.{Float, binary32, add, ofBits}
 use borrow.Author.Tests.{eq-eqb, ne-eqb}
-use Rattle.tropical_weight.specs.Tropical.{Tropical}
 use Rattle.tropical_weight.specs.Single.{lesser}
-use Rattle.sheet.specs.Below.{sumBelow, listBelow}
+use Rattle.sheet.specs.Below.{sumBelow}
 use Rattle.sheet.specs.Words.{word}
-use Rattle.sheet.specs.Machine.{weightOf, finalOf}
 use Rattle.sheet.specs.Records.{countAt, firstLink, markAt, finalAt}
-use Rattle.machine.specs.Readings.{marked}
 use Rattle.slots.specs.Slots.{nothing}
-use Rattle.search_slots.specs.Slots.{distanceWord}
-use Rattle.machine.specs.Finals.{finalsAt, finalCount}
-use Rattle.reversed_machine.specs.ReverseWords.{headsCleared, chained, linksPut, linksReversed, finalsReversed, leastTotal, chainsPut, reversedWords}
+use Rattle.distance.specs.declared.Distance.{Distance}
+use Rattle.distance.specs.Held.{weightIn, distanceIn, withDistance}
+use Rattle.machine.specs.Finals.{finalCount}
+use Rattle.reversed_machine.specs.ReverseWords.{headsCleared, chained, linksPut, linksReversed, finalsReversed, leastTotal, leastDistance, chainsPut, reversedWords}
 
 -- ---- heads
 pub cleared-next : (nodes q : ℕ) (part : List ℕ) → headsCleared nodes (q + 1) part ≡ set (set (headsCleared nodes q part) (nodes + 8 * q + 2) nothing) (nodes + 8 * q + 3) 0
@@ -76,23 +71,23 @@ module _ (bytes : List ℕ) (nodes links : ℕ) (part new whole : List ℕ) wher
 -- ---- the least total, one node more
 module _ (bytes : List ℕ) (nodes T v : ℕ) (part : List ℕ) where
   total-next : (b : Bool) → eqb (markAt bytes T v) 0 ≡ b
-      → leastTotal bytes nodes T (v + 1) part ≡ cond b (leastTotal bytes nodes T v part) (lesser (leastTotal bytes nodes T v part) (add binary32 (ofBits binary32 (distanceWord part nodes (v + 1))) (ofBits binary32 (finalAt bytes T v))))
+      → leastTotal bytes nodes T (v + 1) part ≡ cond b (leastTotal bytes nodes T v part) (lesser (leastTotal bytes nodes T v part) (add binary32 (weightIn (distanceIn part (nodes + 8 * (v + 1)))) (ofBits binary32 (finalAt bytes T v))))
   unfolding leastTotal
   total-next b e =
       ap (λ (k : ℕ). leastTotal bytes nodes T k part) (add-one v)
-      ∙ ap (λ (t : Bool). cond t (leastTotal bytes nodes T v part) (lesser (leastTotal bytes nodes T v part) (add binary32 (ofBits binary32 (distanceWord part nodes (v + 1))) (ofBits binary32 (finalAt bytes T v))))) e
+      ∙ ap (λ (t : Bool). cond t (leastTotal bytes nodes T v part) (lesser (leastTotal bytes nodes T v part) (add binary32 (weightIn (distanceIn part (nodes + 8 * (v + 1)))) (ofBits binary32 (finalAt bytes T v))))) e
 
   pub total-plain : (least : Float) → least ≡ leastTotal bytes nodes T v part → markAt bytes T v ≡ 0 → least ≡ leastTotal bytes nodes T (v + 1) part
   total-plain least h e = h ∙ sym (total-next true (eq-eqb (markAt bytes T v) 0 e))
 
-  pub total-final : (least d w s r : Float) → least ≡ leastTotal bytes nodes T v part → (markAt bytes T v ≡ 0 → ⊥) → d ≡ ofBits binary32 (distanceWord part nodes (v + 1)) → w ≡ ofBits binary32 (finalAt bytes T v)
+  pub total-final : (least d w s r : Float) → least ≡ leastTotal bytes nodes T v part → (markAt bytes T v ≡ 0 → ⊥) → d ≡ weightIn (distanceIn part (nodes + 8 * (v + 1))) → w ≡ ofBits binary32 (finalAt bytes T v)
       → s ≡ add binary32 d w → r ≡ lesser least s → r ≡ leastTotal bytes nodes T (v + 1) part
   total-final least d w s r h n a b e f = f ∙ (λ i. lesser (h i) ((e ∙ λ j. add binary32 (a j) (b j)) i)) ∙ sym (total-next false (ne-eqb (markAt bytes T v) 0 n))
 
 -- ---- one pass after the other
-pub passes-made : (bytes : List ℕ) (nodes links N T : ℕ) (part a b d : List ℕ) (least : Float) (bits : ℕ) → a ≡ headsCleared nodes (N + 1) part → b ≡ linksReversed bytes nodes links T N a → d ≡ finalsReversed bytes nodes links T N b
-    → least ≡ leastTotal bytes nodes T N d → bits ≡ toBits binary32 least → set d nodes bits ≡ reversedWords bytes nodes links N T part
+pub passes-made : (bytes : List ℕ) (nodes links N T : ℕ) (part a b d new : List ℕ) (least : Distance) → a ≡ headsCleared nodes (N + 1) part → b ≡ linksReversed bytes nodes links T N a → d ≡ finalsReversed bytes nodes links T N b
+    → least ≡ leastDistance bytes nodes T N d → new ≡ withDistance d nodes least → new ≡ reversedWords bytes nodes links N T part
 unfolding reversedWords chainsPut
-passes-made bytes nodes links N T part a b d least bits ea eb ed el ew =
+passes-made bytes nodes links N T part a b d new least ea eb ed el ew =
     let put : d ≡ chainsPut bytes nodes links N T part = ed ∙ ap (finalsReversed bytes nodes links T N) (eb ∙ ap (linksReversed bytes nodes links T N) ea) in
-    (λ i. set (put i) nodes ((ew ∙ ap (toBits binary32) (el ∙ ap (leastTotal bytes nodes T N) put)) i))
+    ew ∙ λ i. withDistance (put i) nodes ((el ∙ ap (leastDistance bytes nodes T N) put) i)

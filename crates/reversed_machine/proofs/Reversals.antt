@@ -5,30 +5,32 @@ use mathlib.Core.List.{List, map}
 use Prim.Native.Nat.{ℕ, zero, suc, _+_, _-_, _*_, _≤_, _<_, min}
 use native.Mathlib.Nat.{le-refl}
 use native.Mathlib.Omega.{arith}
-use lib.ListN.{length, getD, take, drop, set, length-set, length-take, length-drop}
-use lib.Seq.{getD-set-same, getD-set-other, getD-take, getD-drop, ext-getD}
-use lib.Ieee.{binary32, toBits}
+use lib.ListN.{length, getD, take, drop, length-take, length-drop}
+use lib.Seq.{getD-take, getD-drop, ext-getD}
 use Rattle.sheet.specs.Sheet.{partsOf}
 use Rattle.sheet.specs.declared.tr.Trailer.{Trailer}
 use Rattle.sheet.specs.Records.{trailerAt}
-use Rattle.sheet.specs.Machine.{Machine, machineOf, bitsOf}
+use Rattle.sheet.specs.Machine.{Machine, machineOf}
 use Rattle.sheet.proofs.Below.{split-at}
-use Rattle.machine.specs.Distance.{dist}
+use Rattle.machine.specs.Distance.{distance}
+use Rattle.distance.specs.declared.Distance.{Distance}
+use Rattle.distance.specs.Held.{held, distanceIn, withDistance}
+use Rattle.distance.proofs.Words.{same-words, put-back, put-word, put-other, put-length}
 use Rattle.machine.specs.Input.{inputNumber}
 use Rattle.search.specs.Reversed.{outOf, distanceTo}
 use Rattle.machine.specs.Readings.{marked}
 use Rattle.shortest_distance.proofs.Accepted.{reads, nodes-are, links-are}
 use Rattle.slots.specs.Slots.{nothing}
-use Rattle.search_slots.specs.Slots.{distanceWord, headWord, visitsWord, chainWord}
+use Rattle.search_slots.specs.Slots.{headWord, visitsWord, chainWord}
 use Rattle.machine.specs.Finals.{finalsAt, finalCount}
-use Rattle.reversed_machine.specs.ReverseWords.{headsCleared, linksReversed, finalsReversed, leastTotal, chainsPut, reversedWords, chainOf, backOf}
+use Rattle.reversed_machine.specs.ReverseWords.{headsCleared, linksReversed, finalsReversed, leastDistance, chainsPut, reversedWords, chainOf, backOf}
 use Rattle.reversed_machine.specs.Laid.{backCount, Measured, Laid, Reversal}
 use Rattle.machine.proofs.FinalCount.{count-none, count-most}
 use Rattle.machine.proofs.SheetFields.{SheetFields, fields-own}
 use Rattle.reversed_machine.proofs.Fronts.{Lists, Same, lists-lower, lists-kept, lists-length, lists-read, lists-first, Filled, filled-kept}
 use Rattle.reversed_machine.proofs.Chains.{Passed, Ended, links-reversed, finals-reversed}
 use Rattle.reversed_machine.proofs.Untouched.{cleared-size, cleared-spared, cleared-words, Free, reversed-size, finals-size, reversed-free, finals-free}
-use Rattle.reversed_machine.proofs.Totals.{least-exact}
+use Rattle.reversed_machine.proofs.Totals.{least-held}
 
 -- ---- after the passes, by the machine's own numbers
 module _ (bytes : List ℕ) (e : inputNumber bytes ≡ 0) (nodes links : ℕ) (part : List ℕ) where
@@ -61,11 +63,11 @@ module _ (bytes : List ℕ) (e : inputNumber bytes ≡ 0) (nodes links : ℕ) (p
     abbrev put : List ℕ
     put = finalsReversed bytes nodes links T N half
 
-    abbrev bits : ℕ
-    bits = toBits binary32 (leastTotal bytes nodes T N put)
+    abbrev least : Distance
+    least = leastDistance bytes nodes T N put
 
     abbrev new : List ℕ
-    new = set put nodes bits
+    new = withDistance put nodes least
 
     put-size : length put ≡ length part
     put-size = finals-size bytes nodes links T N half ∙ reversed-size bytes nodes links T N heads ∙ cleared-size nodes part (N + 1)
@@ -82,43 +84,49 @@ module _ (bytes : List ℕ) (e : inputNumber bytes ≡ 0) (nodes links : ℕ) (p
     put-free : (i : ℕ) → Free nodes links N (backCount m) i → getD put i 0 ≡ getD heads i 0
     put-free i f = finals-free bytes nodes links T N m s (backCount m) whole N (le-refl N) half i f ∙ reversed-free bytes nodes links T N m s (backCount m) whole N (le-refl N) heads i f
 
-    -- any word but word 0 of node 0's slot, and those two words of the nodes
-    kept : (i : ℕ) → Free nodes links N (backCount m) i → ((q : ℕ) → q ≤ N → i ≡ nodes + 8 * q + 3 → ⊥) → (i ≡ nodes → ⊥) → getD new i 0 ≡ getD part i 0
-    kept i f v n =
-        getD-set-other put nodes i bits 0 n
+    -- any word but the distance of node 0, and those two words of the nodes
+    kept : (i : ℕ) → Free nodes links N (backCount m) i → ((q : ℕ) → q ≤ N → i ≡ nodes + 8 * q + 3 → ⊥) → (i ≡ nodes → ⊥) → (i ≡ nodes + 1 → ⊥) → getD new i 0 ≡ getD part i 0
+    kept i f v n o =
+        put-word put nodes least i n o
         ∙ put-free i f
         ∙ cleared-spared nodes part (N + 1) i (λ q h. f .0 q (omega arith)) (λ q h. v q (omega arith))
 
-    distance-free : (v : ℕ) → v < N → Free nodes links N (backCount m) (nodes + 8 * (v + 1))
-    distance-free v h = (λ q b z. omega arith, inl (omega arith))
+    -- word j of an old node's slot, one of its distance
+    distance-free : (v j i : ℕ) → v < N → j < 2 → i ≡ nodes + 8 * (v + 1) + j → getD put i 0 ≡ getD part i 0
+    distance-free v j i h b at =
+        put-free i (λ q c z. omega arith, inl (omega arith))
+        ∙ cleared-spared nodes part (N + 1) i (λ q c z. omega arith) (λ q c z. omega arith)
 
-    put-measured : (v : ℕ) → v < N → distanceWord put nodes (v + 1) ≡ bitsOf (dist m v)
+    put-measured : (v : ℕ) → v < N → distanceIn put (nodes + 8 * (v + 1)) ≡ held (distance m v)
     put-measured v h =
-        put-free (nodes + 8 * (v + 1)) (distance-free v h)
-        ∙ cleared-spared nodes part (N + 1) (nodes + 8 * (v + 1)) (λ q b z. omega arith) (λ q b z. omega arith)
+        let at = nodes + 8 * (v + 1) in
+        same-words put part at at (distance-free v 0 at h (omega arith) (omega arith)) (distance-free v 1 (at + 1) h (omega arith) (omega arith))
         ∙ measured v h
 
-    least-is : bits ≡ bitsOf (distanceTo m 0)
+    least-is : least ≡ held (distanceTo m 0)
     least-is =
         let r = reads bytes e in
-        ap (toBits binary32) (least-exact m (r .climbs) (r .small) (r .few) bytes T N s nodes put put-measured)
+        least-held m (r .climbs) (r .small) (r .few) bytes T N s nodes put put-measured
 
-    distances : (q : ℕ) → q ≤ N → distanceWord new nodes q ≡ bitsOf (distanceTo m q)
-    distances zero h = ap (λ (i : ℕ). getD new i 0) (let z : nodes + 8 * 0 ≡ nodes = omega arith in z) ∙ getD-set-same put nodes bits 0 (omega (arith, put-size)) ∙ least-is
+    distances : (q : ℕ) → q ≤ N → distanceIn new (nodes + 8 * q) ≡ held (distanceTo m q)
+    distances zero h =
+        ap (distanceIn new) (let z : nodes + 8 * 0 ≡ nodes = omega arith in z)
+        ∙ ap (λ (d : Distance). distanceIn (withDistance put nodes d) nodes) least-is
+        ∙ put-back put nodes (distanceTo m 0) (omega (arith, put-size))
     distances (suc v) h =
-        getD-set-other put nodes (nodes + 8 * suc v) bits 0 (λ z. omega arith)
-        ∙ ap (distanceWord put nodes) (let z : suc v ≡ v + 1 = omega arith in z) ∙ put-measured v h
+        put-other put nodes least (nodes + 8 * suc v) (λ z. omega arith) (λ z. omega arith) (λ z. omega arith)
+        ∙ ap (λ (q : ℕ). distanceIn put (nodes + 8 * q)) (let z : suc v ≡ v + 1 = omega arith in z) ∙ put-measured v h
 
     -- ---- the last store leaves links and heads
     stored : (top : ℕ) → Same links T top 0 put new
     stored top = record {
-      next = λ k a b. getD-set-other put nodes (links + 8 * k) bits 0 (λ z. omega arith);
-      weight = λ k a b. getD-set-other put nodes (links + 8 * k + 1) bits 0 (λ z. omega arith);
-      chain = λ k a b. getD-set-other put nodes (links + 8 * k + 2) bits 0 (λ z. omega arith);
+      next = λ k a b. put-word put nodes least (links + 8 * k) (λ z. omega arith) (λ z. omega arith);
+      weight = λ k a b. put-word put nodes least (links + 8 * k + 1) (λ z. omega arith) (λ z. omega arith);
+      chain = λ k a b. put-word put nodes least (links + 8 * k + 2) (λ z. omega arith) (λ z. omega arith);
     }
 
     head-same : (q : ℕ) → headWord new nodes q ≡ headWord put nodes q
-    head-same q = getD-set-other put nodes (nodes + 8 * q + 2) bits 0 (λ z. omega arith)
+    head-same q = put-word put nodes least (nodes + 8 * q + 2) (λ z. omega arith) (λ z. omega arith)
 
     front-lists : Lists links T (T + finalCount bytes T N) new 0 (headWord new nodes 0) (outOf m 0)
     front-lists =
@@ -167,10 +175,13 @@ module _ (bytes : List ℕ) (e : inputNumber bytes ≡ 0) (nodes links : ℕ) (p
             filled-kept links T (backCount m) N 0 put new (stored (backCount m)) k (omega arith) h
             (subst (λ (top : ℕ). Filled links T top N put k) whole (ended .lasts k (omega (arith, count-none bytes T)) (omega (arith, whole))))
 
+    new-size : length new ≡ length part
+    new-size = put-length put nodes least ∙ put-size
+
     laid : Laid m nodes links new
     laid = record {
       apart = apart;
-      room = simp length-set (omega (arith, put-size));
+      room = omega (arith, new-size);
       few = few-links;
       heads = begins;
       rises = λ k h. filled k h .rises;
@@ -182,12 +193,9 @@ module _ (bytes : List ℕ) (e : inputNumber bytes ≡ 0) (nodes links : ℕ) (p
 
     fresh : (q : ℕ) → q ≤ N → visitsWord new nodes q ≡ 0
     fresh q h =
-        getD-set-other put nodes (nodes + 8 * q + 3) bits 0 (λ z. omega arith)
+        put-word put nodes least (nodes + 8 * q + 3) (λ z. omega arith) (λ z. omega arith)
         ∙ put-free (nodes + 8 * q + 3) (λ j b z. omega arith, inl (omega arith))
         ∙ cleared-words nodes part (N + 1) q (omega arith) (omega arith) .1
-
-    new-size : length new ≡ length part
-    new-size = length-set put nodes bits ∙ put-size
 
     reversal-made : Reversal m nodes links part new
     reversal-made = record {
@@ -202,10 +210,10 @@ module _ (bytes : List ℕ) (e : inputNumber bytes ≡ 0) (nodes links : ℕ) (p
         end = links + 8 * backCount m
 
         early : (i : ℕ) → i < nodes → getD (take nodes new) i 0 ≡ getD (take nodes part) i 0
-        early i h = getD-take nodes new i 0 h ∙ kept i (λ q b z. omega arith, inl (omega arith)) (λ q b z. omega arith) (λ z. omega arith) ∙ sym (getD-take nodes part i 0 h)
+        early i h = getD-take nodes new i 0 h ∙ kept i (λ q b z. omega arith, inl (omega arith)) (λ q b z. omega arith) (λ z. omega arith) (λ z. omega arith) ∙ sym (getD-take nodes part i 0 h)
 
         late : (i : ℕ) → getD (drop end new) i 0 ≡ getD (drop end part) i 0
-        late i = getD-drop end new i 0 ∙ kept (end + i) (λ q b z. omega arith, inr (omega arith)) (λ q b z. omega arith) (λ z. omega arith) ∙ sym (getD-drop end part i 0)
+        late i = getD-drop end new i 0 ∙ kept (end + i) (λ q b z. omega arith, inr (omega arith)) (λ q b z. omega arith) (λ z. omega arith) (λ z. omega arith) ∙ sym (getD-drop end part i 0)
 
 -- ---- as the code is asked, by the trailer that reading found
 pub reversal : (bytes : List ℕ) → inputNumber bytes ≡ 0 → (t : Trailer) → t ≡ trailerAt bytes → (finals nodes links : ℕ) (part : List ℕ) → finals ≡ finalCount bytes (t .links) (t .nodes)

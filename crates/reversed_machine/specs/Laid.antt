@@ -9,12 +9,13 @@ use lib.Ieee.{binary32, ofBits}
 use Rattle.tropical_weight.specs.Limits.{unit}
 use Rattle.tropical_weight.specs.Grid.{ofT}
 use Rattle.sheet.specs.Sheet.{partsOf}
-use Rattle.sheet.specs.Machine.{Machine, machineOf, weightOf, bitsOf}
-use Rattle.machine.specs.Distance.{dist}
+use Rattle.sheet.specs.Machine.{Machine, machineOf, weightOf}
+use Rattle.machine.specs.Distance.{distance}
+use Rattle.distance.specs.Held.{held, distanceIn}
 use Rattle.search.specs.Reversed.{outOf, distanceTo}
 use Rattle.machine.specs.Readings.{marked}
 use Rattle.slots.specs.Slots.{nothing}
-use Rattle.search_slots.specs.Slots.{distanceWord, headWord, visitsWord, nextWord, weightWord, chainWord}
+use Rattle.search_slots.specs.Slots.{headWord, visitsWord, nextWord, weightWord, chainWord}
 use Rattle.reversed_machine.specs.ReverseWords.{chainOf, backOf}
 
 -- the links of the reversed machine: those of the input, and one to each final node
@@ -23,7 +24,7 @@ backCount m = length (m .links) + marked (m .finals)
 
 -- the slots of the old nodes hold their distances
 abbrev pub Measured : Machine → ℕ → List ℕ → Type 0
-Measured m nodes part = (v : ℕ) → v < length (m .finals) → distanceWord part nodes (v + 1) ≡ bitsOf (dist m v)
+Measured m nodes part = (v : ℕ) → v < length (m .finals) → distanceIn part (nodes + 8 * (v + 1)) ≡ held (distance m v)
 
 -- the same of the part after they are made, which is as it was up to the slot of node 1, and beyond the nodes' slots
 pub record MeasuredIn (bytes : List ℕ) (nodes : ℕ) (old part : List ℕ) : Type 0 where
@@ -45,7 +46,7 @@ pub record Laid (m : Machine) (nodes links : ℕ) (part : List ℕ) : Type 0 whe
   pub valued : (k : ℕ) → k < backCount m → ofBits binary32 (weightWord part links k) ≡ ofT unit (weightOf (weightWord part links k))
   -- the chain of a node lists the links out of it, and its slot holds its distance
   pub out : (q : ℕ) → q ≤ length (m .finals) → (n : ℕ) → backCount m ≤ n → map (backOf part links (length (m .links))) (chainOf part links (headWord part nodes q) n) ≡ outOf m q
-  pub distances : (q : ℕ) → q ≤ length (m .finals) → distanceWord part nodes q ≡ bitsOf (distanceTo m q)
+  pub distances : (q : ℕ) → q ≤ length (m .finals) → distanceIn part (nodes + 8 * q) ≡ held (distanceTo m q)
 
 -- the part after the reversal: laid out, no node taken, and beside the slots of nodes and links as it was
 pub record Reversal (m : Machine) (nodes links : ℕ) (old part : List ℕ) : Type 0 where

@@ -7,7 +7,7 @@ use Prim.Native.Nat.{ℕ, zero, suc, _+_, _*_}
 use lib.Dec.{eqb, ltb}
 use lib.ListN.{getD, set}
 use lib.Ieee as Ieee
-use lib.Ieee.{Float, binary32, add, ofBits, toBits}
+use lib.Ieee.{Float, binary32, add, ofBits}
 use Rattle.tropical_weight.specs.Single.{lesser}
 use Rattle.sheet.specs.Words.{word}
 use Rattle.sheet.specs.Records.{countAt, firstLink, markAt, finalAt}
@@ -16,7 +16,9 @@ use Rattle.search.specs.Reversed.{Back}
 use Rattle.machine.specs.Readings.{marked}
 use Rattle.machine.specs.Finals.{finalsAt, finalCount}
 use Rattle.slots.specs.Slots.{nothing}
-use Rattle.search_slots.specs.Slots.{distanceWord, nextWord, weightWord, chainWord}
+use Rattle.distance.specs.declared.Distance.{Distance}
+use Rattle.distance.specs.Held.{weightIn, distanceFrom, distanceIn, withDistance}
+use Rattle.search_slots.specs.Slots.{nextWord, weightWord, chainWord}
 
 -- ---- heads
 -- the chains of the first n nodes empty, and none of these taken
@@ -62,12 +64,16 @@ module _ (bytes : List ℕ) (nodes links : ℕ) where
 -- offered a final node's total
 abbrev pub totalWith : List ℕ → ℕ → ℕ → ℕ → List ℕ → Float → Float
 totalWith bytes nodes T v part least =
-    cond (eqb (markAt bytes T v) 0) least (lesser least (add binary32 (ofBits binary32 (distanceWord part nodes (v + 1))) (ofBits binary32 (finalAt bytes T v))))
+    cond (eqb (markAt bytes T v) 0) least (lesser least (add binary32 (weightIn (distanceIn part (nodes + 8 * (v + 1)))) (ofBits binary32 (finalAt bytes T v))))
 
 -- over the first n nodes
 unfoldable pub leastTotal : List ℕ → ℕ → ℕ → ℕ → List ℕ → Float
 leastTotal bytes nodes T zero part = Ieee.inf false
 leastTotal bytes nodes T (suc v) part = totalWith bytes nodes T v part (leastTotal bytes nodes T v part)
+
+-- reached where it is finite
+abbrev pub leastDistance : List ℕ → ℕ → ℕ → ℕ → List ℕ → Distance
+leastDistance bytes nodes T n part = distanceFrom (leastTotal bytes nodes T n part)
 
 -- ---- all of it, for a sheet of N nodes and T links
 -- the links and their chains
@@ -76,10 +82,10 @@ unfolding headsCleared linksReversed finalsReversed
 chainsPut bytes nodes links N T part = finalsReversed bytes nodes links T N (linksReversed bytes nodes links T N (headsCleared nodes (N + 1) part))
 
 unfoldable pub reversedWords : List ℕ → ℕ → ℕ → ℕ → ℕ → List ℕ → List ℕ
-unfolding chainsPut leastTotal toBits
+unfolding chainsPut leastTotal
 reversedWords bytes nodes links N T part =
     let put = chainsPut bytes nodes links N T part in
-    set put nodes (toBits binary32 (leastTotal bytes nodes T N put))
+    withDistance put nodes (leastDistance bytes nodes T N put)
 
 -- ---- what the slots hold
 -- the numbers along a chain from k on, at most n of them

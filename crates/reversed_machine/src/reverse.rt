@@ -9,7 +9,8 @@ ghost use Rattle.sheet.specs.Records.{countAt, trailerAt};
 ghost use Rattle.machine.specs.Input.{inputNumber};
 ghost use Rattle.reversed_machine.specs.Laid.{MeasuredIn};
 ghost use Rattle.machine.specs.Finals.{finalCount};
-ghost use Rattle.reversed_machine.specs.ReverseWords.{headsCleared, chained, linksPut, linksReversed, finalsReversed, leastTotal, reversedWords};
+ghost use Rattle.reversed_machine.specs.ReverseWords.{headsCleared, chained, linksPut, linksReversed, finalsReversed, leastDistance, reversedWords};
+use distance::Distance;
 use search_slots::CHAIN;
 use search_slots::HEAD;
 use search_slots::VISITS;
@@ -138,23 +139,26 @@ fn reverse_finals(
 }
 
 // The least total, by the distances in the slots: that of a final node is its distance and its final
-// weight.
-fn least_total(sheet: &[u8], links: u32, nodes: u32, part: &[u32], heads: usize) -> f32
+// weight. It is unreached where no final node is reached.
+fn least_total(sheet: &[u8], links: u32, nodes: u32, part: &[u32], heads: usize) -> Distance
     requires { ⌜ (16 * links + 12 * nodes ≤ length (now sheet)) × (heads + 8 * (nodes + 1) ≤ length (now part)) ⌝ }
-    ensures { λ r. ⌜ r ≡ leastTotal (now (sheet .entry)) heads links nodes (now (part .entry)) ⌝ }
+    ensures { λ r. ⌜ r ≡ leastDistance (now (sheet .entry)) heads links nodes (now (part .entry)) ⌝ }
 {
     let mut least = tropical_weight::zero();
     let mut v = 0u32;
     while v < nodes {
         let from = 16 * (links as usize) + 12 * (v as usize);
         if word(sheet, from + 4) != 0 {
-            let distance = tropical_weight::from_bits(part[heads + SLOT * ((v as usize) + 1)]);
+            let d = distance::distance_at(part, heads + SLOT * ((v as usize) + 1));
             let weight = tropical_weight::from_bits(word(sheet, from + 8));
-            least = tropical_weight::plus(least, tropical_weight::times(distance, weight));
+            least = tropical_weight::plus(
+                least,
+                tropical_weight::times(distance::as_weight(d), weight),
+            );
         }
         v += 1;
     }
-    least
+    distance::of_weight(least)
 }
 
 // Makes the distances of an accepted sheet in the slots of its nodes, which follow that of node 0.
@@ -179,5 +183,5 @@ pub fn reverse(sheet: &[u8], t: Trailer, finals: u32, part: &mut [u32], heads: u
     reverse_links(sheet, links, nodes, part, heads, chains);
     reverse_finals(sheet, links, nodes, finals, part, heads, chains);
     let least = least_total(sheet, links, nodes, part, heads);
-    part[heads] = tropical_weight::to_bits(least);
+    distance::put_distance(part, heads, least);
 }

@@ -11,12 +11,11 @@ use lib.Seq.{take-at}
 use borrow.Author.Tests.{eq-eqb, ne-eqb}
 use Rattle.sheet.specs.Below.{sumBelow, listBelow}
 use Rattle.sheet.specs.Sheet.{Parts, nodeCount, count}
-use Rattle.sheet.proofs.Below.{sum-mono, sumBelow-same, sumBelow-add, sumBelow-only}
+use Rattle.sheet.proofs.Below.{sum-mono, sumBelow-same, sumBelow-add, sumBelow-only, flat-snoc}
 use Rattle.decimals.specs.Stored.{Puts}
 use Rattle.decimals.proofs.Storing.{sets-front}
 use Rattle.text_rows.specs.Written.{linkRow, finalRow, firstOf, nodeRows, textOf}
 use Rattle.row_writer.specs.OtherRows.{otherRows}
-use Rattle.text_rows.proofs.Filled.{flat-snoc}
 
 pub sum-more : (f : ℕ → ℕ) (n : ℕ) → sumBelow (n + 1) f ≡ sumBelow n f + f n
 unfolding sumBelow

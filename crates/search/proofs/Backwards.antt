@@ -14,7 +14,8 @@ use Rattle.tropical_weight.proofs.Semiring.{≼-eq, ≼-trans}
 use Rattle.sheet.specs.Machine.{Link, Machine}
 use Rattle.machine.specs.Readings.{noLink, link, final, finalWeight}
 use Rattle.machine.specs.Climbs.{Climbs}
-use Rattle.machine.specs.Distance.{dist}
+use Rattle.machine.specs.Distance.{asWeight, dist, total}
+use Rattle.machine.proofs.Named.{weight-of}
 use Rattle.machine.specs.Demand.{_∈_, NoDup}
 use Rattle.machine.proofs.Runs.{at-some}
 use Rattle.machine.proofs.Readings.{final-in}
@@ -132,6 +133,15 @@ into-once v (k ∷ ks) l = go (eqb (k .next) v) (into-once v ks (suc l))
     go true n = (later, n)
     go false n = n
 
+-- the distances that ranks are made of, as weights
+abbrev pub weightTo : Machine → ℕ → Tropical
+weightTo m zero = total m
+weightTo m (suc v) = dist m v
+
+pub weight-to : (m : Machine) (q : ℕ) → asWeight (distanceTo m q) ≡ weightTo m q
+weight-to m zero = weight-of (total m)
+weight-to m (suc v) = weight-of (dist m v)
+
 module _ (m : Machine) where
   -- ---- out of node 0 to the final nodes
   pub out-final : (b : Back) → b ∈ outOf m 0 → (u : ℕ) × (w : Tropical) × (final m u ≡ some w) × (b ≡ toFinal u w)
@@ -165,18 +175,22 @@ module _ (m : Machine) where
     leads-in (suc v) b h = let x = out-link v b h in omega (arith, ap (λ (b : Back). b .next) (x .3), c .rises (x .0) (x .1), c .inside (x .0) (x .1))
 
     -- no link beats the distances
-    link-step : (v : ℕ) (b : Back) → b ∈ outOf m v → distanceTo m v ≼ distanceTo m (b .next) ⊗ b .weight
+    link-step : (v : ℕ) (b : Back) → b ∈ outOf m v → weightTo m v ≼ weightTo m (b .next) ⊗ b .weight
     link-step zero b h =
         let x = out-final b h in
         ≼-trans (total-below m (x .0) (final-in m (x .0) (x .1) (x .2)))
-        (≼-eq (ap (λ o. dist m (x .0) ⊗ finalWeight o) (x .2) ∙ ap (λ (y : Back). distanceTo m (y .next) ⊗ y .weight) (sym (x .3))))
+        (≼-eq (ap (λ o. dist m (x .0) ⊗ finalWeight o) (x .2) ∙ ap (λ (y : Back). weightTo m (y .next) ⊗ y .weight) (sym (x .3))))
     link-step (suc v) b h =
         let x = out-link v b h in
-        ≼-trans (≼-eq (ap (dist m) (sym (x .2)))) (≼-trans (dist-link m c (x .0) (x .1)) (≼-eq (ap (λ (y : Back). distanceTo m (y .next) ⊗ y .weight) (sym (x .3)))))
+        ≼-trans (≼-eq (ap (dist m) (sym (x .2)))) (≼-trans (dist-link m c (x .0) (x .1)) (≼-eq (ap (λ (y : Back). weightTo m (y .next) ⊗ y .weight) (sym (x .3)))))
 
-    end-step : (v : ℕ) → isEnd m v ≡ true → distanceTo m v ≼ one
+    end-step : (v : ℕ) → isEnd m v ≡ true → weightTo m v ≼ one
     end-step zero e = let z : _≡_ {A = ℕ} 0 1 = cc in absurd (omega arith)
     end-step (suc v) e = ≼-eq (dist-start m c v (at-some (m .start) v e))
 
     pub consistent : Consistent (reversed m)
-    consistent = record { on-link = link-step; at-end = end-step; once = out-once }
+    consistent = record {
+      on-link = λ v b h. ≼-trans (≼-eq (weight-to m v)) (≼-trans (link-step v b h) (≼-eq (ap (λ x. x ⊗ b .weight) (sym (weight-to m (b .next))))));
+      at-end = λ v e. ≼-trans (≼-eq (weight-to m v)) (end-step v e);
+      once = out-once;
+    }

@@ -10,7 +10,7 @@ use Rattle.sheet.specs.Sheet.{partsOf}
 use Rattle.sheet.specs.Machine.{Link, Machine, machineOf}
 use Rattle.sheet.proofs.Bench.{sheetA}
 use Rattle.machine.specs.Readings.{link, readingOf, readingCost, runCost, marked}
-use Rattle.machine.specs.Distance.{dist, total, distances}
+use Rattle.machine.specs.Distance.{reached, dist, total, distances}
 use Rattle.machine.specs.Parents.{best}
 use Rattle.machine.proofs.Bench.{arc, machineA, machineB, machineC}
 use Rattle.search.specs.Reversed.{outOfZero, linksInto}
@@ -57,7 +57,7 @@ is-A : ofA ≡ machineA
 unfolding sheetA partsOf machineOf
 is-A = refl
 
-P1 : distances machineA ≡ fin (pos 0) ∷ fin (pos 64) ∷ fin (pos 32) ∷ fin (pos 80) ∷ []
+P1 : distances machineA ≡ reached (pos 0) ∷ reached (pos 64) ∷ reached (pos 32) ∷ reached (pos 80) ∷ []
 unfolding distances
 P1 = refl
 

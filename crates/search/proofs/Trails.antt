@@ -9,6 +9,7 @@ use native.Mathlib.Omega.{arith}
 use lib.IntN.{ℤ}
 use Rattle.tropical_weight.specs.Tropical.{Tropical, fin, inf, one, _≼_, _⊗_}
 use Rattle.tropical_weight.proofs.Semiring.{≼-refl, ≼-eq, ≼-trans, ≼-inf, ⊗-comm, ⊗-assoc, one-⊗, ⊗-one, ⊗-mono-left, ⊗-cancel}
+use Rattle.machine.specs.Distance.{asWeight}
 use Rattle.machine.specs.Demand.{_∈_, NoDup}
 use Rattle.machine.proofs.Lists.{here, mem-eq, map-mem, mem-map, nodup-append, nodup-map}
 use Rattle.search.specs.Reversed.{Back, Reversed}
@@ -78,7 +79,7 @@ module _ (r : Reversed) where
 
   abbrev pub ahead : Option ℕ → Tropical
   ahead none = one
-  ahead (some v) = r .toGo v
+  ahead (some v) = asWeight (r .toGo v)
 
   abbrev pub rankOf : Trail → Tropical
   rankOf t = ahead (site t) ⊗ cost t
@@ -138,8 +139,8 @@ module _ (r : Reversed) where
 
   -- what is asked of the distances: no link beats them, and they are at most 0 where a reading may end; and that no link comes twice
   pub record Consistent : Type 0 where
-    pub on-link : (v : ℕ) (b : Back) → b ∈ r .out v → r .toGo v ≼ r .toGo (b .next) ⊗ b .weight
-    pub at-end : (v : ℕ) → r .ends v ≡ true → r .toGo v ≼ one
+    pub on-link : (v : ℕ) (b : Back) → b ∈ r .out v → asWeight (r .toGo v) ≼ asWeight (r .toGo (b .next)) ⊗ b .weight
+    pub at-end : (v : ℕ) → r .ends v ≡ true → asWeight (r .toGo v) ≼ one
     pub once : (v : ℕ) → NoDup (r .out v)
 
   pub finished-rank : (t : Trail) → site t ≡ none → rankOf t ≡ cost t

@@ -12,7 +12,8 @@ use Rattle.tropical_weight.proofs.Sums.{within-one, limits}
 use Rattle.sheet.specs.Machine.{Machine}
 use Rattle.machine.specs.Readings.{endFrom, readingOf, readingCost, readings}
 use Rattle.machine.specs.Climbs.{Climbs, Small}
-use Rattle.machine.specs.Distance.{dist, total}
+use Rattle.machine.proofs.Named.{weight-of}
+use Rattle.machine.specs.Distance.{asWeight, dist, total}
 use Rattle.machine.specs.Demand.{_∈_}
 use Rattle.machine.proofs.Lists.{mem-map}
 use Rattle.machine.proofs.Sums.{plusAll-within}
@@ -53,9 +54,9 @@ module _ (m : Machine) (c : Climbs m) (b : Small weightLimit m) (few : length (m
       each : (a : Tropical) → a ∈ map (readingCost m) (readings m) → Within sumLimit a
       each a h = let x = mem-map (readingCost m) (readings m) h in subst (Within sumLimit) (sym (x .2)) (reading-limit m c weightLimit b nodeLimit limits few (x .0) (readings-are m c (x .0) .0 (x .1)))
 
-  pub togo-within : (q : ℕ) → q < suc (length (m .finals)) → Within sumLimit (distanceTo m q)
-  togo-within zero h = total-within
-  togo-within (suc v) h = dist-limit m c weightLimit b nodeLimit limits few v (omega arith)
+  pub togo-within : (q : ℕ) → q < suc (length (m .finals)) → Within sumLimit (asWeight (distanceTo m q))
+  togo-within zero h = subst (Within sumLimit) (sym (weight-of (total m))) total-within
+  togo-within (suc v) h = subst (Within sumLimit) (sym (weight-of (dist m v))) (dist-limit m c weightLimit b nodeLimit limits few v (omega arith))
 
   -- a cost, and its rank where so much is ahead
   abbrev Both : Tropical → Tropical → Type 0
@@ -69,12 +70,12 @@ module _ (m : Machine) (c : Climbs m) (b : Small weightLimit m) (few : length (m
           let x = trail-reads m t h e in
           let w = subst (Within sumLimit) (x .1) (reading-limit m c weightLimit b nodeLimit limits few (readingOf m (inputs t)) (x .0)) in
           (w, subst (Within sumLimit) (sym (one-⊗ (cost t))) w)
-      go (some zero) e = subst (Both (total m)) (sym (ap cost (unmoved m t h e))) (within-one sumLimit, subst (Within sumLimit) (sym (⊗-one (total m))) total-within)
+      go (some zero) e = subst (λ d. Both d (cost t)) (sym (weight-of (total m))) (subst (Both (total m)) (sym (ap cost (unmoved m t h e))) (within-one sumLimit, subst (Within sumLimit) (sym (⊗-one (total m))) total-within))
       go (some (suc u)) e =
           let y = half-is m t h u e in
           let v = endFrom m u (inputs t) in
-          subst (Both (dist m u)) (sym (half-sum m u t y))
-          (rest-limit m c weightLimit b nodeLimit limits few (inputs t) u v (y .weight) (y .runs) (y .marked), rank-limit m c weightLimit b nodeLimit limits few (inputs t) u v (y .weight) (y .runs) (y .marked))
+          subst (λ d. Both d (cost t)) (sym (weight-of (dist m u))) (subst (Both (dist m u)) (sym (half-sum m u t y))
+          (rest-limit m c weightLimit b nodeLimit limits few (inputs t) u v (y .weight) (y .runs) (y .marked), rank-limit m c weightLimit b nodeLimit limits few (inputs t) u v (y .weight) (y .runs) (y .marked)))
 
   pub entry-within : (n : ℕ) (s : Search) → Holds (reversed m) n (suc (length (m .finals))) s → (i : ℕ) → i < length (s .entries)
       → Within sumLimit (costOf (getD (s .entries) i first .entry)) × Within sumLimit (rank (reversed m) (getD (s .entries) i first .entry))

@@ -7,7 +7,7 @@ use lib.Dec.{eqb}
 use Rattle.tropical_weight.specs.Tropical.{Tropical}
 use Rattle.sheet.specs.Machine.{Link, Machine}
 use Rattle.machine.specs.Readings.{isAt}
-use Rattle.machine.specs.Distance.{dist, total}
+use Rattle.machine.specs.Distance.{Distance, distanceOf, distance, total}
 
 -- A link of the reversed machine: the number of the input link that it repeats, or none, its weight, and the node it leads to.
 pub record Back : Type 0 where
@@ -22,7 +22,7 @@ pub record Reversed : Type 0 where
   -- whether a node is the old start, which is final with 0
   pub ends : ℕ → Bool
   -- the old node's distance; for node 0 the least total
-  pub toGo : ℕ → Tropical
+  pub toGo : ℕ → Distance
 
 -- out of node 0: a link to each final node from v on, in node order, with its final weight
 unfoldable pub outOfZero : List (Option Tropical) → ℕ → List Back
@@ -43,9 +43,9 @@ abbrev pub isEnd : Machine → ℕ → Bool
 isEnd m zero = false
 isEnd m (suc v) = isAt (m .start) v
 
-abbrev pub distanceTo : Machine → ℕ → Tropical
-distanceTo m zero = total m
-distanceTo m (suc v) = dist m v
+abbrev pub distanceTo : Machine → ℕ → Distance
+distanceTo m zero = distanceOf (total m)
+distanceTo m (suc v) = distance m v
 
 abbrev pub reversed : Machine → Reversed
 reversed m = record { out = outOf m; ends = isEnd m; toGo = distanceTo m }

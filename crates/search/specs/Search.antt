@@ -8,6 +8,7 @@ use lib.ListN.{length, getD, set, replicate}
 use Rattle.tropical_weight.specs.Tropical.{Tropical, one, eqT, ltT, _⊗_}
 use Rattle.sheet.specs.Machine.{Machine}
 use Rattle.machine.specs.Readings.{marked}
+use Rattle.machine.specs.Distance.{asWeight}
 use Rattle.search.specs.Heap.{pushed, popped}
 use Rattle.search.specs.Reversed.{Reversed, reversed}
 
@@ -45,9 +46,9 @@ pub record Search : Type 0 where
   pub taken : ℕ
 
 module _ (r : Reversed) where
-  -- ---- rank and order
+  -- ---- rank and order: infinity where the node is unreached
   abbrev pub rank : Entry → Tropical
-  rank (half v c) = r .toGo v ⊗ c
+  rank (half v c) = asWeight (r .toGo v) ⊗ c
   rank (finished c) = c
 
   -- by rank, and on equal rank half-built before finished

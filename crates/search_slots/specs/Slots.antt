@@ -49,14 +49,8 @@ abbrev pub listedOf : List ℕ → ℕ → List ℕ
 listedOf part n = listBelow n (listedWord part)
 
 -- ---- node q of the reversed machine, whose slots begin at word `nodes`
+-- its slot begins with two words for its distance
 module _ (part : List ℕ) (nodes q : ℕ) where
-  abbrev pub distanceWord : ℕ
-  distanceWord = getD part (nodes + 8 * q) 0
-
-  -- the first of the old node's links in the sheet
-  abbrev pub firstWord : ℕ
-  firstWord = getD part (nodes + 8 * q + 1) 0
-
   -- the first reversed link out of it, or nothing
   abbrev pub headWord : ℕ
   headWord = getD part (nodes + 8 * q + 2) 0

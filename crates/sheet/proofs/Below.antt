@@ -2,7 +2,7 @@
 use mathlib.Core.Path.{_≡_, refl, sym, ap, _∙_, subst}
 use mathlib.Core.Logic.{_⊎_, inl, inr}
 use mathlib.Core.Bool.{Bool, true, false, not, _&&_}
-use mathlib.Core.List.{List, [], _∷_, _++_}
+use mathlib.Core.List.{List, [], _∷_, _++_, flatMap, append-assoc, append-nil}
 use Prim.Native.Nat.{ℕ, zero, suc, _+_, _-_, _*_, _≤_, _<_}
 use native.Mathlib.Nat.{le-of-eq, eq-or-lt-of-le, mul-zero, mul-add}
 use native.Mathlib.Numerals.{add-one}
@@ -132,3 +132,9 @@ pub listBelow-same : {A : Type 0} (n : ℕ) (f g : ℕ → A) → ((i : ℕ) →
 unfolding listBelow
 listBelow-same zero f g h = refl
 listBelow-same (suc n) f g h = λ i. listBelow-same n f g (λ j b. h j (omega arith)) i ++ (h n (omega arith) i ∷ [])
+
+-- lists one after the other, and one more
+pub flat-snoc : {A B : Type 0} (f : A → List B) (xs : List A) (x : A) → flatMap f (xs ++ (x ∷ [])) ≡ flatMap f xs ++ f x
+unfolding flatMap
+flat-snoc f [] x = append-nil (f x)
+flat-snoc f (y ∷ xs) x = ap (λ (l : List _). f y ++ l) (flat-snoc f xs x) ∙ sym (append-assoc (f y) (flatMap f xs) (f x))

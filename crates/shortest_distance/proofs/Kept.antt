@@ -7,9 +7,7 @@ use Prim.Native.Nat.{ℕ, zero, suc, _+_, _-_, _*_, _≤_, _<_}
 use native.Mathlib.Numerals.{add-one}
 use native.Mathlib.Omega.{arith}
 use lib.Dec.{eqb}
-use lib.ListN.{set, length-set}
-use lib.Seq.{getD-set-other}
-use lib.Ieee.{Float, binary32, ofBits}
+use lib.Ieee.{Float, binary32, add}
 use borrow.Author.Tests.{eqb-true}
 use Rattle.tropical_weight.specs.Limits.{nodeLimit}
 use Rattle.sheet.specs.declared.tr.Link.{Link}
@@ -20,13 +18,18 @@ use Rattle.state_order_queue.specs.declared.Queue.{Queue}
 use Rattle.state_order_queue.specs.Queues.{holds, isEmpty, enqueued, dequeued}
 use Rattle.sheet.proofs.Apart.{both, or-either}
 use Rattle.state_order_queue.proofs.Sets.{enqueued-full, enqueued-holds, enqueued-valid, dequeued-full, dequeued-valid, dequeued-holds, front-held}
-use Rattle.shortest_distance.specs.NodeSlots.{distanceWord, firstWord}
-use Rattle.shortest_distance.specs.Relaxation.{State, reaches, relaxLink, relaxLinks, relaxHead, relaxHeads}
+use Rattle.distance.specs.declared.Distance.{Distance}
+use Rattle.distance.specs.declared.Distance.the-variants.{Reached}
+use Rattle.distance.specs.Held.{weightIn, withDistance}
+use Rattle.distance.specs.Offer.{improves, reaches}
+use Rattle.distance.proofs.Words.{put-word, put-length}
+use Rattle.shortest_distance.specs.NodeSlots.{distanceAt, firstWord}
+use Rattle.shortest_distance.specs.Relaxation.{State, relaxLink, relaxLinks, relaxHead, relaxHeads}
 use Rattle.shortest_distance.specs.Sound.{Sound}
 
--- distances are stored at words 0 of slots, first links at words 1
-first-kept : (work : List ℕ) (u v x : ℕ) → firstWord (set work (8 * u) x) v ≡ firstWord work v
-first-kept work u v x = getD-set-other work (8 * u) (8 * v + 1) x 0 (λ e. omega arith)
+-- distances are stored at words 0 and 1 of slots, first links at words 4
+first-kept : (work : List ℕ) (u v : ℕ) (d : Distance) → firstWord (withDistance work (8 * u) d) v ≡ firstWord work v
+first-kept work u v d = put-word work (8 * u) d (8 * v + 4) (λ e. omega arith) (λ e. omega arith)
 
 module _ (bytes : List ℕ) (links nodes : ℕ) where
   abbrev pub Kept : State → Type 0
@@ -53,25 +56,35 @@ module _ (bytes : List ℕ) (links nodes : ℕ) where
       new u (inr e) = h .held u e
 
   -- a distance stored
-  pub store-kept : (work : List ℕ) (q : Queue) (v x : ℕ) → Sound bytes links nodes work q → Sound bytes links nodes (set work (8 * v) x) q
-  store-kept work q v x h = record {
+  pub store-kept : (work : List ℕ) (q : Queue) (v : ℕ) (d : Distance) → Sound bytes links nodes work q → Sound bytes links nodes (withDistance work (8 * v) d) q
+  store-kept work q v d h = record {
     laid-out = h .laid-out;
-    slots = omega (arith, h .slots, length-set work (8 * v) x);
+    slots = omega (arith, h .slots, put-length work (8 * v) d);
     few = h .few;
     counted = h .counted;
     inside = h .inside;
-    firsts = λ u l. first-kept work v u x ∙ h .firsts u l;
+    firsts = λ u l. first-kept work v u d ∙ h .firsts u l;
     full = h .full;
     valid = h .valid;
     held = h .held;
   }
 
   pub link-kept : (k : Link) (distance : Float) (s : State) → k .nextstate < nodes → Kept s → Kept (relaxLink k distance s)
-  link-kept k distance s l h = store-kept (s .work) _ (k .nextstate) _ (go (reaches (distanceWord (s .work) (k .nextstate)) distance (k .weight)))
+  link-kept k distance s l h = store (improves (distanceAt (s .work) (k .nextstate)) distance (k .weight))
     where
-      go : (b : Bool) → Sound bytes links nodes (s .work) (cond b (enqueued (s .queue) (k .nextstate)) (s .queue))
-      go true = put-kept (s .work) (s .queue) (k .nextstate) l h
-      go false = h
+      new : Distance
+      new = Reached (add binary32 distance (k .weight))
+
+      first : Bool
+      first = reaches (distanceAt (s .work) (k .nextstate)) distance (k .weight)
+
+      put : (b : Bool) → Sound bytes links nodes (s .work) (cond b (enqueued (s .queue) (k .nextstate)) (s .queue))
+      put true = put-kept (s .work) (s .queue) (k .nextstate) l h
+      put false = h
+
+      store : (b : Bool) → Sound bytes links nodes (cond b (withDistance (s .work) (8 * k .nextstate) new) (s .work)) (cond first (enqueued (s .queue) (k .nextstate)) (s .queue))
+      store true = store-kept (s .work) (cond first (enqueued (s .queue) (k .nextstate)) (s .queue)) (k .nextstate) new (put first)
+      store false = put first
 
   pub links-kept : (first : ℕ) (distance : Float) (n : ℕ) (s : State) → first + n ≤ links → Kept s → Kept (relaxLinks bytes first distance n s)
   unfolding relaxLinks
@@ -114,12 +127,12 @@ module _ (bytes : List ℕ) (links nodes : ℕ) where
         omega (arith, h .firsts v front-below, sum-mono (countAt bytes links) nodes (suc v) front-below, h .counted)
 
     pub head-kept : Kept (relaxHead bytes links s)
-    head-kept = links-kept (firstWord (s .work) (s .queue .front)) (ofBits binary32 (distanceWord (s .work) (s .queue .front))) (countAt bytes links (s .queue .front)) (record { work = s .work; queue = dequeued (s .queue) }) head-links head-taken
+    head-kept = links-kept (firstWord (s .work) (s .queue .front)) (weightIn (distanceAt (s .work) (s .queue .front))) (countAt bytes links (s .queue .front)) (record { work = s .work; queue = dequeued (s .queue) }) head-links head-taken
 
 -- ---- heads one after the other, as the loop takes them
 module _ (bytes : List ℕ) (links : ℕ) (s : State) where
   -- a head's links relaxed, by what the calls answer
-  pub head-made : (distance : Float) (count : ℕ) (q : Queue) → distance ≡ ofBits binary32 (distanceWord (s .work) (s .queue .front)) → count ≡ countAt bytes links (s .queue .front) → q ≡ dequeued (s .queue)
+  pub head-made : (distance : Float) (count : ℕ) (q : Queue) → distance ≡ weightIn (distanceAt (s .work) (s .queue .front)) → count ≡ countAt bytes links (s .queue .front) → q ≡ dequeued (s .queue)
       → (t : State) → t ≡ relaxLinks bytes (firstWord (s .work) (s .queue .front)) distance count (record { work = s .work; queue = q }) → t ≡ relaxHead bytes links s
   head-made distance count q d n e t h = h ∙ λ i. relaxLinks bytes (firstWord (s .work) (s .queue .front)) (d i) (n i) (record { work = s .work; queue = e i })
 

@@ -1,5 +1,4 @@
 pub mod Areas
-pub mod Offers
 pub mod Turns
 pub mod Kept
 pub mod Rows

@@ -7,7 +7,7 @@ use Prim.Native.Nat.{ℕ, _+_, _*_, _≤_, _<_}
 use native.Mathlib.Nat.{le-of-eq}
 use native.Mathlib.Omega.{arith}
 use lib.Dec.{eqb}
-use lib.ListN.{length, drop, set}
+use lib.ListN.{length, drop}
 use borrow.Author.Tests.{le-ltb, ne-eqb}
 use Rattle.tropical_weight.specs.Limits.{nodeLimit}
 use Rattle.sheet.specs.Below.{sumBelow}
@@ -15,24 +15,24 @@ use Rattle.sheet.specs.Words.{word}
 use Rattle.sheet.specs.declared.tr.Trailer.{Trailer}
 use Rattle.sheet.specs.Records.{trailerAt, countAt}
 use Rattle.sheet.specs.Sheet.{partsOf, noStart, nodeCount, trailerField, statedLinks, statedNodes}
-use Rattle.sheet.specs.Machine.{machineOf, bitsOf, machine}
+use Rattle.sheet.specs.Machine.{machineOf, machine}
 use Rattle.sheet.proofs.Fields.{read-fields}
 use Rattle.sheet.proofs.Sources.{machine-nodes}
-use Rattle.machine.specs.Distance.{reached}
+use Rattle.machine.specs.Distance.{distanceOf, isReached}
 use Rattle.machine.specs.Input.{inputNumber}
 use Rattle.machine.proofs.Accepted.{passes, input-read, next-at, few-nodes}
 use Rattle.machine.proofs.Testing.{in-sheet, counts-total}
 use Rattle.machine.proofs.Reached.{reached-none, unreached-inf}
 use Rattle.state_order_queue.specs.declared.Queue.{Queue}
 use Rattle.state_order_queue.specs.Queues.{emptied, enqueued}
+use Rattle.distance.specs.Held.{held, withDistance}
 use Rattle.shortest_distance.specs.NodeSlots.{prepared}
 use Rattle.shortest_distance.specs.Relaxation.{State, relaxHeads}
 use Rattle.shortest_distance.specs.Sound.{Sound, Made}
 use Rattle.shortest_distance.proofs.Areas.{length-prepared, prepared-words, prepared-beyond}
-use Rattle.shortest_distance.proofs.Offers.{bits-inf}
 use Rattle.shortest_distance.proofs.Rows.{Holds, Final, heads}
 use Rattle.shortest_distance.proofs.Accepted.{reads, nodes-are}
-use Rattle.shortest_distance.proofs.Starts.{begun-holds}
+use Rattle.shortest_distance.proofs.Starts.{zero-cost, begun-holds}
 use Rattle.shortest_distance.proofs.Kept.{put-kept, store-kept}
 use Rattle.state_order_queue.proofs.Sets.{emptied-full, emptied-valid, emptied-empty, empty-exactly}
 use Rattle.sheet.proofs.Apart.{not-both}
@@ -57,10 +57,10 @@ module _ (bytes old : List ℕ) (e : inputNumber bytes ≡ 0) (room : 8 * stated
         let sure : eqb (trailerField bytes 4) noStart ≡ true = ap (λ (b : Bool). b || eqb (trailerField bytes 4) noStart) (sym (le-ltb (trailerField bytes 4) (nodeCount (partsOf bytes)) short)) ∙ passes bytes e .start-fits in
         ap (λ (b : Bool). cond b none (some (trailerField bytes 4))) sure
 
-    unreached : (v : ℕ) → reached (machine bytes) v ≡ false
-    unreached v = go (reached (machine bytes) v) refl
+    unreached : (v : ℕ) → isReached (machine bytes) v ≡ false
+    unreached v = go (isReached (machine bytes) v) refl
       where
-        go : (b : Bool) → reached (machine bytes) v ≡ b → b ≡ false
+        go : (b : Bool) → isReached (machine bytes) v ≡ b → b ≡ false
         go true q = absurd (reached-none (machine bytes) (reads bytes e .climbs) v no-start q)
         go false q = refl
 
@@ -68,7 +68,7 @@ module _ (bytes old : List ℕ) (e : inputNumber bytes ≡ 0) (room : 8 * stated
     made-none = record {
       each = λ v b.
           prepared-words bytes (statedLinks bytes) (statedNodes bytes) old v (subst (λ (n : ℕ). v < n) (read-fields bytes .nodes-are) b) room .0
-          ∙ sym (ap bitsOf (unreached-inf (machine bytes) (reads bytes e .climbs) v (unreached v)) ∙ bits-inf);
+          ∙ sym (ap (λ w. held (distanceOf w)) (unreached-inf (machine bytes) (reads bytes e .climbs) v (unreached v)));
       size = length-prepared bytes (statedLinks bytes) (statedNodes bytes) old;
       beyond = ap (λ (n : ℕ). drop (8 * n) (prepared bytes (statedLinks bytes) (statedNodes bytes) old)) (read-fields bytes .nodes-are) ∙ prepared-beyond bytes (statedLinks bytes) (statedNodes bytes) old ∙ sym (ap (λ (n : ℕ). drop (8 * n) old) (read-fields bytes .nodes-are));
     }
@@ -86,7 +86,7 @@ module _ (bytes old : List ℕ) (e : inputNumber bytes ≡ 0) (room : 8 * stated
     slots = subst (λ (n : ℕ). 8 * n ≤ length old) (sym (nodes-are bytes e)) room
 
     abbrev first-state : State
-    first-state = record { work = set (prepared bytes (statedLinks bytes) (statedNodes bytes) old) (8 * s) 0; queue = enqueued emptied s }
+    first-state = record { work = withDistance (prepared bytes (statedLinks bytes) (statedNodes bytes) old) (8 * s) (held zero-cost); queue = enqueued emptied s }
 
     none-before : sumBelow 0 (countAt bytes (statedLinks bytes)) ≡ 0
     none-before = unfold sumBelow in refl
@@ -108,13 +108,13 @@ module _ (bytes old : List ℕ) (e : inputNumber bytes ≡ 0) (room : 8 * stated
     sound : Sound bytes (statedLinks bytes) (statedNodes bytes) (first-state .work) (first-state .queue)
     sound =
         let area = prepared bytes (statedLinks bytes) (statedNodes bytes) old in
-        store-kept bytes (statedLinks bytes) (statedNodes bytes) area (enqueued emptied s) s 0 (put-kept bytes (statedLinks bytes) (statedNodes bytes) area emptied s h set-up)
+        store-kept bytes (statedLinks bytes) (statedNodes bytes) area (enqueued emptied s) s (held zero-cost) (put-kept bytes (statedLinks bytes) (statedNodes bytes) area emptied s h set-up)
 
     abbrev begun-at : ℕ → State
-    begun-at n = record { work = set (prepared bytes (statedLinks bytes) n old) (8 * s) 0; queue = enqueued emptied s }
+    begun-at n = record { work = withDistance (prepared bytes (statedLinks bytes) n old) (8 * s) (held zero-cost); queue = enqueued emptied s }
 
-    held : Holds bytes (statedLinks bytes) (machine bytes) (reads bytes e) old 0 0 first-state
-    held =
+    begun : Holds bytes (statedLinks bytes) (machine bytes) (reads bytes e) old 0 0 first-state
+    begun =
         subst (λ (n : ℕ). Holds bytes (statedLinks bytes) (machine bytes) (reads bytes e) old 0 0 (begun-at n)) (nodes-are bytes e)
         (begun-holds bytes (statedLinks bytes) (machine bytes) (reads bytes e) old s a-start in-nodes slots
         (subst (λ (n : ℕ). Sound bytes (statedLinks bytes) n (begun-at n .work) (begun-at n .queue)) (sym (nodes-are bytes e)) sound))
@@ -122,7 +122,7 @@ module _ (bytes old : List ℕ) (e : inputNumber bytes ≡ 0) (room : 8 * stated
     made-some : Made bytes old (relaxHeads bytes (statedLinks bytes) (statedNodes bytes) first-state .work)
     made-some =
         let all : Final bytes (statedLinks bytes) (machine bytes) (reads bytes e) old (relaxHeads bytes (statedLinks bytes) (statedNodes bytes) first-state) =
-        heads bytes (statedLinks bytes) (machine bytes) (reads bytes e) old (statedNodes bytes) 0 first-state (omega arith) (omega (arith, nodes-are bytes e)) (subst (λ (l : ℕ). Holds bytes (statedLinks bytes) (machine bytes) (reads bytes e) old l 0 first-state) (sym none-before) held) in
+        heads bytes (statedLinks bytes) (machine bytes) (reads bytes e) old (statedNodes bytes) 0 first-state (omega arith) (omega (arith, nodes-are bytes e)) (subst (λ (l : ℕ). Holds bytes (statedLinks bytes) (machine bytes) (reads bytes e) old l 0 first-state) (sym none-before) begun) in
         record {
           each = λ v b. all .distances v (subst (λ (n : ℕ). v < n) (sym (machine-nodes (partsOf bytes))) b);
           size = all .size;
@@ -146,15 +146,19 @@ module _ (bytes old : List ℕ) (e : inputNumber bytes ≡ 0) (t : Trailer) (sam
       pub start-low : t .start < nodeLimit
       start-low = subst (λ (t : Trailer). t .start < t .nodes → t .start < nodeLimit) (sym same) (λ k. omega (arith, few bytes old e fits)) h
 
-      module _ (q : Queue) (begun-with : q ≡ enqueued emptied (t .start)) where
-        pub sound-start : Sound bytes (t .links) (t .nodes) (set area (8 * t .start) 0) q
-        sound-start =
-            subst (λ (x : Queue). Sound bytes (t .links) (t .nodes) (set area (8 * t .start) 0) x) (sym begun-with)
-            (subst (λ (x : List ℕ). Sound bytes (t .links) (t .nodes) (set x (8 * t .start) 0) (enqueued emptied (t .start))) (sym set-up)
-            (subst (λ (t : Trailer). t .start < t .nodes → Sound bytes (t .links) (t .nodes) (set (prepared bytes (t .links) (t .nodes) old) (8 * t .start) 0) (enqueued emptied (t .start))) (sym same) (sound bytes old e fits (trailerField bytes 4) refl) h))
+      module _ (work : List ℕ) (named : work ≡ withDistance area (8 * t .start) (held zero-cost)) (q : Queue) (begun-with : q ≡ enqueued emptied (t .start)) where
+        abbrev begun-by : Trailer → State
+        begun-by t = record { work = withDistance (prepared bytes (t .links) (t .nodes) old) (8 * t .start) (held zero-cost); queue = enqueued emptied (t .start) }
 
-        pub made-from : Made bytes old (relaxHeads bytes (t .links) (t .nodes) (record { work = set area (8 * t .start) 0; queue = q }) .work)
+        state-is : begun-by t ≡ record { work = work; queue = q }
+        state-is = λ i. record { work = sym (named ∙ ap (λ (x : List ℕ). withDistance x (8 * t .start) (held zero-cost)) set-up) i; queue = sym begun-with i }
+
+        pub sound-start : Sound bytes (t .links) (t .nodes) work q
+        sound-start =
+            subst (λ (s : State). Sound bytes (t .links) (t .nodes) (s .work) (s .queue)) state-is
+            (subst (λ (t : Trailer). t .start < t .nodes → Sound bytes (t .links) (t .nodes) (begun-by t .work) (begun-by t .queue)) (sym same) (sound bytes old e fits (trailerField bytes 4) refl) h)
+
+        pub made-from : Made bytes old (relaxHeads bytes (t .links) (t .nodes) (record { work = work; queue = q }) .work)
         made-from =
-            subst (λ (x : Queue). Made bytes old (relaxHeads bytes (t .links) (t .nodes) (record { work = set area (8 * t .start) 0; queue = x }) .work)) (sym begun-with)
-            (subst (λ (x : List ℕ). Made bytes old (relaxHeads bytes (t .links) (t .nodes) (record { work = set x (8 * t .start) 0; queue = enqueued emptied (t .start) }) .work)) (sym set-up)
-            (subst (λ (t : Trailer). t .start < t .nodes → Made bytes old (relaxHeads bytes (t .links) (t .nodes) (record { work = set (prepared bytes (t .links) (t .nodes) old) (8 * t .start) 0; queue = enqueued emptied (t .start) }) .work)) (sym same) (made-some bytes old e fits (trailerField bytes 4) refl) h))
+            subst (λ (s : State). Made bytes old (relaxHeads bytes (t .links) (t .nodes) s .work)) state-is
+            (subst (λ (t : Trailer). t .start < t .nodes → Made bytes old (relaxHeads bytes (t .links) (t .nodes) (begun-by t) .work)) (sym same) (made-some bytes old e fits (trailerField bytes 4) refl) h)

@@ -1,39 +1,57 @@
 -- The outcome of the call, by the way the code goes. Assumes nothing.
 use mathlib.Core.Path.{_≡_, refl, sym, ap, _∙_, subst}
 use mathlib.Core.Bool.{Bool, true, false, not, _||_, cond}
-use mathlib.Core.List.{List, _++_, map}
+use mathlib.Core.List.{List, _++_, flatMap}
 use Prim.Native.Nat.{ℕ, zero, suc, _*_, _/_, _≤_, _<_}
 use native.Mathlib.Nat.{le-refl}
 use native.Mathlib.Omega.{arith}
 use lib.Dec.{ltb, eqb}
-use lib.ListN.{length, drop, length-map}
+use lib.ListN.{length, drop}
 use borrow.Author.Tests.{lt-ltb, le-ltb, ne-eqb}
 use Rattle.sheet.specs.declared.tr.Trailer.{Trailer}
+use Rattle.sheet.specs.Below.{listBelow}
 use Rattle.sheet.specs.Records.{trailerAt}
 use Rattle.sheet.specs.Sheet.{partsOf, statedLinks}
 use Rattle.sheet.proofs.Fields.{read-fields}
-use Rattle.sheet.proofs.Below.{length-listBelow}
+use Rattle.sheet.proofs.Below.{length-listBelow, flat-snoc}
 use Rattle.sheet.proofs.Bytes.{length-bytesOfAll}
 use Rattle.sheet.proofs.Apart.{not-zero, neither}
 use Rattle.sheet.proofs.Sources.{machine-nodes}
-use Rattle.sheet.specs.Machine.{bitsOf, machine}
-use Rattle.machine.specs.Distance.{dist, distances, height}
+use Rattle.sheet.specs.Machine.{machine}
+use Rattle.machine.specs.Distance as Named
+use Rattle.machine.specs.Distance.{distance, distances, height}
 use Rattle.machine.specs.Input.{inputNumber}
-use Rattle.machine.proofs.Lists.{below-map}
 use Rattle.machine.proofs.Accepted.{passes, finite-machine}
 use Rattle.machine.proofs.Reached.{height-le}
 use Rattle.state_order_queue.specs.Queues.{emptied}
+use Rattle.distance.specs.Written.{written}
+use Rattle.distance.specs.Held.{held, reachedIn, wordsIn}
+use Rattle.distance.proofs.Words.{words-written}
+use Rattle.distance.proofs.Written.{length-written}
 use Rattle.shortest_distance.specs.declared.Distances.{Distances}
 use Rattle.shortest_distance.specs.declared.Distances.the-variants.{Count, Refused}
-use Rattle.slots.specs.Slots.{infinite, cleared}
-use Rattle.shortest_distance.specs.NodeSlots.{distanceWord, distanceWords, heightIn}
+use Rattle.slots.specs.Slots.{cleared}
+use Rattle.shortest_distance.specs.NodeSlots.{distanceAt, distanceWords, heightIn}
 use Rattle.shortest_distance.specs.Handed.{handed, handedBy, handedOver}
 use Rattle.shortest_distance.specs.Outcome.{answerOf, slotsNeeded, distanceNumber, distancesBy, distanceAnswer, workAfter, resultAfter}
 use Rattle.shortest_distance.specs.Sound.{Made}
 use Rattle.slots.proofs.Clearing.{cleared-same}
+use Rattle.shortest_distance.proofs.Areas.{length-words}
 use Rattle.shortest_distance.proofs.Rows.{Final}
 use Rattle.shortest_distance.proofs.Accepted.{reads}
 use Rattle.shortest_distance.proofs.Starts.{height-is}
+
+-- ---- the words of slots that hold these distances are those they are written in
+words-are : (work : List ℕ) (f : ℕ → Named.Distance) (n : ℕ) → ((v : ℕ) → v < n → distanceAt work v ≡ held (f v)) → distanceWords work n ≡ flatMap written (listBelow n f)
+unfolding distanceWords listBelow flatMap
+words-are work f zero h = refl
+words-are work f (suc v) h =
+    let word : wordsIn (distanceAt work v) ≡ written (f v) = ap wordsIn (h v (omega arith)) ∙ words-written (f v) in
+    (λ i. words-are work f v (λ u b. h u (omega arith)) i ++ word i) ∙ sym (flat-snoc written (listBelow v f) (f v))
+
+-- ---- eight bytes a distance
+answer-bytes : (bytes : List ℕ) → length (answerOf bytes) ≡ 8 * length (distances (machine bytes))
+answer-bytes bytes = length-bytesOfAll (flatMap written (distances (machine bytes))) ∙ omega (arith, length-written (distances (machine bytes)))
 
 -- ---- the number, by what was tested
 module _ (bytes : List ℕ) (words : ℕ) (room : ℕ) where
@@ -44,6 +62,15 @@ module _ (bytes : List ℕ) (words : ℕ) (room : ℕ) where
   number-state : inputNumber bytes ≡ 0 → distanceNumber bytes words room ≡ cond (ltb (words / 8) (slotsNeeded bytes)) 20 (cond (ltb room (length (answerOf bytes))) 21 0)
   unfolding distanceNumber
   number-state e = ap (λ (k : ℕ). cond (not (eqb k 0)) k (cond (ltb (words / 8) (slotsNeeded bytes)) 20 (cond (ltb room (length (answerOf bytes))) 21 0))) e
+
+-- a slot and eight bytes a node are enough
+pub number-room : (bytes : List ℕ) (words room : ℕ) → inputNumber bytes ≡ 0 → 8 * slotsNeeded bytes ≤ words → 8 * slotsNeeded bytes ≤ room → distanceNumber bytes words room ≡ 0
+unfolding distances
+number-room bytes words room e s b =
+    let few : length (answerOf bytes) ≤ room = omega (arith, b, answer-bytes bytes, length-listBelow (height (machine bytes)) (distance (machine bytes)), height-le (machine bytes), machine-nodes (partsOf bytes)) in
+    number-state bytes words room e
+    ∙ ap {B = ℕ} (λ (t : Bool). cond t 20 (cond (ltb room (length (answerOf bytes))) 21 0)) (le-ltb (words / 8) (slotsNeeded bytes) (omega (arith, s)))
+    ∙ ap {B = ℕ} (λ (t : Bool). cond t 21 0) (le-ltb room (length (answerOf bytes)) few)
 
 -- what a number that refuses before the search leaves
 module _ (bytes work result : List ℕ) where
@@ -89,16 +116,16 @@ module _ (bytes work result : List ℕ) where
 
     count-same : heightIn made (slotsNeeded bytes) ≡ length (distances (machine bytes))
     unfolding distances
-    count-same = height-same ∙ sym (length-listBelow (height (machine bytes)) (dist (machine bytes)))
+    count-same = height-same ∙ sym (length-listBelow (height (machine bytes)) (distance (machine bytes)))
 
-    words-same : distanceWords made (heightIn made (slotsNeeded bytes)) ≡ map bitsOf (distances (machine bytes))
+    words-same : distanceWords made (heightIn made (slotsNeeded bytes)) ≡ flatMap written (distances (machine bytes))
     unfolding distances
     words-same =
         ap (λ (k : ℕ). distanceWords made k) height-same
-        ∙ below-map bitsOf (height (machine bytes)) (distanceWord made) (dist (machine bytes)) (λ v b. h .each v (omega (arith, height-le (machine bytes), nodes)))
+        ∙ words-are made (distance (machine bytes)) (height (machine bytes)) (λ v b. h .each v (omega (arith, height-le (machine bytes), nodes)))
 
-    answer-length : length (answerOf bytes) ≡ 4 * heightIn made (slotsNeeded bytes)
-    answer-length = length-bytesOfAll (map bitsOf (distances (machine bytes))) ∙ ap (λ (k : ℕ). 4 * k) (length-map (distances (machine bytes)) bitsOf ∙ sym count-same)
+    answer-length : length (answerOf bytes) ≡ 8 * heightIn made (slotsNeeded bytes)
+    answer-length = answer-bytes bytes ∙ ap (λ (k : ℕ). 8 * k) (sym count-same)
 
     number : distanceNumber bytes (length work) (length result) ≡ cond (ltb (length result) (length (answerOf bytes))) 21 0
     number = number-state bytes (length work) (length result) e ∙ ap (λ (b : Bool). cond b 20 (cond (ltb (length result) (length (answerOf bytes))) 21 0)) (le-ltb (length work / 8) (slotsNeeded bytes) slots)
@@ -135,9 +162,9 @@ module _ (bytes work result : List ℕ) where
 pub height-low : (work : List ℕ) (n : ℕ) → heightIn work n ≤ n
 unfolding heightIn
 height-low work zero = omega arith
-height-low work (suc v) = go (eqb (distanceWord work v) infinite) (height-low work v)
+height-low work (suc v) = go (reachedIn (distanceAt work v)) (height-low work v)
   where
-    go : (b : Bool) → heightIn work v ≤ v → cond b (heightIn work v) (suc v) ≤ suc v
+    go : (b : Bool) → heightIn work v ≤ v → cond b (suc v) (heightIn work v) ≤ suc v
     go true h = omega arith
     go false h = omega arith
 

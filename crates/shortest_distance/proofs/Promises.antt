@@ -3,89 +3,77 @@ use mathlib.Core.Path.{_≡_, refl, sym, ap, _∙_, subst}
 use mathlib.Core.Logic.{_⊎_, inl, inr}
 use mathlib.Core.Bool.{Bool, true, false, cond}
 use mathlib.Core.Option.{some}
-use mathlib.Core.List.{List, [], _∷_, _++_, map}
+use mathlib.Core.List.{List, [], _∷_, _++_, flatMap}
 use Prim.Native.Nat.{ℕ, zero, suc, _+_, _*_, _<_}
 use native.Mathlib.Decide.{ℕ-discrete}
 use native.Mathlib.Omega.{arith}
 use lib.Dec.{eqb}
-use lib.ListN.{length, drop, getD, length-map}
+use lib.ListN.{length, drop, getD, length-append, List·getD-append}
+use lib.Seq.{getD-append-add}
 use borrow.Author.Tests.{eqb-true}
-use Rattle.tropical_weight.specs.Tropical.{Tropical, fin, inf}
+use Rattle.tropical_weight.specs.Tropical.{Tropical, fin, inf, _≼_}
 use Rattle.sheet.specs.Words.{word, words, bytesOfAll}
 use Rattle.sheet.specs.Sheet.{partsOf}
-use Rattle.sheet.specs.Machine.{Machine, machine, bitsOf}
+use Rattle.sheet.specs.Machine.{Machine, machine}
 use Rattle.sheet.proofs.Below.{getD-listBelow, length-listBelow}
 use Rattle.sheet.proofs.Fields.{getD-words}
 use Rattle.sheet.proofs.Round.{Below, words-of}
 use Rattle.sheet.proofs.Encoding.{bits-lt}
 use Rattle.machine.specs.Readings.{runCost}
 use Rattle.machine.specs.Climbs.{Climbs, Finite}
-use Rattle.machine.specs.Distance.{dist, distances, height, reached}
+use Rattle.machine.specs.Distance.{Distance, reached, unreached, distanceOf, dist, distance, distances, height, isReached}
 use Rattle.machine.specs.Input.{inputNumber}
 use Rattle.machine.proofs.Runs.{FromStart}
-use Rattle.machine.proofs.Lists.{getD-map}
 use Rattle.machine.proofs.Distance.{infinite, dist-le, dist-attained}
 use Rattle.machine.proofs.Reached.{height-above, height-attained, reached-run, reached-in, reached-finite}
 use Rattle.machine.proofs.Accepted.{passes, climbs-machine, finite-machine, start-inside}
+use Rattle.distance.specs.Written.{written}
+use Rattle.distance.proofs.Written.{value-at}
 use Rattle.shortest_distance.specs.declared.Distances.{Distances}
 use Rattle.shortest_distance.specs.Outcome.{answerOf, distanceNumber, distancesBy, distanceAnswer, resultAfter}
-use Rattle.shortest_distance.specs.Promise.{RunTo, LeastTo, Least, Promised}
+use Rattle.shortest_distance.specs.Promise.{RunTo, ReachedAt, UnreachedAt, Least, Promised}
 use Rattle.shortest_distance.proofs.Outcomes.{number-input}
-
--- ---- the fields written, read back
-bits-below : (ds : List Tropical) → Below 4294967296 (map bitsOf ds)
-bits-below [] i = omega arith
-bits-below (d ∷ ds) zero = bits-lt d
-bits-below (d ∷ ds) (suc i) = bits-below ds i
-
-value-at : (ds : List Tropical) (rest : List ℕ) (v : ℕ) → v < length ds → word (bytesOfAll (map bitsOf ds) ++ rest) (4 * v) ≡ bitsOf (getD ds v inf)
-value-at ds rest v h =
-    let ws = map bitsOf ds in
-    let inside : v < length ws = subst (λ (n : ℕ). v < n) (sym (length-map ds bitsOf)) h in
-    ap (word (bytesOfAll ws ++ rest)) (let z : 4 * v ≡ 0 + 4 * v = omega arith in z)
-    ∙ sym (getD-words (bytesOfAll ws ++ rest) 0 (length ws) v inside)
-    ∙ ap (λ (l : List ℕ). getD l v 0) (words-of ws [] rest (bits-below ds))
-    ∙ getD-map bitsOf ds v inf 0 h
 
 -- ---- of a machine that climbs, with finite weights and a start that is a node
 module _ (m : Machine) (c : Climbs m) (f : Finite m) (start-in : (s : ℕ) → m .start ≡ some s → s < length (m .finals)) where
   abbrev run-to : (v : ℕ) → ((r : List ℕ) × FromStart m r v) → RunTo m v
   run-to v x = record { start = x .1 .0; run = x .0; starts = x .1 .1; runs = x .1 .2 }
 
-  reached-by : (v : ℕ) → RunTo m v → reached m v ≡ true
+  reached-by : (v : ℕ) → RunTo m v → isReached m v ≡ true
   reached-by v x = reached-run m c v .1 (x .run, (x .start, x .starts, x .runs))
 
-  least-to : (v : ℕ) → LeastTo m v (dist m v)
-  least-to v = record { below = λ x. dist-le m c (x .run) v (x .start, x .starts, x .runs); attained = go (dist m v) refl }
-    where
-      go : (d : Tropical) → dist m v ≡ d → ((x : RunTo m v) × (runCost m (x .run) ≡ dist m v)) ⊎ ((dist m v ≡ inf) × (RunTo m v → ⊥))
-      go (fin k) e = let a = dist-attained m c v k e in inl (run-to v (a .0, a .1), a .2 ∙ sym e)
-      go inf e = inr (e, λ x. infinite e (reached-finite m c f v (reached-by v x) .1))
+  -- the words of its distance tell which of the two a node is
+  told : (result : List ℕ) (v : ℕ) (d : Tropical) → dist m v ≡ d → word result (8 * v) ≡ getD (written (distanceOf d)) 0 0 → word result (8 * v + 4) ≡ getD (written (distanceOf d)) 1 0
+      → ReachedAt m result v ⊎ UnreachedAt m result v
+  told result v (fin k) e p q =
+      let a = dist-attained m c v k e in
+      let below : (x : RunTo m v) → fin k ≼ runCost m (x .run) = λ x. subst (λ (d : Tropical). d ≼ runCost m (x .run)) e (dist-le m c (x .run) v (x .start, x .starts, x .runs)) in
+      inl (record { cost = k; mark = p; bits = q; least = record { below = below; run = run-to v (a .0, a .1); attained = a .2 } })
+  told result v inf e p q = inr (record { mark = p; bits = q; none = λ x. infinite e (reached-finite m c f v (reached-by v x) .1) })
 
   count-is : length (distances m) ≡ height m
   unfolding distances
-  count-is = length-listBelow (height m) (dist m)
+  count-is = length-listBelow (height m) (distance m)
 
-  value-is : (v : ℕ) → v < height m → getD (distances m) v inf ≡ dist m v
+  value-is : (v : ℕ) → v < height m → getD (distances m) v unreached ≡ distance m v
   unfolding distances
-  value-is v h = getD-listBelow (height m) (dist m) v inf h
+  value-is v h = getD-listBelow (height m) (distance m) v unreached h
 
   top : (v : ℕ) → height m ≡ suc v → RunTo m v
   top v e = go (height-attained m (length (m .finals)))
     where
-      go : (height m ≡ 0) ⊎ ((u : ℕ) × (u < length (m .finals)) × (reached m u ≡ true) × (height m ≡ suc u)) → RunTo m v
+      go : (height m ≡ 0) ⊎ ((u : ℕ) × (u < length (m .finals)) × (isReached m u ≡ true) × (height m ≡ suc u)) → RunTo m v
       go (inl q) = absurd (omega (arith, e, q))
       go (inr x) =
           let same : x .0 ≡ v = omega (arith, e, x .3) in
-          run-to v (reached-run m c v .0 (ap (reached m) (sym same) ∙ x .2))
+          run-to v (reached-run m c v .0 (ap (isReached m) (sym same) ∙ x .2))
 
-  pub least : (rest : List ℕ) → Least m (length (distances m)) (bytesOfAll (map bitsOf (distances m)) ++ rest)
+  pub least : (rest : List ℕ) → Least m (length (distances m)) (bytesOfAll (flatMap written (distances m)) ++ rest)
   least rest = record {
-    values = λ v h. (
-      dist m v,
-      value-at (distances m) rest v h ∙ ap bitsOf (value-is v (subst (λ (n : ℕ). v < n) count-is h)),
-      least-to v,
-    );
+    values = λ v h.
+        let result = bytesOfAll (flatMap written (distances m)) ++ rest in
+        let at : (i : ℕ) → i < 2 → word result (8 * v + 4 * i) ≡ getD (written (distance m v)) i 0 = λ i b. value-at (distances m) rest v i h b ∙ ap (λ (d : Distance). getD (written d) i 0) (value-is v (subst (λ (n : ℕ). v < n) count-is h)) in
+        told result v (dist m v) refl (ap (word result) (let z : 8 * v ≡ 8 * v + 4 * 0 = omega arith in z) ∙ at 0 (omega arith)) (at 1 (omega arith));
     above = λ v x.
         let h = reached-by v x in
         subst (λ (n : ℕ). v < n) (sym count-is) (height-above m (length (m .finals)) v (reached-in m c (x .start) v (x .starts) (start-in (x .start) (x .starts)) h) h);

@@ -10,31 +10,34 @@ use native.Mathlib.Decide.{ℕ-discrete}
 use native.Mathlib.Omega.{arith}
 use lib.Dec.{T, leb, ltb, eqb, leb→le, ltb→lt}
 use lib.Ieee.Fits.{and-l, and-r}
-use lib.ListN.{length, getD, set, drop, length-set}
-use lib.Seq.{getD-set-same, getD-set-other, set-getD, drop-set-lt}
-use lib.Ieee.{Float, binary32, ofBits}
+use lib.ListN.{length, getD, set, drop}
+use lib.Seq.{getD-set-same, getD-set-other, set-getD}
+use lib.Ieee.{Float, binary32, add}
 use borrow.Author.Tests.{le-leb, lt-leb, lt-ltb, eq-eqb, ne-eqb}
 use Rattle.tropical_weight.specs.Limits.{unit, weightLimit, nodeLimit, sumLimit}
-use Rattle.tropical_weight.specs.Tropical.{Tropical, inf, _⊕_, _⊗_, Within}
+use Rattle.tropical_weight.specs.Tropical.{Tropical, _⊗_, Within}
 use Rattle.tropical_weight.specs.Grid.{ofT}
-use Rattle.tropical_weight.proofs.Exact.{covered, bits-back}
-use Rattle.tropical_weight.proofs.Semiring.{isFinite, finite-⊕, not-finite, ⊕-comm, zero-⊕}
+use Rattle.tropical_weight.proofs.Semiring.{isFinite, finite-⊕, not-finite}
 use Rattle.tropical_weight.proofs.Sums.{within-mono, terms-within, limits}
 use Rattle.sheet.specs.Below.{sumBelow}
-use Rattle.sheet.specs.Machine.{Machine, bitsOf}
+use Rattle.sheet.specs.Machine.{Machine}
 use Rattle.sheet.specs.Records.{linkAt, countAt}
 use Rattle.sheet.proofs.Below.{sum-mono, split-at}
 use Rattle.machine.specs.Readings.{link}
 use Rattle.machine.specs.Climbs.{Climbs, Small}
-use Rattle.machine.specs.Distance.{relax, dist}
-use Rattle.machine.proofs.Relax.{row-size, relax-is}
+use Rattle.machine.specs.Distance.{Distance, unreached, asWeight, nearer, onward, dist, distance, relax}
+use Rattle.machine.proofs.Named.{weight-of, of-weight, same-weight, step-weight}
+use Rattle.machine.proofs.Relax.{rowAt, row-size, relax-is}
 use Rattle.machine.proofs.Bounds.{row-within, step-within}
 use Rattle.state_order_queue.specs.Queues.{holds, isEmpty, enqueued, dequeued}
 use Rattle.state_order_queue.proofs.Sets.{enqueued-holds, empty-exactly, front-held, front-least, dequeued-holds}
-use Rattle.shortest_distance.specs.NodeSlots.{distanceWord, firstWord}
-use Rattle.shortest_distance.specs.Relaxation.{State, relaxedWord, reaches, relaxLink, relaxLinks, relaxHead, relaxHeads}
+use Rattle.distance.specs.declared.Distance.the-variants.{Reached}
+use Rattle.distance.specs.Held.{held, weightIn, withDistance}
+use Rattle.distance.specs.Offer.{improves, reaches}
+use Rattle.distance.proofs.Offers.{weight-held, relaxed-is, reaches-is, taken-here, taken-other, taken-length, taken-drop}
+use Rattle.shortest_distance.specs.NodeSlots.{distanceAt, firstWord}
+use Rattle.shortest_distance.specs.Relaxation.{State, relaxLink, relaxLinks, relaxHead, relaxHeads}
 use Rattle.shortest_distance.specs.Sound.{Sound}
-use Rattle.shortest_distance.proofs.Offers.{relaxed-is, reaches-is}
 use Rattle.shortest_distance.proofs.Kept.{link-kept, head-taken}
 
 -- A sheet's records as the code reads them, and the machine that they are of.
@@ -60,53 +63,57 @@ module _ (bytes : List ℕ) (links : ℕ) (m : Machine) (r : Reads bytes links m
   first v = sumBelow v (countAt bytes links)
 
   -- ---- rows
-  row-limit : (l v : ℕ) → l ≤ length (m .links) → v < length (m .finals) → Within sumLimit (getD (relax m l) v inf)
-  row-limit l v k h = terms-within nodeLimit weightLimit limits v (omega (arith, r .few)) (getD (relax m l) v inf) (row-within m (r .climbs) weightLimit (r .small) l v k h)
+  row-limit : (l v : ℕ) → l ≤ length (m .links) → v < length (m .finals) → Within sumLimit (rowAt m l v)
+  row-limit l v k h = terms-within nodeLimit weightLimit limits v (omega (arith, r .few)) (rowAt m l v) (row-within m (r .climbs) weightLimit (r .small) l v k h)
 
-  -- the value that link l leaves at its next node, and at the others
-  row-next : (l : ℕ) → l < length (m .links) → getD (relax m (suc l)) (link m l .next) inf ≡ getD (relax m l) (link m l .next) inf ⊕ getD (relax m l) (link m l .source) inf ⊗ link m l .weight
-  unfolding relax
-  row-next l h = getD-set-same (relax m l) (link m l .next) (getD (relax m l) (link m l .next) inf ⊕ getD (relax m l) (link m l .source) inf ⊗ link m l .weight) inf (omega (arith, row-size m l, r .climbs .inside l h))
+  -- the distance that link l leaves at its next node, and at the others
+  abbrev left : ℕ → Distance
+  left l = nearer (getD (relax m l) (link m l .next) unreached) (onward (getD (relax m l) (link m l .source) unreached) (link m l .weight))
 
-  row-other : (l v : ℕ) → (v ≡ link m l .next → ⊥) → getD (relax m (suc l)) v inf ≡ getD (relax m l) v inf
+  row-next : (l : ℕ) → l < length (m .links) → getD (relax m (suc l)) (link m l .next) unreached ≡ left l
   unfolding relax
-  row-other l v n = getD-set-other (relax m l) (link m l .next) v (getD (relax m l) (link m l .next) inf ⊕ getD (relax m l) (link m l .source) inf ⊗ link m l .weight) inf n
+  row-next l h = getD-set-same (relax m l) (link m l .next) (left l) unreached (omega (arith, row-size m l, r .climbs .inside l h))
+
+  row-other : (l v : ℕ) → (v ≡ link m l .next → ⊥) → getD (relax m (suc l)) v unreached ≡ getD (relax m l) v unreached
+  unfolding relax
+  row-other l v n = getD-set-other (relax m l) (link m l .next) v (left l) unreached n
 
   -- an unreached source leaves the row
-  row-same : (l : ℕ) → l < length (m .links) → getD (relax m l) (link m l .source) inf ≡ inf → relax m (suc l) ≡ relax m l
+  row-same : (l : ℕ) → l < length (m .links) → getD (relax m l) (link m l .source) unreached ≡ unreached → relax m (suc l) ≡ relax m l
   unfolding relax
   row-same l h e =
-      ap (λ (x : Tropical). set (relax m l) (link m l .next) (getD (relax m l) (link m l .next) inf ⊕ x ⊗ link m l .weight)) e
-      ∙ ap (λ (x : Tropical). set (relax m l) (link m l .next) x) (⊕-comm (getD (relax m l) (link m l .next) inf) inf ∙ zero-⊕ (getD (relax m l) (link m l .next) inf))
-      ∙ set-getD (relax m l) (link m l .next) inf
+      let x = getD (relax m l) (link m l .next) unreached in
+      ap (λ (d : Distance). set (relax m l) (link m l .next) (nearer x (onward d (link m l .weight)))) e
+      ∙ ap (set (relax m l) (link m l .next)) (of-weight x)
+      ∙ set-getD (relax m l) (link m l .next) unreached
 
   -- ---- the links of a node that is not reached change nothing, nor those of such nodes in a row
-  skip-links : (v n : ℕ) → v < length (m .finals) → n ≤ countAt bytes links v → getD (relax m (first v)) v inf ≡ inf → relax m (first v + n) ≡ relax m (first v)
+  skip-links : (v n : ℕ) → v < length (m .finals) → n ≤ countAt bytes links v → getD (relax m (first v)) v unreached ≡ unreached → relax m (first v + n) ≡ relax m (first v)
   skip-links v zero h k e = ap (relax m) (add-zero (first v))
   skip-links v (suc n) h k e =
       let l = first v + n in
       let same = skip-links v n h (omega arith) e in
       let in-links : l < length (m .links) = omega (arith, next-first bytes links v, first-in bytes links m r (suc v) h) in
       let source : link m l .source ≡ v = r .source-at v l h (omega arith) (omega (arith, next-first bytes links v)) in
-      ap (relax m) (let z : first v + suc n ≡ suc l = omega arith in z) ∙ row-same l in-links (ap (λ (x : List Tropical). getD x (link m l .source) inf) same ∙ ap (λ (x : ℕ). getD (relax m (first v)) x inf) source ∙ e) ∙ same
+      ap (relax m) (let z : first v + suc n ≡ suc l = omega arith in z) ∙ row-same l in-links (ap (λ (x : List Distance). getD x (link m l .source) unreached) same ∙ ap (λ (x : ℕ). getD (relax m (first v)) x unreached) source ∙ e) ∙ same
 
-  skip-nodes : (n k : ℕ) → k + n ≤ length (m .finals) → ((v : ℕ) → k ≤ v → v < k + n → getD (relax m (first k)) v inf ≡ inf) → relax m (first (k + n)) ≡ relax m (first k)
+  skip-nodes : (n k : ℕ) → k + n ≤ length (m .finals) → ((v : ℕ) → k ≤ v → v < k + n → getD (relax m (first k)) v unreached ≡ unreached) → relax m (first (k + n)) ≡ relax m (first k)
   skip-nodes zero k h e = ap (λ (x : ℕ). relax m (first x)) (add-zero k)
   skip-nodes (suc n) k h e =
       let v = k + n in
       let same = skip-nodes n k (omega arith) (λ u a b. e u a (omega arith)) in
       ap (λ (x : ℕ). relax m (first x)) (let z : k + suc n ≡ suc v = omega arith in z)
       ∙ ap (relax m) (next-first bytes links v)
-      ∙ skip-links v (countAt bytes links v) (omega arith) (omega arith) (ap (λ (x : List Tropical). getD x v inf) same ∙ e v (omega arith) (omega arith)) ∙ same
+      ∙ skip-links v (countAt bytes links v) (omega arith) (omega arith) (ap (λ (x : List Distance). getD x v unreached) same ∙ e v (omega arith) (omega arith)) ∙ same
 
   -- ---- what the slots and the queue hold beside what `Sound` says: the row after l links, and the nodes from k on that it reaches; beyond the slots the
   -- area is as it was
   pub record Holds (l k : ℕ) (s : State) : Type 0 where
-    pub distances : (v : ℕ) → v < length (m .finals) → distanceWord (s .work) v ≡ bitsOf (getD (relax m l) v inf)
+    pub distances : (v : ℕ) → v < length (m .finals) → distanceAt (s .work) v ≡ held (getD (relax m l) v unreached)
     pub sound : Sound bytes links (length (m .finals)) (s .work) (s .queue)
     pub size : length (s .work) ≡ length old
     pub beyond : drop (8 * length (m .finals)) (s .work) ≡ drop (8 * length (m .finals)) old
-    pub flags : (v : ℕ) → holds (s .queue) v ≡ leb k v && (ltb v (length (m .finals)) && isFinite (getD (relax m l) v inf))
+    pub flags : (v : ℕ) → holds (s .queue) v ≡ leb k v && (ltb v (length (m .finals)) && isFinite (rowAt m l v))
 
   -- ---- one link of node u
   module _ (u l : ℕ) (hu : u < length (m .finals)) (lo : first u ≤ l) (hi : l < first (suc u)) where
@@ -126,11 +133,11 @@ module _ (bytes : List ℕ) (links : ℕ) (m : Machine) (r : Reads bytes links m
     nx-up = subst (λ (x : ℕ). x < link m l .next) source (r .climbs .rises l in-links)
 
     -- the distance of u, of the next node, and the weight
-    abbrev x : Tropical
-    x = getD (relax m l) (link m l .next) inf
+    abbrev x : Distance
+    x = getD (relax m l) (link m l .next) unreached
 
-    abbrev d : Tropical
-    d = getD (relax m l) u inf
+    abbrev d : Distance
+    d = getD (relax m l) u unreached
 
     abbrev w : Tropical
     w = link m l .weight
@@ -138,31 +145,45 @@ module _ (bytes : List ℕ) (links : ℕ) (m : Machine) (r : Reads bytes links m
     weight-limit : Within sumLimit w
     weight-limit = within-mono weightLimit sumLimit w (let z : weightLimit ≤ sumLimit = omega arith in z) (r .small .onLink l in-links)
 
-    offer-limit : Within sumLimit (d ⊗ w)
+    offer-limit : Within sumLimit (asWeight d ⊗ w)
     offer-limit = step-within m (r .climbs) weightLimit (r .small) nodeLimit limits (r .few) l u (omega (arith, in-links)) hu l in-links
 
-    x-limit : Within sumLimit x
+    x-limit : Within sumLimit (asWeight x)
     x-limit = row-limit l nx (omega (arith, in-links)) nx-in
 
-    d-limit : Within sumLimit d
+    d-limit : Within sumLimit (asWeight d)
     d-limit = row-limit l u (omega (arith, in-links)) hu
 
-    row-new : getD (relax m (suc l)) nx inf ≡ x ⊕ d ⊗ w
-    row-new = row-next l in-links ∙ ap (λ (k : ℕ). x ⊕ getD (relax m l) k inf ⊗ w) source
+    row-new : getD (relax m (suc l)) nx unreached ≡ nearer x (onward d w)
+    row-new = row-next l in-links ∙ ap (λ (k : ℕ). nearer x (onward (getD (relax m l) k unreached) w)) source
+
+    abbrev offer : Float
+    offer = add binary32 (ofT unit (asWeight d)) (ofT unit w)
 
     -- what the code's link makes of a state that holds the row
     abbrev after : State → State
-    after s = record { work = set (s .work) (8 * nx) (bitsOf (x ⊕ d ⊗ w)); queue = cond (not (isFinite x) && isFinite (d ⊗ w)) (enqueued (s .queue) nx) (s .queue) }
+    after s = record {
+      work = cond (improves (distanceAt (s .work) nx) (ofT unit (asWeight d)) (ofT unit w)) (withDistance (s .work) (8 * nx) (Reached offer)) (s .work);
+      queue = cond (not (isFinite (asWeight x)) && isFinite (asWeight d ⊗ w)) (enqueued (s .queue) nx) (s .queue);
+    }
 
     module _ (s : State) (h : Holds l (suc u) s) where
-      state-is : relaxLink (linkAt bytes l) (ofT unit d) s ≡ after s
+      state-is : relaxLink (linkAt bytes l) (ofT unit (asWeight d)) s ≡ after s
       state-is =
-          let old : distanceWord (s .work) (linkAt bytes l .nextstate) ≡ bitsOf x = ap (distanceWord (s .work)) (r .next-at l in-links) ∙ h .distances nx nx-in in
-          let word-is : relaxedWord (distanceWord (s .work) (linkAt bytes l .nextstate)) (ofT unit d) (linkAt bytes l .weight) ≡ bitsOf (x ⊕ d ⊗ w) =
-          (λ i. relaxedWord (old i) (ofT unit d) (r .weight-at l in-links i)) ∙ relaxed-is x d w x-limit d-limit weight-limit offer-limit in
-          let reach-is : reaches (distanceWord (s .work) (linkAt bytes l .nextstate)) (ofT unit d) (linkAt bytes l .weight) ≡ not (isFinite x) && isFinite (d ⊗ w) =
-          (λ i. reaches (old i) (ofT unit d) (r .weight-at l in-links i)) ∙ reaches-is x d w x-limit d-limit weight-limit offer-limit in
-          λ i. record { work = set (s .work) (8 * r .next-at l in-links i) (word-is i); queue = cond (reach-is i) (enqueued (s .queue) (r .next-at l in-links i)) (s .queue) }
+          let reach-is : reaches (distanceAt (s .work) (linkAt bytes l .nextstate)) (ofT unit (asWeight d)) (linkAt bytes l .weight) ≡ not (isFinite (asWeight x)) && isFinite (asWeight d ⊗ w) =
+          (λ i. reaches ((ap (distanceAt (s .work)) (r .next-at l in-links) ∙ h .distances nx nx-in) i) (ofT unit (asWeight d)) (r .weight-at l in-links i)) ∙ reaches-is x d w x-limit d-limit weight-limit offer-limit in
+          λ i. record {
+            work =
+                cond
+                (improves (distanceAt (s .work) (r .next-at l in-links i)) (ofT unit (asWeight d)) (r .weight-at l in-links i))
+                (withDistance (s .work) (8 * r .next-at l in-links i) (Reached (add binary32 (ofT unit (asWeight d)) (r .weight-at l in-links i))))
+                (s .work);
+            queue = cond (reach-is i) (enqueued (s .queue) (r .next-at l in-links i)) (s .queue);
+          }
+
+      -- the next node's distance after the offer
+      becomes : cond (improves (distanceAt (s .work) nx) (ofT unit (asWeight d)) (ofT unit w)) (Reached offer) (held x) ≡ held (nearer x (onward d w))
+      becomes = (λ i. cond (improves (h .distances nx nx-in i) (ofT unit (asWeight d)) (ofT unit w)) (Reached offer) (held x)) ∙ relaxed-is x d w x-limit d-limit weight-limit offer-limit
 
       small-next : nx < nodeLimit
       small-next = omega (arith, nx-in, r .few)
@@ -172,77 +193,81 @@ module _ (bytes : List ℕ) (links : ℕ) (m : Machine) (r : Reads bytes links m
       new-flag false v = refl
 
       -- the flag of the next node
-      held-next : holds (s .queue) nx ≡ isFinite x
-      held-next = h .flags nx ∙ λ i. le-leb (suc u) nx nx-up i && (lt-ltb nx (length (m .finals)) nx-in i && isFinite x)
+      held-next : holds (s .queue) nx ≡ isFinite (asWeight x)
+      held-next = h .flags nx ∙ λ i. le-leb (suc u) nx nx-up i && (lt-ltb nx (length (m .finals)) nx-in i && isFinite (asWeight x))
 
       either : (a b : Bool) → (not a && b && true) || a ≡ a || b
       either true b = refl
       either false true = refl
       either false false = refl
 
-      flag-after : (v : ℕ) → holds (after s .queue) v ≡ leb (suc u) v && (ltb v (length (m .finals)) && isFinite (getD (relax m (suc l)) v inf))
-      flag-after v = new-flag (not (isFinite x) && isFinite (d ⊗ w)) v ∙ elim (ℕ-discrete v nx) [
+      flag-after : (v : ℕ) → holds (after s .queue) v ≡ leb (suc u) v && (ltb v (length (m .finals)) && isFinite (rowAt m (suc l) v))
+      flag-after v = new-flag (not (isFinite (asWeight x)) && isFinite (asWeight d ⊗ w)) v ∙ elim (ℕ-discrete v nx) [
         | yes e ↦
-            (λ i. (not (isFinite x) && isFinite (d ⊗ w) && eq-eqb v nx e i) || (ap (holds (s .queue)) e ∙ held-next) i)
-            ∙ either (isFinite x) (isFinite (d ⊗ w))
-            ∙ sym (ap (λ (k : ℕ). leb (suc u) k && (ltb k (length (m .finals)) && isFinite (getD (relax m (suc l)) k inf))) e
-            ∙ (λ i. le-leb (suc u) nx nx-up i && (lt-ltb nx (length (m .finals)) nx-in i && isFinite (row-new i)))
-            ∙ finite-⊕ x (d ⊗ w))
+            (λ i. (not (isFinite (asWeight x)) && isFinite (asWeight d ⊗ w) && eq-eqb v nx e i) || (ap (holds (s .queue)) e ∙ held-next) i)
+            ∙ either (isFinite (asWeight x)) (isFinite (asWeight d ⊗ w))
+            ∙ sym (ap (λ (k : ℕ). leb (suc u) k && (ltb k (length (m .finals)) && isFinite (rowAt m (suc l) k))) e
+            ∙ (λ i. le-leb (suc u) nx nx-up i && (lt-ltb nx (length (m .finals)) nx-in i && isFinite ((ap asWeight row-new ∙ step-weight x d w) i)))
+            ∙ finite-⊕ (asWeight x) (asWeight d ⊗ w))
         | no n ↦
-            ap (λ (t : Bool). (not (isFinite x) && isFinite (d ⊗ w) && t) || holds (s .queue) v) (ne-eqb v nx n)
-            ∙ drop-false (not (isFinite x) && isFinite (d ⊗ w)) (holds (s .queue) v)
+            ap (λ (t : Bool). (not (isFinite (asWeight x)) && isFinite (asWeight d ⊗ w) && t) || holds (s .queue) v) (ne-eqb v nx n)
+            ∙ drop-false (not (isFinite (asWeight x)) && isFinite (asWeight d ⊗ w)) (holds (s .queue) v)
             ∙ h .flags v
-            ∙ ap (λ (y : Tropical). leb (suc u) v && (ltb v (length (m .finals)) && isFinite y)) (sym (row-other l v n))
+            ∙ ap (λ (y : Distance). leb (suc u) v && (ltb v (length (m .finals)) && isFinite (asWeight y))) (sym (row-other l v n))
       ]
         where
           drop-false : (a b : Bool) → (a && false) || b ≡ b
           drop-false true b = refl
           drop-false false b = refl
 
-      distance-after : (v : ℕ) → v < length (m .finals) → distanceWord (after s .work) v ≡ bitsOf (getD (relax m (suc l)) v inf)
+      abbrev better : Bool
+      better = improves (distanceAt (s .work) nx) (ofT unit (asWeight d)) (ofT unit w)
+
+      distance-after : (v : ℕ) → v < length (m .finals) → distanceAt (after s .work) v ≡ held (getD (relax m (suc l)) v unreached)
       distance-after v k = elim (ℕ-discrete v nx) [
         | yes e ↦
-            ap (λ (j : ℕ). distanceWord (after s .work) j) e
-            ∙ getD-set-same (s .work) (8 * nx) (bitsOf (x ⊕ d ⊗ w)) 0 (omega (arith, h .sound .slots, nx-in))
-            ∙ ap bitsOf (sym (ap (λ (j : ℕ). getD (relax m (suc l)) j inf) e ∙ row-new))
-        | no n ↦ getD-set-other (s .work) (8 * nx) (8 * v) (bitsOf (x ⊕ d ⊗ w)) 0 (λ e. n (omega arith)) ∙ h .distances v k ∙ ap bitsOf (sym (row-other l v n))
+            ap (distanceAt (after s .work)) e
+            ∙ taken-here (s .work) (8 * nx) x (nearer x (onward d w)) offer better becomes (omega (arith, h .sound .slots, nx-in)) (h .distances nx nx-in)
+            ∙ ap held (sym (ap (λ (j : ℕ). getD (relax m (suc l)) j unreached) e ∙ row-new))
+        | no n ↦
+            taken-other (s .work) (8 * nx) x (nearer x (onward d w)) offer better becomes (8 * v) (λ e. n (omega arith)) (λ e. omega arith) (λ e. omega arith)
+            ∙ h .distances v k ∙ ap held (sym (row-other l v n))
       ]
 
-      pub link-step : Holds (suc l) (suc u) (relaxLink (linkAt bytes l) (ofT unit d) s)
+      pub link-step : Holds (suc l) (suc u) (relaxLink (linkAt bytes l) (ofT unit (asWeight d)) s)
       link-step = subst (λ (y : State). Holds (suc l) (suc u) y) (sym state-is) (record {
         distances = distance-after;
-        sound = subst (λ (y : State). Sound bytes links (length (m .finals)) (y .work) (y .queue)) state-is (link-kept bytes links (length (m .finals)) (linkAt bytes l) (ofT unit d) s (subst (λ (n : ℕ). n < length (m .finals)) (sym (r .next-at l in-links)) nx-in) (h .sound));
-        size = simp length-set (h .size);
-        beyond = drop-set-lt (8 * length (m .finals)) (s .work) (8 * nx) (bitsOf (x ⊕ d ⊗ w)) (omega (arith, nx-in)) ∙ h .beyond;
+        sound = subst (λ (y : State). Sound bytes links (length (m .finals)) (y .work) (y .queue)) state-is (link-kept bytes links (length (m .finals)) (linkAt bytes l) (ofT unit (asWeight d)) s (subst (λ (n : ℕ). n < length (m .finals)) (sym (r .next-at l in-links)) nx-in) (h .sound));
+        size = taken-length (s .work) (8 * nx) x (nearer x (onward d w)) offer better becomes ∙ h .size;
+        beyond = taken-drop (s .work) (8 * nx) x (nearer x (onward d w)) offer better becomes (8 * length (m .finals)) (omega (arith, nx-in)) ∙ h .beyond;
         flags = flag-after;
       })
 
   -- ---- the links of node u, so many of them
   links-step : (u : ℕ) → u < length (m .finals) → (n : ℕ) → n ≤ countAt bytes links u → (s : State) → Holds (first u) (suc u) s
-      → Holds (first u + n) (suc u) (relaxLinks bytes (first u) (ofT unit (getD (relax m (first u)) u inf)) n s) × (getD (relax m (first u + n)) u inf ≡ getD (relax m (first u)) u inf)
+      → Holds (first u + n) (suc u) (relaxLinks bytes (first u) (ofT unit (rowAt m (first u) u)) n s) × (getD (relax m (first u + n)) u unreached ≡ getD (relax m (first u)) u unreached)
   unfolding relaxLinks
-  links-step u hu zero k s h = (subst (λ (l : ℕ). Holds l (suc u) s) (sym (add-zero (first u))) h, ap (λ (l : ℕ). getD (relax m l) u inf) (add-zero (first u)))
+  links-step u hu zero k s h = (subst (λ (l : ℕ). Holds l (suc u) s) (sym (add-zero (first u))) h, ap (λ (l : ℕ). getD (relax m l) u unreached) (add-zero (first u)))
   links-step u hu (suc n) k s h =
       let before = links-step u hu n (omega arith) s h in
       let l = first u + n in
       let lo : first u ≤ l = omega arith in
       let hi : l < first (suc u) = omega (arith, next-first bytes links u) in
       let at : suc l ≡ first u + suc n = omega arith in
-      let step = link-step u l hu lo hi (relaxLinks bytes (first u) (ofT unit (getD (relax m (first u)) u inf)) n s) (before .0) in
-      let same : ofT unit (getD (relax m l) u inf) ≡ ofT unit (getD (relax m (first u)) u inf) = ap (ofT unit) (before .1) in
+      let step = link-step u l hu lo hi (relaxLinks bytes (first u) (ofT unit (rowAt m (first u) u)) n s) (before .0) in
+      let same : ofT unit (rowAt m l u) ≡ ofT unit (rowAt m (first u) u) = ap (λ (y : Distance). ofT unit (asWeight y)) (before .1) in
       let apart : u ≡ link m l .next → ⊥ = λ e. omega (arith, nx-up u l hu lo hi) in (
-        subst (λ (j : ℕ). Holds j (suc u) (relaxLink (linkAt bytes l) (ofT unit (getD (relax m (first u)) u inf)) (relaxLinks bytes (first u) (ofT unit (getD (relax m (first u)) u inf)) n s))) at
-            (subst (λ (y : Float). Holds (suc l) (suc u) (relaxLink (linkAt bytes l) y (relaxLinks bytes (first u) (ofT unit (getD (relax m (first u)) u inf)) n s))) same step),
-        ap (λ (j : ℕ). getD (relax m j) u inf) (sym at) ∙ row-other l u apart ∙ before .1,
+        subst (λ (j : ℕ). Holds j (suc u) (relaxLink (linkAt bytes l) (ofT unit (rowAt m (first u) u)) (relaxLinks bytes (first u) (ofT unit (rowAt m (first u) u)) n s))) at
+            (subst (λ (y : Float). Holds (suc l) (suc u) (relaxLink (linkAt bytes l) y (relaxLinks bytes (first u) (ofT unit (rowAt m (first u) u)) n s))) same step),
+        ap (λ (j : ℕ). getD (relax m j) u unreached) (sym at) ∙ row-other l u apart ∙ before .1,
       )
 
   -- ---- a head of the queue
   module _ (k : ℕ) (s : State) (hk : k ≤ length (m .finals)) (h : Holds (first k) k s) where
     -- no flag, no distance
-    unreached : (v : ℕ) → k ≤ v → v < length (m .finals) → holds (s .queue) v ≡ false → getD (relax m (first k)) v inf ≡ inf
-    unreached v a b e =
-        not-finite (getD (relax m (first k)) v inf)
-        (sym (h .flags v ∙ (λ i. le-leb k v a i && (lt-ltb v (length (m .finals)) b i && isFinite (getD (relax m (first k)) v inf)))) ∙ e)
+    blank : (v : ℕ) → k ≤ v → v < length (m .finals) → holds (s .queue) v ≡ false → getD (relax m (first k)) v unreached ≡ unreached
+    blank v a b e = same-weight (not-finite (rowAt m (first k) v)
+        (sym (h .flags v ∙ (λ i. le-leb k v a i && (lt-ltb v (length (m .finals)) b i && isFinite (rowAt m (first k) v)))) ∙ e))
 
     module _ (filled : isEmpty (s .queue) ≡ false) where
       abbrev u : ℕ
@@ -250,9 +275,9 @@ module _ (bytes : List ℕ) (links : ℕ) (m : Machine) (r : Reads bytes links m
 
       head : (k ≤ u) × (u < length (m .finals))
       head =
-          let t : T (leb k u && (ltb u (length (m .finals)) && isFinite (getD (relax m (first k)) u inf))) = subst T (sym (sym (h .flags u) ∙ front-held (s .queue) (h .sound .full) (h .sound .valid) filled)) tt in
-          let t₁ = and-r (leb k u) (ltb u (length (m .finals)) && isFinite (getD (relax m (first k)) u inf)) t in
-          (leb→le k u (and-l (leb k u) (ltb u (length (m .finals)) && isFinite (getD (relax m (first k)) u inf)) t), ltb→lt u (length (m .finals)) (and-l (ltb u (length (m .finals))) (isFinite (getD (relax m (first k)) u inf)) t₁))
+          let t : T (leb k u && (ltb u (length (m .finals)) && isFinite (rowAt m (first k) u))) = subst T (sym (sym (h .flags u) ∙ front-held (s .queue) (h .sound .full) (h .sound .valid) filled)) tt in
+          let t₁ = and-r (leb k u) (ltb u (length (m .finals)) && isFinite (rowAt m (first k) u)) t in
+          (leb→le k u (and-l (leb k u) (ltb u (length (m .finals)) && isFinite (rowAt m (first k) u)) t), ltb→lt u (length (m .finals)) (and-l (ltb u (length (m .finals))) (isFinite (rowAt m (first k) u)) t₁))
 
       -- nothing below the head is in the queue
       below-clear : (v : ℕ) → v < u → holds (s .queue) v ≡ false
@@ -266,27 +291,27 @@ module _ (bytes : List ℕ) (links : ℕ) (m : Machine) (r : Reads bytes links m
       rows =
           let at : k + (u - k) ≡ u = omega (arith, head .0) in
           ap (λ (j : ℕ). relax m (first j)) (sym at)
-          ∙ skip-nodes (u - k) k (omega (arith, head .0, head .1)) (λ v a b. unreached v a (omega (arith, head .0, head .1)) (below-clear v (omega (arith, head .0))))
+          ∙ skip-nodes (u - k) k (omega (arith, head .0, head .1)) (λ v a b. blank v a (omega (arith, head .0, head .1)) (below-clear v (omega (arith, head .0))))
 
-      flag-taken : (v : ℕ) → holds (dequeued (s .queue)) v ≡ leb (suc u) v && (ltb v (length (m .finals)) && isFinite (getD (relax m (first u)) v inf))
+      flag-taken : (v : ℕ) → holds (dequeued (s .queue)) v ≡ leb (suc u) v && (ltb v (length (m .finals)) && isFinite (rowAt m (first u) v))
       flag-taken v = dequeued-holds (s .queue) (h .sound .full) (h .sound .valid) filled v ∙ cases (split-at u v)
         where
-          low : v ≤ u → leb (suc u) v && (ltb v (length (m .finals)) && isFinite (getD (relax m (first u)) v inf)) ≡ false
-          low a = ap (λ (t : Bool). t && (ltb v (length (m .finals)) && isFinite (getD (relax m (first u)) v inf))) (lt-leb (suc u) v (omega arith))
+          low : v ≤ u → leb (suc u) v && (ltb v (length (m .finals)) && isFinite (rowAt m (first u) v)) ≡ false
+          low a = ap (λ (t : Bool). t && (ltb v (length (m .finals)) && isFinite (rowAt m (first u) v))) (lt-leb (suc u) v (omega arith))
 
-          cases : (u < v) ⊎ (v ≤ u) → not (eqb v u) && holds (s .queue) v ≡ leb (suc u) v && (ltb v (length (m .finals)) && isFinite (getD (relax m (first u)) v inf))
+          cases : (u < v) ⊎ (v ≤ u) → not (eqb v u) && holds (s .queue) v ≡ leb (suc u) v && (ltb v (length (m .finals)) && isFinite (rowAt m (first u) v))
           cases (inl a) =
               (λ i. not (ne-eqb v u (λ e. omega arith) i) && h .flags v i)
-              ∙ (λ i. le-leb k v (omega (arith, head .0)) i && (ltb v (length (m .finals)) && isFinite (getD (sym rows i) v inf)))
-              ∙ sym (ap (λ (t : Bool). t && (ltb v (length (m .finals)) && isFinite (getD (relax m (first u)) v inf))) (le-leb (suc u) v a))
+              ∙ (λ i. le-leb k v (omega (arith, head .0)) i && (ltb v (length (m .finals)) && isFinite (asWeight (getD (sym rows i) v unreached))))
+              ∙ sym (ap (λ (t : Bool). t && (ltb v (length (m .finals)) && isFinite (rowAt m (first u) v))) (le-leb (suc u) v a))
           cases (inr a) = elim (ℕ-discrete v u) [
             | yes e ↦ ap (λ (t : Bool). not t && holds (s .queue) v) (eq-eqb v u e) ∙ sym (low a)
             | no n ↦ ap (λ (t : Bool). not (eqb v u) && t) (below-clear v (omega (arith, n))) ∙ and-false (not (eqb v u)) ∙ sym (low a)
           ]
 
-      held : Holds (first u) (suc u) (record { work = s .work; queue = dequeued (s .queue) })
-      held = record {
-        distances = λ v b. h .distances v b ∙ ap (λ (y : List Tropical). bitsOf (getD y v inf)) (sym rows);
+      taken : Holds (first u) (suc u) (record { work = s .work; queue = dequeued (s .queue) })
+      taken = record {
+        distances = λ v b. h .distances v b ∙ ap (λ (y : List Distance). held (getD y v unreached)) (sym rows);
         sound = head-taken bytes links (length (m .finals)) s (h .sound) filled;
         size = h .size;
         beyond = h .beyond;
@@ -295,21 +320,23 @@ module _ (bytes : List ℕ) (links : ℕ) (m : Machine) (r : Reads bytes links m
 
       pub head-step : Holds (first (suc u)) (suc u) (relaxHead bytes links s)
       head-step =
-          let distance : ofBits binary32 (distanceWord (s .work) u) ≡ ofT unit (getD (relax m (first u)) u inf) = ap (ofBits binary32) (held .distances u (head .1)) ∙ bits-back unit covered (getD (relax m (first u)) u inf) in
-          let all = links-step u (head .1) (countAt bytes links u) (omega arith) (record { work = s .work; queue = dequeued (s .queue) }) held .0 in
+          let distance : weightIn (distanceAt (s .work) u) ≡ ofT unit (rowAt m (first u) u) = ap weightIn (taken .distances u (head .1)) ∙ weight-held (getD (relax m (first u)) u unreached) in
+          let all = links-step u (head .1) (countAt bytes links u) (omega arith) (record { work = s .work; queue = dequeued (s .queue) }) taken .0 in
           subst (λ (y : Float). Holds (first (suc u)) (suc u) (relaxLinks bytes (firstWord (s .work) u) y (countAt bytes links u) (record { work = s .work; queue = dequeued (s .queue) }))) (sym distance)
-          (subst (λ (j : ℕ). Holds (first (suc u)) (suc u) (relaxLinks bytes j (ofT unit (getD (relax m (first u)) u inf)) (countAt bytes links u) (record { work = s .work; queue = dequeued (s .queue) }))) (sym (h .sound .firsts u (head .1)))
-          (subst (λ (j : ℕ). Holds j (suc u) (relaxLinks bytes (first u) (ofT unit (getD (relax m (first u)) u inf)) (countAt bytes links u) (record { work = s .work; queue = dequeued (s .queue) }))) (sym (next-first bytes links u)) all))
+          (subst (λ (j : ℕ). Holds (first (suc u)) (suc u) (relaxLinks bytes j (ofT unit (rowAt m (first u) u)) (countAt bytes links u) (record { work = s .work; queue = dequeued (s .queue) }))) (sym (h .sound .firsts u (head .1)))
+          (subst (λ (j : ℕ). Holds j (suc u) (relaxLinks bytes (first u) (ofT unit (rowAt m (first u) u)) (countAt bytes links u) (record { work = s .work; queue = dequeued (s .queue) }))) (sym (next-first bytes links u)) all))
 
   -- ---- all heads: the slots hold Mohri's distances
   pub record Final (s : State) : Type 0 where
-    pub distances : (v : ℕ) → v < length (m .finals) → distanceWord (s .work) v ≡ bitsOf (dist m v)
+    pub distances : (v : ℕ) → v < length (m .finals) → distanceAt (s .work) v ≡ held (distance m v)
     pub size : length (s .work) ≡ length old
     pub beyond : drop (8 * length (m .finals)) (s .work) ≡ drop (8 * length (m .finals)) old
 
   final-of : (k : ℕ) (s : State) → Holds (first k) k s → relax m (first (length (m .finals))) ≡ relax m (first k) → Final s
   final-of k s h e = record {
-    distances = λ v b. h .distances v b ∙ ap (λ (y : List Tropical). bitsOf (getD y v inf)) (sym e ∙ ap (relax m) (r .total)) ∙ ap bitsOf (relax-is m (r .climbs) v b);
+    distances = λ v b.
+        let last : getD (relax m (length (m .links))) v unreached ≡ distance m v = same-weight (relax-is m (r .climbs) v b ∙ sym (weight-of (dist m v))) in
+        h .distances v b ∙ ap (λ (y : List Distance). held (getD y v unreached)) (sym e ∙ ap (relax m) (r .total)) ∙ ap held last;
     size = h .size;
     beyond = h .beyond;
   }
@@ -324,5 +351,5 @@ module _ (bytes : List ℕ) (links : ℕ) (m : Machine) (r : Reads bytes links m
           let at : k + (length (m .finals) - k) ≡ length (m .finals) = omega arith in
           final-of k s h
           (ap (λ (j : ℕ). relax m (first j)) (sym at)
-          ∙ skip-nodes (length (m .finals) - k) k (omega arith) (λ v c d. unreached k s a h v c (omega arith) (empty-exactly (s .queue) (h .sound .full) (h .sound .valid) .0 e v)))
+          ∙ skip-nodes (length (m .finals) - k) k (omega arith) (λ v c d. blank k s a h v c (omega arith) (empty-exactly (s .queue) (h .sound .full) (h .sound .valid) .0 e v)))
       go false e f = f e

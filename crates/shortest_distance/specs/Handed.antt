@@ -13,9 +13,9 @@ abbrev pub handedBy : Bool → ℕ → Distances
 handedBy true count = Distances.Refused 21
 handedBy false count = Distances.Count count
 
--- so many words, to an area of so many bytes
+-- so many distances, of two words each, to an area of so many bytes
 abbrev pub handed : ℕ → ℕ → Distances
-handed count room = handedBy (ltb room (4 * count)) count
+handed count room = handedBy (ltb room (8 * count)) count
 
 -- the area afterwards
 abbrev pub handedOver : List ℕ → List ℕ → List ℕ

@@ -1,31 +1,34 @@
 -- Mirrors the code: the work area while distances are made. A reader need not believe it: laws tie it to Distance of crate machine (proofs/Rows).
--- A slot of eight words a node. Word 0 holds the bits of its distance, word 1 the number of its first link. Definitions only.
+-- A slot of eight words a node. Words 0 and 1 hold its distance, word 4 the number of its first link. Definitions only.
 use Prim.Native.Nat.{ℕ, zero, suc, _+_, _*_}
 use mathlib.Core.Bool.{cond}
-use mathlib.Core.List.{List}
-use lib.Dec.{eqb}
+use mathlib.Core.List.{List, [], _++_}
 use lib.ListN.{getD, set}
-use Rattle.sheet.specs.Below.{listBelow}
 use Rattle.sheet.specs.Records.{firstLink}
-use Rattle.slots.specs.Slots.{infinite}
+use Rattle.distance.specs.declared.Distance.{Distance}
+use Rattle.distance.specs.declared.Distance.the-variants.{Unreached}
+use Rattle.distance.specs.Held.{reachedIn, wordsIn, distanceIn, withDistance}
 
--- the words of slot v
-abbrev pub distanceWord : List ℕ → ℕ → ℕ
-distanceWord work v = getD work (8 * v) 0
+-- what slot v holds
+abbrev pub distanceAt : List ℕ → ℕ → Distance
+distanceAt work v = distanceIn work (8 * v)
 
 abbrev pub firstWord : List ℕ → ℕ → ℕ
-firstWord work v = getD work (8 * v + 1) 0
+firstWord work v = getD work (8 * v + 4) 0
 
 -- the area with the first n slots set up
 unfoldable pub prepared : List ℕ → ℕ → ℕ → List ℕ → List ℕ
 prepared bytes links zero work = work
-prepared bytes links (suc v) work = set (set (prepared bytes links v work) (8 * v) infinite) (8 * v + 1) (firstLink bytes links v)
+prepared bytes links (suc v) work = set (withDistance (prepared bytes links v work) (8 * v) Unreached) (8 * v + 4) (firstLink bytes links v)
 
--- one more than the highest of n nodes whose distance is not infinite, or 0
+-- one more than the highest of n nodes that is reached, or 0
 unfoldable pub heightIn : List ℕ → ℕ → ℕ
+unfolding distanceIn
 heightIn work zero = 0
-heightIn work (suc v) = cond (eqb (distanceWord work v) infinite) (heightIn work v) (suc v)
+heightIn work (suc v) = cond (reachedIn (distanceAt work v)) (suc v) (heightIn work v)
 
--- the distance words of the first n nodes
-abbrev pub distanceWords : List ℕ → ℕ → List ℕ
-distanceWords work n = listBelow n (distanceWord work)
+-- the words of the distances of the first n nodes
+unfoldable pub distanceWords : List ℕ → ℕ → List ℕ
+unfolding distanceIn
+distanceWords work zero = []
+distanceWords work (suc v) = distanceWords work v ++ wordsIn (distanceAt work v)

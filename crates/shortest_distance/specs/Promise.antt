@@ -1,11 +1,12 @@
--- Demand 2 of the open call for distances, about the count that it answers and the bytes of the result area alone: the values are the least path sums
--- of Mohri's definition. Definitions only.
+-- Demand 2 of the open call for distances, about the count that it answers and the bytes of the result area alone: each distance is reached at the least path sum
+-- of Mohri's definition, or unreached. Definitions only.
 use mathlib.Core.Path.{_≡_}
 use mathlib.Core.Logic.{_⊎_}
 use mathlib.Core.Option.{some}
 use mathlib.Core.List.{List}
-use Prim.Native.Nat.{ℕ, suc, _*_, _<_}
-use Rattle.tropical_weight.specs.Tropical.{Tropical, inf, _≼_}
+use Prim.Native.Nat.{ℕ, suc, _+_, _*_, _<_}
+use lib.IntN.{ℤ}
+use Rattle.tropical_weight.specs.Tropical.{fin, _≼_}
 use Rattle.sheet.specs.Words.{word}
 use Rattle.sheet.specs.Machine.{Machine, machine, bitsOf}
 use Rattle.machine.specs.Readings.{IsRun, runCost}
@@ -19,17 +20,30 @@ pub record RunTo (m : Machine) (v : ℕ) : Type 0 where
   pub starts : m .start ≡ some start
   pub runs : IsRun m start run v
 
--- d is the least cost of a run to v
-pub record LeastTo (m : Machine) (v : ℕ) (d : Tropical) : Type 0 where
-  -- at most the cost of every run
-  pub below : (x : RunTo m v) → d ≼ runCost m (x .run)
-  -- and that of one, or else infinity, and there is no run
-  pub attained : ((x : RunTo m v) × (runCost m (x .run) ≡ d)) ⊎ ((d ≡ inf) × (RunTo m v → ⊥))
+-- So many units are the least cost of a run to v.
+pub record LeastTo (m : Machine) (v : ℕ) (k : ℤ) : Type 0 where
+  -- at most the cost of every run, and that of one
+  pub below : (x : RunTo m v) → fin k ≼ runCost m (x .run)
+  pub run : RunTo m v
+  pub attained : runCost m (run .run) ≡ fin k
+
+-- The two words of v are 1 and the bits of the least cost of a run to it.
+pub record ReachedAt (m : Machine) (result : List ℕ) (v : ℕ) : Type 0 where
+  pub cost : ℤ
+  pub mark : word result (8 * v) ≡ 1
+  pub bits : word result (8 * v + 4) ≡ bitsOf (fin cost)
+  pub least : LeastTo m v cost
+
+-- They are 0 and 0, and no run leads to it.
+pub record UnreachedAt (m : Machine) (result : List ℕ) (v : ℕ) : Type 0 where
+  pub mark : word result (8 * v) ≡ 0
+  pub bits : word result (8 * v + 4) ≡ 0
+  pub none : RunTo m v → ⊥
 
 -- The first bytes of a result hold so many distances.
 pub record Least (m : Machine) (count : ℕ) (result : List ℕ) : Type 0 where
-  -- each value is the field of the least cost of a run to its node
-  pub values : (v : ℕ) → v < count → (d : Tropical) × (word result (4 * v) ≡ bitsOf d) × LeastTo m v d
+  -- each is reached with its cost, or unreached
+  pub values : (v : ℕ) → v < count → ReachedAt m result v ⊎ UnreachedAt m result v
   -- the count is above every node that a run leads to, and one more than such a node, or 0
   pub above : (v : ℕ) → RunTo m v → v < count
   pub highest : (v : ℕ) → count ≡ suc v → RunTo m v

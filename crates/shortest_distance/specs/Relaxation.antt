@@ -1,33 +1,22 @@
 -- Mirrors the code: relaxation on the slots, through the queue, link by link. A reader need not believe it: laws tie it to Distance of crate machine (proofs/Rows).
 -- Definitions only.
 use Prim.Native.Nat.{ℕ, zero, suc, _+_, _*_}
-use mathlib.Core.Bool.{Bool, _&&_, cond}
+use mathlib.Core.Bool.{cond}
 use mathlib.Core.List.{List}
-use lib.Dec.{eqb}
-use lib.ListN.{set}
-use lib.Ieee.{Float, binary32, add, lt, ofBits, toBits}
+use lib.Ieee.{Float, binary32, add}
 use Rattle.sheet.specs.declared.tr.Link.{Link}
 use Rattle.sheet.specs.Records.{linkAt, countAt}
 use Rattle.state_order_queue.specs.declared.Queue.{Queue}
 use Rattle.state_order_queue.specs.Queues.{isEmpty, enqueued, dequeued}
-use Rattle.slots.specs.Slots.{infinite}
-use Rattle.shortest_distance.specs.NodeSlots.{distanceWord, firstWord}
-
--- whether the distance offered is less than a node's own
-abbrev pub improves : ℕ → Float → Float → Bool
-improves old distance weight = lt (add binary32 distance weight) (ofBits binary32 old)
-
--- the distance word after the offer
-abbrev pub relaxedWord : ℕ → Float → Float → ℕ
-relaxedWord old distance weight = cond (improves old distance weight) (toBits binary32 (add binary32 distance weight)) old
-
--- whether the offer is the first
-abbrev pub reaches : ℕ → Float → Float → Bool
-reaches old distance weight = improves old distance weight && eqb old infinite
+use Rattle.distance.specs.declared.Distance.the-variants.{Reached}
+use Rattle.distance.specs.Held.{weightIn, withDistance}
+use Rattle.distance.specs.Offer.{improves, reaches}
+use Rattle.shortest_distance.specs.NodeSlots.{distanceAt, firstWord}
 
 -- the area after a link is relaxed whose source has a distance
 abbrev pub relaxedWords : Link → Float → List ℕ → List ℕ
-relaxedWords k distance work = set work (8 * k .nextstate) (relaxedWord (distanceWord work (k .nextstate)) distance (k .weight))
+relaxedWords k distance work =
+    cond (improves (distanceAt work (k .nextstate)) distance (k .weight)) (withDistance work (8 * k .nextstate) (Reached (add binary32 distance (k .weight)))) work
 
 -- the area and the queue
 pub record State : Type 0 where
@@ -38,7 +27,7 @@ pub record State : Type 0 where
 abbrev pub relaxLink : Link → Float → State → State
 relaxLink k distance s = record {
   work = relaxedWords k distance (s .work);
-  queue = cond (reaches (distanceWord (s .work) (k .nextstate)) distance (k .weight)) (enqueued (s .queue) (k .nextstate)) (s .queue);
+  queue = cond (reaches (distanceAt (s .work) (k .nextstate)) distance (k .weight)) (enqueued (s .queue) (k .nextstate)) (s .queue);
 }
 
 -- n links from a number on
@@ -48,7 +37,7 @@ relaxLinks bytes first distance (suc n) s = relaxLink (linkAt bytes (first + n))
 
 -- the links of a node
 abbrev pub relaxNode : List ℕ → ℕ → ℕ → State → State
-relaxNode bytes links v s = relaxLinks bytes (firstWord (s .work) v) (ofBits binary32 (distanceWord (s .work) v)) (countAt bytes links v) s
+relaxNode bytes links v s = relaxLinks bytes (firstWord (s .work) v) (weightIn (distanceAt (s .work) v)) (countAt bytes links v) s
 
 -- the queue's head taken, and its links relaxed
 abbrev pub relaxHead : List ℕ → ℕ → State → State

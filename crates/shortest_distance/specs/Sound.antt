@@ -8,12 +8,13 @@ use lib.ListN.{length, drop}
 use Rattle.tropical_weight.specs.Limits.{nodeLimit}
 use Rattle.sheet.specs.Below.{sumBelow}
 use Rattle.sheet.specs.Words.{word}
-use Rattle.machine.specs.Distance.{dist}
+use Rattle.machine.specs.Distance.{distance}
 use Rattle.state_order_queue.specs.declared.Queue.{Queue}
 use Rattle.state_order_queue.specs.Queues.{holds, isValid}
 use Rattle.sheet.specs.Records.{countAt}
-use Rattle.sheet.specs.Machine.{bitsOf, machine}
-use Rattle.shortest_distance.specs.NodeSlots.{distanceWord, firstWord}
+use Rattle.sheet.specs.Machine.{machine}
+use Rattle.distance.specs.Held.{held}
+use Rattle.shortest_distance.specs.NodeSlots.{distanceAt, firstWord}
 use Rattle.shortest_distance.specs.Outcome.{slotsNeeded}
 
 pub record Sound (bytes : List ℕ) (links nodes : ℕ) (work : List ℕ) (queue : Queue) : Type 0 where
@@ -33,6 +34,6 @@ pub record Sound (bytes : List ℕ) (links nodes : ℕ) (work : List ℕ) (queue
 
 -- the slots hold the distances of a sheet's nodes, and beyond them the area is as it was
 pub record Made (bytes old work : List ℕ) : Type 0 where
-  pub each : (v : ℕ) → v < slotsNeeded bytes → distanceWord work v ≡ bitsOf (dist (machine bytes) v)
+  pub each : (v : ℕ) → v < slotsNeeded bytes → distanceAt work v ≡ held (distance (machine bytes) v)
   pub size : length work ≡ length old
   pub beyond : drop (8 * slotsNeeded bytes) work ≡ drop (8 * slotsNeeded bytes) old

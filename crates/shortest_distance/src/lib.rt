@@ -1,5 +1,5 @@
-// Distances (shortest_distance.rs of rustfst): one value per node, the least sum of weights along
-// the runs from the start to it.
+// Distances (shortest_distance.rs of rustfst), one per node: reached at the least sum of weights along
+// the runs from the start to it, or unreached.
 ghost use mathlib.Core.Path.{_≡_};
 ghost use Prim.Native.Nat.{_*_, _≤_};
 ghost use lib.ListN.{length};
@@ -10,6 +10,8 @@ ghost use Rattle.shortest_distance.specs.Handed.{handed, handedOver};
 ghost use Rattle.shortest_distance.specs.Outcome.{distanceAnswer, workAfter, resultAfter};
 ghost use Rattle.shortest_distance.specs.Promise.{Promised};
 ghost use Rattle.shortest_distance.specs.Sound.{Made};
+use distance::Distance;
+use distance::WRITTEN;
 use sheet::read::Tested;
 use sheet::refusal;
 use sheet::tr::Trailer;
@@ -18,7 +20,7 @@ use slots::SLOT;
 mod node_slots;
 mod relax;
 
-// What the call for distances answers: how many values it wrote, or the number of the refusal.
+// What the call for distances answers: how many distances it wrote, or the number of the refusal.
 pub enum Distances {
     Count(u32),
     Refused(u32),
@@ -30,7 +32,7 @@ fn hand_over(work: &[u32], count: u32, result: &mut [u8]) -> Distances
     ensures { λ r. ⌜ r ≡ handed count (length (now (result .entry))) ⌝ }
     ensures { λ _. ⌜ now (result .exit) ≡ handedOver (distanceWords (now (work .entry)) count) (now (result .entry)) ⌝ }
 {
-    if result.len() < 4 * (count as usize) {
+    if result.len() < WRITTEN * (count as usize) {
         return Distances::Refused(refusal::RESULT);
     }
     node_slots::put_distances(work, count, result);
@@ -47,7 +49,8 @@ pub fn make(sheet: &[u8], t: Trailer, work: &mut [u32])
     let start = t.start;
     node_slots::prepare(sheet, links, nodes, work);
     if start < nodes {
-        work[SLOT * (start as usize)] = 0;
+        let begun = Distance::Reached(tropical_weight::one());
+        distance::put_distance(work, SLOT * (start as usize), begun);
         let q = state_order_queue::enqueue_untested(state_order_queue::new(), start);
         relax::relax_heads(sheet, links, nodes, work, q);
     }
@@ -70,7 +73,8 @@ fn distances_of(sheet: &[u8], t: Trailer, work: &mut [u32], result: &mut [u8]) -
     answer
 }
 
-// Distances of a sheet's nodes, one value per node up to the highest reached, into the result area.
+// Distances of a sheet's nodes, one per node up to the highest reached, into the result area: two
+// words each, 1 and the weight bits, or 0 and 0 where the node is unreached.
 // A work slot is eight words; the slots of the nodes are left zero unless the sheet or the count of
 // slots is refused.
 pub fn shortest_distance(sheet: &[u8], work: &mut [u32], result: &mut [u8]) -> Distances

@@ -1,32 +1,35 @@
 // Relaxation, link by link through the queue.
 ghost use mathlib.Core.Path.{_≡_};
-ghost use Prim.Native.Nat.{_*_, _<_};
+ghost use Prim.Native.Nat.{_+_, _*_, _<_};
 ghost use lib.ListN.{length};
-ghost use Rattle.shortest_distance.specs.NodeSlots.{distanceWord};
-ghost use Rattle.shortest_distance.specs.Relaxation.{reaches, relaxedWords, relaxHeads};
+ghost use Rattle.distance.specs.Offer.{reaches};
+ghost use Rattle.shortest_distance.specs.NodeSlots.{distanceAt};
+ghost use Rattle.shortest_distance.specs.Relaxation.{relaxedWords, relaxHeads};
 ghost use Rattle.shortest_distance.specs.Sound.{Sound};
+use crate::node_slots::FIRST;
+use distance::Distance;
 use sheet::tr::Link;
 use sheet::words::word;
-use slots::INFINITE;
 use slots::SLOT;
 use state_order_queue::Queue;
 
-// Offers a link's next node the distance by that link, which it takes where it is strictly less. A
-// strict comparison of exact sums is right in every rounding mode. Answers whether it is its first.
-fn relax_link(k: Link, distance: f32, work: &mut [u32]) -> bool
-    requires { ⌜ 8 * k .nextstate < length (now work) ⌝ }
-    ensures { λ r. ⌜ r ≡ reaches (distanceWord (now (work .entry)) (k .nextstate)) distance (k .weight) ⌝ }
-    ensures { λ _. ⌜ now (work .exit) ≡ relaxedWords k distance (now (work .entry)) ⌝ }
+// Offers a link's next node the distance by that link, from a source at d, which it takes where it is
+// strictly less. A strict comparison of exact sums is right in every rounding mode, and an offer that
+// is not finite reaches nothing. Answers whether it is its first.
+fn relax_link(k: Link, d: f32, work: &mut [u32]) -> bool
+    requires { ⌜ 8 * k .nextstate + 1 < length (now work) ⌝ }
+    ensures { λ r. ⌜ r ≡ reaches (distanceAt (now (work .entry)) (k .nextstate)) d (k .weight) ⌝ }
+    ensures { λ _. ⌜ now (work .exit) ≡ relaxedWords k d (now (work .entry)) ⌝ }
 {
     let at = SLOT * (k.nextstate as usize);
-    let word = work[at];
-    let old = tropical_weight::from_bits(word);
-    let offer = tropical_weight::times(distance, k.weight);
-    if !tropical_weight::natural_less(offer, old) {
+    let old = distance::distance_at(work, at);
+    let own = distance::as_weight(old);
+    let offer = tropical_weight::times(d, k.weight);
+    if !tropical_weight::natural_less(offer, own) {
         return false;
     }
-    work[at] = tropical_weight::to_bits(offer);
-    word == INFINITE
+    distance::put_distance(work, at, Distance::Reached(offer));
+    !distance::is_reached(old)
 }
 
 // Takes heads and relaxes their links until the queue is empty, and puts each next node in at the
@@ -45,16 +48,16 @@ pub fn relax_heads(sheet: &[u8], links: u32, nodes: u32, work: &mut [u32], q: Qu
             return;
         }
         let v = front as usize;
-        let first = work[SLOT * v + 1];
+        let first = work[SLOT * v + FIRST];
         let count = word(sheet, 16 * (links as usize) + 12 * v);
-        let distance = tropical_weight::from_bits(work[SLOT * v]);
+        let d = distance::as_weight(distance::distance_at(work, SLOT * v));
         queue.flags[v] = false;
         let next = state_order_queue::next_front(front, back, &queue.flags);
         queue = state_order_queue::dequeue_cleared(queue, next);
         let mut i = 0u32;
         while i < count {
             let k = sheet::tr::link_at(sheet, (first as usize) + (i as usize));
-            if relax_link(k, distance, work) {
+            if relax_link(k, d, work) {
                 let w = k.nextstate;
                 queue.flags[w as usize] = true;
                 queue = state_order_queue::enqueue_flagged(queue, w);

@@ -1,6 +1,6 @@
 -- The parts of a list for n from 2 joined: what the slots hold gives each next function what it asks, and the result is the defined one. Assumes nothing.
 use mathlib.Core.Path.{_≡_, refl, sym, ap, _∙_, subst}
-use mathlib.Core.Bool.{Bool, true, false, not, cond}
+use mathlib.Core.Bool.{Bool, true, false, cond}
 use mathlib.Core.Option.{Option, none, some}
 use mathlib.Core.List.{List}
 use Prim.Native.Nat.{ℕ, zero, suc, _+_, _*_, _≤_, _<_}
@@ -10,23 +10,26 @@ use native.Mathlib.Omega.{arith}
 use lib.Dec.{eqb}
 use lib.IntN.{ℤ}
 use lib.ListN.{length, getD}
-use borrow.Author.Tests.{eq-eqb, ne-eqb, eqb-false}
+use borrow.Author.Tests.{eqb-false}
 use Rattle.tropical_weight.specs.Limits.{weightLimit, listLimit}
 use Rattle.tropical_weight.specs.Tropical.{Tropical, fin, inf}
 use Rattle.sheet.specs.declared.tr.Trailer.{Trailer}
 use Rattle.sheet.specs.Sheet.{partsOf, statedLinks}
-use Rattle.sheet.specs.Machine.{Machine, machineOf, bitsOf}
+use Rattle.sheet.specs.Machine.{Machine, machineOf}
 use Rattle.sheet.specs.Records.{trailerAt}
 use Rattle.sheet.proofs.Round.{Below}
 use Rattle.sheet.proofs.Apart.{not-both}
 use Rattle.sheet.proofs.Below.{getD-listBelow}
 use Rattle.machine.specs.Input.{inputNumber}
 use Rattle.machine.specs.Climbs.{Small}
-use Rattle.machine.specs.Distance.{total}
+use Rattle.machine.specs.Distance.{distanceOf, total}
 use Rattle.machine.specs.Parents.{best}
 use Rattle.machine.specs.Readings.{Reading, IsReading, readingCost, marked}
 use Rattle.machine.proofs.Accepted.{passes, small-machine}
+use Rattle.machine.proofs.Named.{weight-of}
 use Rattle.machine.proofs.Parents.{best-infinite, best-finite}
+use Rattle.distance.specs.Held.{reachedIn, distanceIn}
+use Rattle.distance.proofs.Offers.{reached-held}
 use Rattle.search.specs.Reversed.{reversed}
 use Rattle.search.specs.Search.{mostTaken, search, after}
 use Rattle.search.specs.ListMachine.{empty, resultBy, resultFor, trimmed}
@@ -34,10 +37,10 @@ use Rattle.search.specs.States.{listResult}
 use Rattle.search.proofs.Lists.{Accepted, accepted, marked-few, some-listed}
 use Rattle.search.proofs.Entries.{numbered}
 use Rattle.search.proofs.Complete.{few-listed}
-use Rattle.search.proofs.Within.{holds-after, put-room, total-within}
+use Rattle.search.proofs.Within.{holds-after, put-room}
 use Rattle.search.proofs.Trims.{trimmed-is}
-use Rattle.slots.specs.Slots.{nothing, infinite}
-use Rattle.search_slots.specs.Slots.{listedWord, distanceWord, visitsWord}
+use Rattle.slots.specs.Slots.{nothing}
+use Rattle.search_slots.specs.Slots.{listedWord, visitsWord}
 use Rattle.list_answer.proofs.SlotsNeeded.{slots-many}
 use Rattle.list_answer.specs.ListAnswer.{slotsOf, slotsFor, listedIn, listedOver}
 use Rattle.machine.specs.Finals.{finalsAt, finalCount}
@@ -53,7 +56,6 @@ use Rattle.list_machine.specs.TrimWords.{keptCount, listAnswer, listAfter, List
 use Rattle.list_machine.proofs.Writings.{listable, list-answers, list-leaves}
 use Rattle.list_machine.proofs.Sources.{sourced}
 use Rattle.tropical_weight.proofs.Semiring.{isFinite, not-finite}
-use Rattle.shortest_distance.proofs.Offers.{bits-finite}
 use Rattle.shortest_path.proofs.SearchReads.{lies, fan-few}
 
 -- n = 0 gives the empty machine
@@ -116,30 +118,25 @@ module _ (bytes : List ℕ) (below : Below 256 bytes) (ok : inputNumber bytes �
 
     -- ---- once the machine is reversed
     module _ (old part : List ℕ) (long : 8 * slotsFor m n ≤ length old) (rev : Reversal m (places .nodes) (places .links) old part) where
-      -- ---- whether there is a reading
-      total-at : distanceWord part (places .nodes) 0 ≡ bitsOf (total m)
-      total-at = rev .laid .distances 0 (omega arith)
+      -- ---- whether there is a reading: whether the least total is reached
+      total-reached : reachedIn (distanceIn part (places .nodes)) ≡ isFinite (total m)
+      total-reached =
+          ap (λ (k : ℕ). reachedIn (distanceIn part k)) (let z : places .nodes ≡ places .nodes + 8 * 0 = omega arith in z)
+          ∙ ap reachedIn (rev .laid .distances 0 (omega arith)) ∙ reached-held (distanceOf (total m)) ∙ ap isFinite (weight-of (total m))
 
-      word-is : eqb (getD part (places .nodes) 0) infinite ≡ not (isFinite (total m))
-      word-is = ap (λ k. eqb k infinite) (ap (λ j. getD part j 0) (let z : places .nodes ≡ places .nodes + 8 * 0 = omega arith in z) ∙ total-at) ∙ bits-finite (total m) (total-within m (a .climbs) b (a .few-nodes))
-
-      pub none-there : getD part (places .nodes) 0 ≡ infinite → resultFor m n ≡ empty
+      pub none-there : reachedIn (distanceIn part (places .nodes)) ≡ false → resultFor m n ≡ empty
       unfolding resultFor
-      none-there e = ap (resultBy m n) (best-infinite m (a .climbs) (not-finite (total m) (turned (isFinite (total m)) (sym (eq-eqb (getD part (places .nodes) 0) infinite e) ∙ word-is))))
-        where
-          turned : (c : Bool) → true ≡ not c → c ≡ false
-          turned true q = q
-          turned false q = refl
+      none-there e = ap (resultBy m n) (best-infinite m (a .climbs) (not-finite (total m) (sym total-reached ∙ e)))
 
       -- where there is one the machine has a start, which the trailer names
-      reading : (getD part (places .nodes) 0 ≡ infinite → ⊥) → (k : ℤ) × (total m ≡ fin k)
-      reading e = go (total m) refl (sym (ne-eqb (getD part (places .nodes) 0) infinite e) ∙ word-is)
+      reading : reachedIn (distanceIn part (places .nodes)) ≡ true → (k : ℤ) × (total m ≡ fin k)
+      reading e = go (total m) refl (sym total-reached ∙ e)
         where
-          go : (d : Tropical) → total m ≡ d → false ≡ not (isFinite d) → (k : ℤ) × (total m ≡ fin k)
+          go : (d : Tropical) → total m ≡ d → isFinite d ≡ true → (k : ℤ) × (total m ≡ fin k)
           go inf q h = absurd (not-both h refl)
           go (fin k) q h = (k, q)
 
-      module _ (there : getD part (places .nodes) 0 ≡ infinite → ⊥) where
+      module _ (there : reachedIn (distanceIn part (places .nodes)) ≡ true) where
         found-best : (x : Reading) × (best m ≡ some x) × IsReading m x × (readingCost m x ≡ total m)
         found-best = let r = reading there in best-finite m (a .climbs) (r .0) (r .1)
 

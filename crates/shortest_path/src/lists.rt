@@ -16,7 +16,6 @@ use n_shortest::n_best;
 use reversed_machine::reverse;
 use sheet::tr::Trailer;
 use single_path::single;
-use slots::INFINITE;
 use slots::SLOT;
 
 // The n cheapest readings of an accepted sheet with so many final nodes, n from 2.
@@ -39,8 +38,8 @@ pub fn list_many(
     let chains = heads + SLOT * ((t.nodes as usize) + 1);
     reverse::measure(sheet, t, part, heads);
     reverse::reverse(sheet, t, finals, part, heads, chains);
-    // without a reading the least total is infinite; with one there is a start
-    if part[heads] == INFINITE {
+    // without a reading the least total is unreached; with one there is a start
+    if !distance::is_reached(distance::distance_at(part, heads)) {
         return list_answer::put_none(result);
     }
     let end = t.start + 1;

@@ -14,22 +14,25 @@ use lib.Ieee as Ieee
 use Rattle.tropical_weight.specs.Limits.{unit, weightLimit, nodeLimit, sumLimit}
 use Rattle.tropical_weight.specs.Tropical.{Tropical, fin, inf, leT, ltT, eqT, _≼_, _⊗_, Within}
 use Rattle.tropical_weight.specs.Grid.{ofT}
-use Rattle.tropical_weight.proofs.Exact.{covered, times-ofT, lt-ofT, bits-back}
+use Rattle.tropical_weight.proofs.Exact.{covered, times-ofT, lt-ofT}
 use Rattle.tropical_weight.proofs.Semiring.{eq-eqT, ltT-not, ⊗-zero}
 use Rattle.tropical_weight.proofs.Sums.{within-mono, limits}
 use Rattle.sheet.specs.Below.{listBelow}
 use Rattle.sheet.specs.Records.{markAt, finalAt}
-use Rattle.sheet.specs.Machine.{Machine, weightOf, bitsOf}
+use Rattle.sheet.specs.Machine.{Machine, weightOf}
 use Rattle.sheet.proofs.Apart.{not-both}
 use Rattle.machine.specs.Readings.{finalWeight}
-use Rattle.machine.specs.Distance.{plusAll, dist, total, totalAt}
+use Rattle.machine.specs.Distance.{plusAll, dist, distance, total, totalAt}
 use Rattle.machine.specs.Parents.{attains, bestEnd}
+use Rattle.machine.proofs.Named.{weight-of}
 use Rattle.machine.proofs.Lists.{below-mem}
 use Rattle.machine.proofs.Sums.{plusAll-le, plusAll-next}
 use Rattle.machine.proofs.Bounds.{dist-limit, total-limit, least-limit}
 use Rattle.machine.proofs.Parents.{Lowest, attains-eq}
 use Rattle.machine.proofs.SheetFields.{SheetFields, marked-final, unmarked-final}
-use Rattle.shortest_distance.specs.NodeSlots.{distanceWord}
+use Rattle.distance.specs.Held.{held, weightIn}
+use Rattle.distance.proofs.Offers.{weight-held}
+use Rattle.shortest_distance.specs.NodeSlots.{distanceAt}
 use Rattle.single_path.specs.declared.single.End.{End}
 use Rattle.single_path.specs.declared.single.End.the-variants as End
 use Rattle.single_path.specs.SingleWords.{totalValue, Best, bestBelow}
@@ -49,7 +52,7 @@ abbrev pub endAt : Option ℕ → End
 endAt none = End.None
 endAt (some v) = End.At v
 
-module _ (bytes : List ℕ) (m : Machine) (f : SheetFields bytes (length (m .links)) (length (m .finals)) m) (work : List ℕ) (distances : (v : ℕ) → v < length (m .finals) → distanceWord work v ≡ bitsOf (dist m v)) where
+module _ (bytes : List ℕ) (m : Machine) (f : SheetFields bytes (length (m .links)) (length (m .finals)) m) (work : List ℕ) (distances : (v : ℕ) → v < length (m .finals) → distanceAt work v ≡ held (distance m v)) where
   abbrev links : ℕ
   links = length (m .links)
 
@@ -60,10 +63,10 @@ module _ (bytes : List ℕ) (m : Machine) (f : SheetFields bytes (length (m .lin
   total-is : (v : ℕ) → v < length (m .finals) → totalValue bytes links work v ≡ ofT unit (totalAt m v)
   total-is v h = go (eqb (markAt bytes links v) 1) refl
     where
-      distance : ofBits binary32 (distanceWord work v) ≡ ofT unit (dist m v)
-      distance = ap (ofBits binary32) (distances v h) ∙ bits-back unit covered (dist m v)
+      weight : weightIn (distanceAt work v) ≡ ofT unit (dist m v)
+      weight = ap weightIn (distances v h) ∙ weight-held (distance m v) ∙ ap (ofT unit) (weight-of (dist m v))
 
-      go : (b : Bool) → eqb (markAt bytes links v) 1 ≡ b → cond b (add binary32 (ofBits binary32 (distanceWord work v)) (ofBits binary32 (finalAt bytes links v))) (Ieee.inf false) ≡ ofT unit (totalAt m v)
+      go : (b : Bool) → eqb (markAt bytes links v) 1 ≡ b → cond b (add binary32 (weightIn (distanceAt work v)) (ofBits binary32 (finalAt bytes links v))) (Ieee.inf false) ≡ ofT unit (totalAt m v)
       go true e =
           let one = eqb-true (markAt bytes links v) 1 e in
           let n : markAt bytes links v ≡ 0 → ⊥ = λ z. omega (arith, one, z) in
@@ -71,7 +74,7 @@ module _ (bytes : List ℕ) (m : Machine) (f : SheetFields bytes (length (m .lin
           let lim = dist-limit m (f .climbs) weightLimit (f .small) nodeLimit limits (f .few-nodes) v h in
           let w = weightOf (finalAt bytes links v) in
           let wide : Within sumLimit w = within-mono weightLimit sumLimit w (let z : weightLimit ≤ sumLimit = omega arith in z) (f .small .onFinal v w final-is) in
-          (λ i. add binary32 (distance i) (f .final-value v h n i)) ∙ times-ofT unit covered (dist m v) w lim wide ∙ ap (λ o. ofT unit (dist m v ⊗ finalWeight o)) (sym final-is)
+          (λ i. add binary32 (weight i) (f .final-value v h n i)) ∙ times-ofT unit covered (dist m v) w lim wide ∙ ap (λ o. ofT unit (dist m v ⊗ finalWeight o)) (sym final-is)
       go false e = sym (ap (ofT unit) (ap (λ o. dist m v ⊗ finalWeight o) (unmarked-final f v h (eqb-false (markAt bytes links v) 1 e)) ∙ ⊗-zero (dist m v)))
 
   -- ---- the pass

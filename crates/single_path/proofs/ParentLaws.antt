@@ -2,7 +2,7 @@
 -- nothing.
 use mathlib.Core.Path.{_≡_, refl, sym, ap, _∙_, subst}
 use mathlib.Core.Logic.{inl, inr}
-use mathlib.Core.Bool.{Bool, true, false, not, _&&_, cond, and-false}
+use mathlib.Core.Bool.{Bool, true, false, _&&_, cond, and-false}
 use mathlib.Core.Option.{Option, none, some}
 use mathlib.Core.List.{List}
 use Prim.Native.Nat.{ℕ, zero, suc, _+_, _*_, _≤_, _<_}
@@ -10,61 +10,48 @@ use native.Mathlib.Nat.{add-zero}
 use native.Mathlib.Decide.{ℕ-discrete}
 use native.Mathlib.Omega.{arith}
 use lib.Dec.{eqb}
-use lib.IntN.{ℤ, _+ℤ_}
 use lib.ListN.{length, getD, set, drop, length-set}
 use lib.Seq.{getD-set-same, getD-set-other, drop-set-lt}
-use lib.Ieee.{Float, binary32, ofBits, toBits}
+use lib.Ieee.{binary32, add}
 use borrow.Author.Tests.{eq-eqb, ne-eqb}
 use Rattle.tropical_weight.specs.Limits.{unit, weightLimit, nodeLimit, sumLimit}
 use Rattle.tropical_weight.specs.Tropical.{Tropical, fin, inf, eqT, _⊗_, Within}
 use Rattle.tropical_weight.specs.Grid.{ofT}
-use Rattle.tropical_weight.proofs.Exact.{covered, times-ofT, ofT-injective, bits-back}
-use Rattle.tropical_weight.proofs.Semiring.{isFinite, not-finite, eqT-eq, eq-eqT}
+use Rattle.tropical_weight.proofs.Exact.{covered, times-ofT}
 use Rattle.tropical_weight.proofs.Sums.{within-mono, limits}
 use Rattle.sheet.specs.Below.{sumBelow}
-use Rattle.sheet.specs.Machine.{Machine, bitsOf}
+use Rattle.sheet.specs.Machine.{Machine}
 use Rattle.sheet.specs.Records.{linkAt, countAt, firstLink}
 use Rattle.sheet.proofs.Below.{split-at}
 use Rattle.sheet.proofs.Apart.{not-both}
 use Rattle.machine.specs.Readings.{link}
-use Rattle.machine.specs.Distance.{dist, via}
+use Rattle.machine.specs.Distance.{distanceOf, dist, distance, via}
 use Rattle.machine.specs.Parents.{lowest, attains, parent}
 use Rattle.machine.proofs.SheetFields.{SheetFields, next-first, first-in}
+use Rattle.machine.proofs.Named.{weight-of}
 use Rattle.machine.proofs.Parents.{Lowest, lowest-is}
+use Rattle.machine.proofs.Fold.{attains-inf}
 use Rattle.machine.proofs.Relax.{relax-is}
 use Rattle.machine.proofs.Bounds.{dist-limit, step-within}
-use Rattle.slots.specs.Slots.{infinite, nothing}
-use Rattle.shortest_distance.specs.NodeSlots.{distanceWord}
-use Rattle.shortest_distance.proofs.Offers.{bits-finite}
+use Rattle.slots.specs.Slots.{nothing}
+use Rattle.distance.specs.declared.Distance.{Distance}
+use Rattle.distance.specs.Held.{held, attainedBy}
+use Rattle.distance.proofs.Words.{same-words}
+use Rattle.distance.proofs.Offers.{attained-is}
+use Rattle.shortest_distance.specs.NodeSlots.{distanceAt}
 use Rattle.single_path.specs.declared.single.Parent.{Parent}
 use Rattle.single_path.specs.declared.single.Parent.the-variants.{None, By}
-use Rattle.single_path.specs.SingleWords.{parentIn, parentAt, parentStored, orphaned, attainsBits, parentLink, parentLinks, parentNode, parentNodes}
+use Rattle.single_path.specs.SingleWords.{parentIn, parentAt, parentStored, orphaned, parentLink, parentLinks, parentBy, parentNode, parentNodes}
 use Rattle.single_path.proofs.ParentTurns.{length-stored, length-orphaned}
 
--- ---- equal bits are equal values
-pub bits-equal : (a b : Tropical) → Within sumLimit a → Within sumLimit b → eqb (bitsOf a) (bitsOf b) ≡ eqT a b
-bits-equal a b ha hb = go (eqT a b) refl
-  where
-    go : (t : Bool) → eqT a b ≡ t → eqb (bitsOf a) (bitsOf b) ≡ t
-    go true e = eq-eqb (bitsOf a) (bitsOf b) (ap bitsOf (eqT-eq a b e))
-    go false e = ne-eqb (bitsOf a) (bitsOf b) (λ q. not-both (eq-eqT a b (ofT-injective unit covered a b ha hb (sym (bits-back unit covered a) ∙ ap (ofBits binary32) q ∙ bits-back unit covered b))) e)
-
-attains-bits : (x d w : Tropical) → Within sumLimit x → Within sumLimit d → Within sumLimit w → Within sumLimit (d ⊗ w)
-    → attainsBits (bitsOf x) (ofT unit d) (ofT unit w) ≡ eqT (d ⊗ w) x
-attains-bits x d w hx hd hw hdw = ap (λ (y : Float). eqb (toBits binary32 y) (bitsOf x)) (times-ofT unit covered d w hd hw) ∙ bits-equal (d ⊗ w) x hdw hx
-
--- a finite value is attained where it is equal, an infinite one never
-attains-finite : (a b : Tropical) (k : ℤ) → b ≡ fin k → attains a b ≡ eqT b a
-attains-finite (fin a) b k e = refl
-attains-finite inf b k e = sym (ap (λ (x : Tropical). eqT x inf) e)
-
-attains-infinite : (a b : Tropical) → b ≡ inf → attains a b ≡ false
-attains-infinite (fin a) b e = ap (λ (x : Tropical). eqT x (fin a)) e
-attains-infinite inf b e = refl
-
-sum-finite : (d w : Tropical) (k : ℤ) → isFinite d ≡ true → w ≡ fin k → (j : ℤ) × (d ⊗ w ≡ fin j)
-sum-finite (fin a) w k e q = (a +ℤ k, ap (λ (x : Tropical). fin a ⊗ x) q)
-sum-finite inf w k e q = absurd (not-both e refl)
+-- ---- attaining
+-- the offer d ⊗ w in single precision attains the value that is held where it attains it in the definition
+offer-attains : (x d w : Tropical) → Within sumLimit x → Within sumLimit d → Within sumLimit w → Within sumLimit (d ⊗ w)
+    → attainedBy (held (distanceOf x)) (add binary32 (ofT unit d) (ofT unit w)) ≡ attains x (d ⊗ w)
+offer-attains x d w hx hd hw hdw =
+    ap (attainedBy (held (distanceOf x))) (times-ofT unit covered d w hd hw)
+    ∙ attained-is (distanceOf x) (d ⊗ w) (subst (Within sumLimit) (sym (weight-of x)) hx) hdw
+    ∙ ap (λ (y : Tropical). attains y (d ⊗ w)) (weight-of x)
 
 -- ---- the lowest number that passes is the only one that is as `Lowest` says
 pub lowest-only : (n : ℕ) (p : ℕ → Bool) (o : Option ℕ) → Lowest n p o → lowest n p ≡ o
@@ -98,9 +85,9 @@ module _ (m : Machine) where
   From l v (some j) = (l ≤ j) × (j < length (m .links)) × (enters v j ≡ true) × ((k : ℕ) → l ≤ k → k < j → enters v k ≡ false)
 
   -- the parent by a link, or none
-  abbrev pub parentBy : Option ℕ → Parent
-  parentBy none = None
-  parentBy (some l) = By l (link m l .source)
+  abbrev pub parentFrom : Option ℕ → Parent
+  parentFrom none = None
+  parentFrom (some l) = By l (link m l .source)
 
   -- one that does not attain changes nothing
   from-down : (l v : ℕ) (o : Option ℕ) → enters v l ≡ false → From (suc l) v o → From l v o
@@ -133,8 +120,8 @@ module _ (bytes : List ℕ) (m : Machine) (f : SheetFields bytes (length (m .lin
 
   -- The slots hold the distances, and the parents among the links from l on; beyond them the area is as it was.
   pub record Held (l : ℕ) (work : List ℕ) : Type 0 where
-    pub distances : (v : ℕ) → v < length (m .finals) → distanceWord work v ≡ bitsOf (dist m v)
-    pub parents : (v : ℕ) → v < length (m .finals) → (o : Option ℕ) × From m l v o × (parentAt work v ≡ parentBy m o)
+    pub distances : (v : ℕ) → v < length (m .finals) → distanceAt work v ≡ held (distance m v)
+    pub parents : (v : ℕ) → v < length (m .finals) → (o : Option ℕ) × From m l v o × (parentAt work v ≡ parentFrom m o)
     pub room : 8 * length (m .finals) ≤ length work
     pub size : length work ≡ length old
     pub beyond : drop (8 * length (m .finals)) work ≡ drop (8 * length (m .finals)) old
@@ -157,12 +144,12 @@ module _ (bytes : List ℕ) (m : Machine) (f : SheetFields bytes (length (m .lin
     via-is = ap (λ (k : ℕ). dist m k ⊗ link m l .weight) source
 
     -- an unreached source attains nothing
-    not-entered : (v : ℕ) → isFinite (dist m u) ≡ false → enters m v l ≡ false
+    not-entered : (v : ℕ) → dist m u ≡ inf → enters m v l ≡ false
     not-entered v e =
-        ap (λ (b : Bool). eqb (link m l .next) v && b) (attains-infinite (dist m v) (via m l) (via-is ∙ ap (λ (d : Tropical). d ⊗ link m l .weight) (not-finite (dist m u) e)))
+        ap (λ (b : Bool). eqb (link m l .next) v && b) (ap (attains (dist m v)) (via-is ∙ ap (λ (d : Tropical). d ⊗ link m l .weight) e) ∙ attains-inf (dist m v))
         ∙ and-false (eqb (link m l .next) v)
 
-    skip-link : isFinite (dist m u) ≡ false → (work : List ℕ) → Held (suc l) work → Held l work
+    skip-link : dist m u ≡ inf → (work : List ℕ) → Held (suc l) work → Held l work
     skip-link e work h = record {
       distances = h .distances;
       parents = λ v b. let x = h .parents v b in (x .0, from-down m l v (x .0) (not-entered v e) (x .1), x .2);
@@ -171,19 +158,17 @@ module _ (bytes : List ℕ) (m : Machine) (f : SheetFields bytes (length (m .lin
       beyond = h .beyond;
     }
 
-    module _ (reach : isFinite (dist m u) ≡ true) (work : List ℕ) (h : Held (suc l) work) where
+    module _ (work : List ℕ) (h : Held (suc l) work) where
       abbrev test : Bool
-      test = attainsBits (distanceWord work (linkAt bytes l .nextstate)) (ofT unit (dist m u)) (linkAt bytes l .weight)
+      test = attainedBy (distanceAt work (linkAt bytes l .nextstate)) (add binary32 (ofT unit (dist m u)) (linkAt bytes l .weight))
 
       test-is : test ≡ enters m nx l
       test-is =
-          let word : distanceWord work (linkAt bytes l .nextstate) ≡ bitsOf (dist m nx) = ap (distanceWord work) (f .next-at l in-links) ∙ h .distances nx nx-in in
+          let there : distanceAt work (linkAt bytes l .nextstate) ≡ held (distance m nx) = ap (distanceAt work) (f .next-at l in-links) ∙ h .distances nx nx-in in
           let wide : Within sumLimit (link m l .weight) = within-mono weightLimit sumLimit (link m l .weight) (let z : weightLimit ≤ sumLimit = omega arith in z) (f .small .onLink l in-links) in
-          let total = sum-finite (dist m u) (link m l .weight) (f .finite .onLink l in-links .0) reach (f .finite .onLink l in-links .1) in
-          (λ i. attainsBits (word i) (ofT unit (dist m u)) (f .link-value l in-links i))
-          ∙ attains-bits (dist m nx) (dist m u) (link m l .weight) (distance-limit nx nx-in) (distance-limit u hu) wide (via-limit u l hu in-links)
-          ∙ ap (λ (x : Tropical). eqT x (dist m nx)) (sym via-is)
-          ∙ sym (attains-finite (dist m nx) (via m l) (total .0) (via-is ∙ total .1))
+          (λ i. attainedBy (there i) (add binary32 (ofT unit (dist m u)) (f .link-value l in-links i)))
+          ∙ offer-attains (dist m nx) (dist m u) (link m l .weight) (distance-limit nx nx-in) (distance-limit u hu) wide (via-limit u l hu in-links)
+          ∙ ap (attains (dist m nx)) (sym via-is)
           ∙ sym (ap (λ (b : Bool). b && attains (dist m nx) (via m l)) (eq-eqb nx nx refl))
 
       -- the area by the test
@@ -205,14 +190,14 @@ module _ (bytes : List ℕ) (m : Machine) (f : SheetFields bytes (length (m .lin
       beyond-kept false = refl
 
       -- at the next node
-      at-next : (b : Bool) → enters m nx l ≡ b → (o : Option ℕ) × From m l nx o × (parentAt (stored b) nx ≡ parentBy m o)
+      at-next : (b : Bool) → enters m nx l ≡ b → (o : Option ℕ) × From m l nx o × (parentAt (stored b) nx ≡ parentFrom m o)
       at-next true e =
           let few : l < nothing = omega (arith, in-links, f .few-links) in
           (some l, (omega arith, in-links, e, λ k a b. absurd (omega arith)), stored-same work nx l u few (omega (arith, h .room, nx-in)) ∙ ap (By l) (sym source))
       at-next false e = let x = h .parents nx nx-in in (x .0, from-down m l nx (x .0) e (x .1), x .2)
 
       -- at another
-      at-other : (b : Bool) (v : ℕ) → v < length (m .finals) → (v ≡ nx → ⊥) → (o : Option ℕ) × From m l v o × (parentAt (stored b) v ≡ parentBy m o)
+      at-other : (b : Bool) (v : ℕ) → v < length (m .finals) → (v ≡ nx → ⊥) → (o : Option ℕ) × From m l v o × (parentAt (stored b) v ≡ parentFrom m o)
       at-other b v k n =
           let x = h .parents v k in
           let away : enters m v l ≡ false = ap (λ (t : Bool). t && attains (dist m v) (via m l)) (ne-eqb nx v (λ q. n (sym q))) in
@@ -222,9 +207,11 @@ module _ (bytes : List ℕ) (m : Machine) (f : SheetFields bytes (length (m .lin
 
       held-by : (b : Bool) → enters m nx l ≡ b → Held l (stored b)
       held-by b e = record {
-        distances = λ v k. word-kept b (8 * v) (λ q. omega arith) (λ q. omega arith) ∙ h .distances v k;
+        distances = λ v k.
+            same-words (stored b) work (8 * v) (8 * v) (word-kept b (8 * v) (λ q. omega arith) (λ q. omega arith)) (word-kept b (8 * v + 1) (λ q. omega arith) (λ q. omega arith))
+            ∙ h .distances v k;
         parents = λ v k. elim (ℕ-discrete v nx) [
-          | yes q ↦ subst (λ (x : ℕ). (o : Option ℕ) × From m l x o × (parentAt (stored b) x ≡ parentBy m o)) (sym q) (at-next b e)
+          | yes q ↦ subst (λ (x : ℕ). (o : Option ℕ) × From m l x o × (parentAt (stored b) x ≡ parentFrom m o)) (sym q) (at-next b e)
           | no q ↦ at-other b v k q
         ];
         room = subst (λ (n : ℕ). 8 * length (m .finals) ≤ n) (sym (size-kept b)) (h .room);
@@ -237,36 +224,30 @@ module _ (bytes : List ℕ) (m : Machine) (f : SheetFields bytes (length (m .lin
           subst (Held l) (λ i. cond (sym test-is i) (parentStored work (sym (f .next-at l in-links) i) (By l u)) work) (held-by (enters m nx l) refl)
 
   -- ---- the links of node u, so many of them
-  skip-links : (u : ℕ) → u < length (m .finals) → isFinite (dist m u) ≡ false → (n : ℕ) → n ≤ countAt bytes links u → (work : List ℕ) → Held (first u + n) work → Held (first u) work
+  skip-links : (u : ℕ) → u < length (m .finals) → dist m u ≡ inf → (n : ℕ) → n ≤ countAt bytes links u → (work : List ℕ) → Held (first u + n) work → Held (first u) work
   skip-links u hu e zero k work h = subst (λ (l : ℕ). Held l work) (add-zero (first u)) h
   skip-links u hu e (suc n) k work h =
       let at : first u + suc n ≡ suc (first u + n) = omega arith in
       skip-links u hu e n (omega arith) work (skip-link u (first u + n) hu (omega arith) (omega (arith, next-first bytes links u)) e work (subst (λ (l : ℕ). Held l work) at h))
 
-  take-links : (u : ℕ) → u < length (m .finals) → isFinite (dist m u) ≡ true → (n : ℕ) → n ≤ countAt bytes links u → (work : List ℕ) → Held (first u + n) work → Held (first u) (parentLinks bytes (first u) u (ofT unit (dist m u)) n work)
+  take-links : (u : ℕ) → u < length (m .finals) → (n : ℕ) → n ≤ countAt bytes links u → (work : List ℕ) → Held (first u + n) work → Held (first u) (parentLinks bytes (first u) u (ofT unit (dist m u)) n work)
   unfolding parentLinks
-  take-links u hu e zero k work h = subst (λ (l : ℕ). Held l work) (add-zero (first u)) h
-  take-links u hu e (suc n) k work h =
+  take-links u hu zero k work h = subst (λ (l : ℕ). Held l work) (add-zero (first u)) h
+  take-links u hu (suc n) k work h =
       let at : first u + suc n ≡ suc (first u + n) = omega arith in
-      take-links u hu e n (omega arith) (parentLink (linkAt bytes (first u + n)) (first u + n) u (ofT unit (dist m u)) work)
-      (take-link u (first u + n) hu (omega arith) (omega (arith, next-first bytes links u)) e work (subst (λ (l : ℕ). Held l work) at h))
+      take-links u hu n (omega arith) (parentLink (linkAt bytes (first u + n)) (first u + n) u (ofT unit (dist m u)) work)
+      (take-link u (first u + n) hu (omega arith) (omega (arith, next-first bytes links u)) work (subst (λ (l : ℕ). Held l work) at h))
 
   -- ---- a node, and all of them
   node-step : (u : ℕ) → u < length (m .finals) → (work : List ℕ) → Held (first (suc u)) work → Held (first u) (parentNode bytes (first u) (countAt bytes links u) u work)
-  node-step u hu work h = subst (λ (b : Bool). Held (first u) (cond b work (parentLinks bytes (first u) u (ofBits binary32 (distanceWord work u)) (countAt bytes links u) work))) (sym by-bits) (go (isFinite (dist m u)) refl)
+  node-step u hu work h = subst (λ (d : Distance). Held (first u) (parentBy d bytes (first u) (countAt bytes links u) u work)) (sym (h .distances u hu)) (go (dist m u) refl)
     where
-      by-bits : eqb (distanceWord work u) infinite ≡ not (isFinite (dist m u))
-      by-bits = ap (λ (x : ℕ). eqb x infinite) (h .distances u hu) ∙ bits-finite (dist m u) (distance-limit u hu)
+      whole : Held (first u + countAt bytes links u) work
+      whole = subst (λ (l : ℕ). Held l work) (next-first bytes links u) h
 
-      distance : ofBits binary32 (distanceWord work u) ≡ ofT unit (dist m u)
-      distance = ap (ofBits binary32) (h .distances u hu) ∙ bits-back unit covered (dist m u)
-
-      held : Held (first u + countAt bytes links u) work
-      held = subst (λ (l : ℕ). Held l work) (next-first bytes links u) h
-
-      go : (b : Bool) → isFinite (dist m u) ≡ b → Held (first u) (cond (not b) work (parentLinks bytes (first u) u (ofBits binary32 (distanceWord work u)) (countAt bytes links u) work))
-      go true e = subst (λ (d : Float). Held (first u) (parentLinks bytes (first u) u d (countAt bytes links u) work)) (sym distance) (take-links u hu e (countAt bytes links u) (omega arith) work held)
-      go false e = skip-links u hu e (countAt bytes links u) (omega arith) work held
+      go : (x : Tropical) → dist m u ≡ x → Held (first u) (parentBy (held (distanceOf x)) bytes (first u) (countAt bytes links u) u work)
+      go (fin k) e = subst (λ (x : Tropical). Held (first u) (parentLinks bytes (first u) u (ofT unit x) (countAt bytes links u) work)) e (take-links u hu (countAt bytes links u) (omega arith) work whole)
+      go inf e = skip-links u hu e (countAt bytes links u) (omega arith) work whole
 
   nodes-step : (n : ℕ) → n ≤ length (m .finals) → (work : List ℕ) → Held (first n) work → Held 0 (parentNodes bytes links n work)
   unfolding parentNodes
@@ -274,7 +255,7 @@ module _ (bytes : List ℕ) (m : Machine) (f : SheetFields bytes (length (m .lin
   nodes-step (suc v) k work h = nodes-step v (omega arith) (parentNode bytes (first v) (countAt bytes links v) v work) (node-step v k work h)
 
   -- ---- before the last link: no parents
-  module _ (work : List ℕ) (distances : (v : ℕ) → v < length (m .finals) → distanceWord work v ≡ bitsOf (dist m v)) (room : 8 * length (m .finals) ≤ length work) (size : length work ≡ length old) (beyond : drop (8 * length (m .finals)) work ≡ drop (8 * length (m .finals)) old) where
+  module _ (work : List ℕ) (distances : (v : ℕ) → v < length (m .finals) → distanceAt work v ≡ held (distance m v)) (room : 8 * length (m .finals) ≤ length work) (size : length work ≡ length old) (beyond : drop (8 * length (m .finals)) work ≡ drop (8 * length (m .finals)) old) where
     orphaned-kept : (n i : ℕ) → ((v : ℕ) → v < n → i ≡ 8 * v + 2 → ⊥) → getD (orphaned n work) i 0 ≡ getD work i 0
     unfolding orphaned
     orphaned-kept zero i h = refl
@@ -300,7 +281,10 @@ module _ (bytes : List ℕ) (m : Machine) (f : SheetFields bytes (length (m .lin
 
     pub none-held : Held (length (m .links)) (orphaned (length (m .finals)) work)
     none-held = record {
-      distances = λ v k. orphaned-kept (length (m .finals)) (8 * v) (λ u b q. omega arith) ∙ distances v k;
+      distances = λ v k.
+          same-words (orphaned (length (m .finals)) work) work (8 * v) (8 * v)
+          (orphaned-kept (length (m .finals)) (8 * v) (λ u b q. omega arith)) (orphaned-kept (length (m .finals)) (8 * v + 1) (λ u b q. omega arith))
+          ∙ distances v k;
       parents = λ v k. (none, (λ l a b. absurd (omega arith)), orphaned-parent v k);
       room = subst (λ (n : ℕ). 8 * length (m .finals) ≤ n) (sym (length-orphaned (length (m .finals)) work)) room;
       size = length-orphaned (length (m .finals)) work ∙ size;
@@ -312,8 +296,8 @@ module _ (bytes : List ℕ) (m : Machine) (f : SheetFields bytes (length (m .lin
     all-held = nodes-step (length (m .finals)) (omega arith) (orphaned (length (m .finals)) work) (subst (λ (l : ℕ). Held l (orphaned (length (m .finals)) work)) (sym (f .counted)) none-held)
 
   -- ---- the parents once all links are through
-  pub parents-are : (work : List ℕ) → Held 0 work → (v : ℕ) → v < length (m .finals) → parentAt work v ≡ parentBy m (parent m v)
+  pub parents-are : (work : List ℕ) → Held 0 work → (v : ℕ) → v < length (m .finals) → parentAt work v ≡ parentFrom m (parent m v)
   unfolding parent
   parents-are work h v k =
       let x = h .parents v k in
-      x .2 ∙ ap (parentBy m) (sym (lowest-only (length (m .links)) (enters m v) (x .0) (from-lowest m v (x .0) (x .1))))
+      x .2 ∙ ap (parentFrom m) (sym (lowest-only (length (m .links)) (enters m v) (x .0) (from-lowest m v (x .0) (x .1))))

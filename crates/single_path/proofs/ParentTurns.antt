@@ -5,17 +5,18 @@ use mathlib.Core.List.{List}
 use Prim.Native.Nat.{ℕ, zero, suc, _+_, _-_, _<_}
 use native.Mathlib.Numerals.{add-one}
 use native.Mathlib.Omega.{arith}
-use lib.Dec.{eqb}
 use lib.ListN.{length, length-set}
-use lib.Ieee.{Float, binary32, ofBits}
+use lib.Ieee.{Float, binary32, add}
 use Rattle.sheet.specs.Below.{sumBelow}
 use Rattle.sheet.specs.declared.tr.Link.{Link}
 use Rattle.sheet.specs.Records.{linkAt, countAt, firstLink}
-use Rattle.slots.specs.Slots.{infinite}
-use Rattle.shortest_distance.specs.NodeSlots.{distanceWord}
+use Rattle.distance.specs.declared.Distance.{Distance}
+use Rattle.distance.specs.declared.Distance.the-variants.{Reached, Unreached}
+use Rattle.distance.specs.Held.{attainedBy}
+use Rattle.shortest_distance.specs.NodeSlots.{distanceAt}
 use Rattle.single_path.specs.declared.single.Parent.{Parent}
 use Rattle.single_path.specs.declared.single.Parent.the-variants.{None, By}
-use Rattle.single_path.specs.SingleWords.{parentStored, orphaned, attainsBits, parentLink, parentLinks, parentNode, parentNodes}
+use Rattle.single_path.specs.SingleWords.{parentStored, orphaned, parentLink, parentLinks, parentBy, parentNode, parentNodes}
 
 pub length-stored : (work : List ℕ) (v : ℕ) (p : Parent) → length (parentStored work v p) ≡ length work
 length-stored work v None = simp length-set
@@ -31,16 +32,16 @@ pub orphaned-next : (v : ℕ) (work : List ℕ) → orphaned (v + 1) work ≡ pa
 unfolding orphaned
 orphaned-next v work = ap (λ (k : ℕ). orphaned k work) (add-one v)
 
--- ---- a link, by its test
-module _ (k : Link) (l v : ℕ) (distance : Float) (work : List ℕ) where
-  abbrev test : Bool
-  test = attainsBits (distanceWord work (k .nextstate)) distance (k .weight)
+-- ---- a link, by what the calls answer: its next node's distance, its offer, and whether this attains that
+module _ (k : Link) (l v : ℕ) (distance : Float) (work : List ℕ) (next : Distance) (read : next ≡ distanceAt work (k .nextstate)) (offer : Float) (made : offer ≡ add binary32 distance (k .weight)) (test : Bool) (tested : test ≡ attainedBy next offer) where
+  by-test : cond test (parentStored work (k .nextstate) (By l v)) work ≡ parentLink k l v distance work
+  by-test = ap (λ (b : Bool). cond b (parentStored work (k .nextstate) (By l v)) work) (tested ∙ λ i. attainedBy (read i) (made i))
 
   pub link-left : test ≡ false → work ≡ parentLink k l v distance work
-  link-left e = sym (ap (λ (b : Bool). cond b (parentStored work (k .nextstate) (By l v)) work) e)
+  link-left e = sym (ap (λ (b : Bool). cond b (parentStored work (k .nextstate) (By l v)) work) e) ∙ by-test
 
   pub link-taken : test ≡ true → parentStored work (k .nextstate) (By l v) ≡ parentLink k l v distance work
-  link-taken e = sym (ap (λ (b : Bool). cond b (parentStored work (k .nextstate) (By l v)) work) e)
+  link-taken e = sym (ap (λ (b : Bool). cond b (parentStored work (k .nextstate) (By l v)) work) e) ∙ by-test
 
 -- ---- the links of a node
 module _ (bytes : List ℕ) (first v : ℕ) (distance : Float) where
@@ -58,13 +59,16 @@ module _ (bytes : List ℕ) (first v : ℕ) (distance : Float) where
   unfolding parentLinks
   links-end i work e = ap (λ (k : ℕ). parentLinks bytes first v distance k work) e
 
--- a node, by whether it is reached
-module _ (bytes : List ℕ) (first count v : ℕ) (work : List ℕ) where
-  pub node-left : eqb (distanceWord work v) infinite ≡ true → work ≡ parentNode bytes first count v work
-  node-left e = sym (ap (λ (b : Bool). cond b work (parentLinks bytes first v (ofBits binary32 (distanceWord work v)) count work)) e)
+-- a node, by the distance that is read
+module _ (bytes : List ℕ) (first count v : ℕ) (work : List ℕ) (d : Distance) (read : d ≡ distanceAt work v) where
+  by-distance : parentBy d bytes first count v work ≡ parentNode bytes first count v work
+  by-distance = ap (λ (x : Distance). parentBy x bytes first count v work) read
 
-  pub node-taken : eqb (distanceWord work v) infinite ≡ false → parentLinks bytes first v (ofBits binary32 (distanceWord work v)) count work ≡ parentNode bytes first count v work
-  node-taken e = sym (ap (λ (b : Bool). cond b work (parentLinks bytes first v (ofBits binary32 (distanceWord work v)) count work)) e)
+  pub node-left : d ≡ Unreached → work ≡ parentNode bytes first count v work
+  node-left e = sym (ap (λ (x : Distance). parentBy x bytes first count v work) e) ∙ by-distance
+
+  pub node-taken : (cost : Float) → d ≡ Reached cost → parentLinks bytes first v cost count work ≡ parentNode bytes first count v work
+  node-taken cost e = sym (ap (λ (x : Distance). parentBy x bytes first count v work) e) ∙ by-distance
 
 -- ---- the nodes
 module _ (bytes : List ℕ) (links : ℕ) where

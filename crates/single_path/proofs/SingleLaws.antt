@@ -30,7 +30,7 @@ use Rattle.list_answer.specs.ListAnswer.{listedBy, listedIn, listedOver}
 use Rattle.single_path.specs.declared.single.End.{End}
 use Rattle.single_path.specs.declared.single.End.the-variants.{None, At}
 use Rattle.single_path.specs.SingleWords.{parentAt, orphaned, parentNodes, bestBelow, Traced, wayBack, wayWords, wayListed}
-use Rattle.single_path.proofs.ParentLaws.{parentBy, Held, all-held, parents-are}
+use Rattle.single_path.proofs.ParentLaws.{parentFrom, Held, all-held, parents-are}
 use Rattle.single_path.proofs.EndLaws.{endAt, end-is}
 use Rattle.single_path.proofs.WayLaws.{way-is, traced-from}
 use Rattle.single_path.proofs.WayBytes.{length-wayWords, links-count, nodes-count, way-bytes, listed-as}
@@ -108,7 +108,7 @@ module _ (bytes old made : List ℕ) (accepted : inputNumber bytes ≡ 0) (slots
       (distances-made .size)
       (subst (λ (n : ℕ). drop (8 * n) made ≡ drop (8 * n) old) (sym (machine-nodes (partsOf bytes))) (distances-made .beyond))
 
-  parents : (v : ℕ) → v < nodes → parentAt area v ≡ parentBy m (parent m v)
+  parents : (v : ℕ) → v < nodes → parentAt area v ≡ parentFrom m (parent m v)
   parents = parents-are bytes m f old area held
 
   end-same : endOf bytes made links nodes ≡ endAt (bestEnd m)

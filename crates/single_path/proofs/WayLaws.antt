@@ -22,7 +22,7 @@ use Rattle.machine.proofs.Runs.{at-some}
 use Rattle.single_path.specs.declared.single.Parent.{Parent}
 use Rattle.single_path.specs.declared.single.Parent.the-variants.{By}
 use Rattle.single_path.specs.SingleWords.{parentAt, onFrom, wayBack, Traced}
-use Rattle.single_path.proofs.ParentLaws.{parentBy, parent-in}
+use Rattle.single_path.proofs.ParentLaws.{parentFrom, parent-in}
 
 module _ (m : Machine) (c : Climbs m) where
   -- a parent leads up to its node
@@ -46,7 +46,7 @@ module _ (m : Machine) (c : Climbs m) where
       some-units (fin k) e = (k, refl)
       some-units inf e = absurd (not-both e refl)
 
-  module _ (work : List ℕ) (parents : (v : ℕ) → v < length (m .finals) → parentAt work v ≡ parentBy m (parent m v)) where
+  module _ (work : List ℕ) (parents : (v : ℕ) → v < length (m .finals) → parentAt work v ≡ parentFrom m (parent m v)) where
     -- ---- following the slots is following the parents
     pub way-is : (f v : ℕ) → v < length (m .finals) → wayBack work f v ≡ reverse (follow m f v)
     unfolding wayBack follow
@@ -54,7 +54,7 @@ module _ (m : Machine) (c : Climbs m) where
     way-is (suc f) v h = ap (λ (p : Parent). onFrom p (wayBack work f)) (parents v h) ∙ go (parent m v) refl (isAt (m .start) v) refl (λ u k. way-is f u k)
       where
         go : (o : Option ℕ) → parent m v ≡ o → (b : Bool) → isAt (m .start) v ≡ b → ((u : ℕ) → u < length (m .finals) → wayBack work f u ≡ reverse (follow m f u))
-            → onFrom (parentBy m o) (wayBack work f) ≡ reverse (cond b [] (stepBack m o (follow m f)))
+            → onFrom (parentFrom m o) (wayBack work f) ≡ reverse (cond b [] (stepBack m o (follow m f)))
         go none e true s ih = refl
         go none e false s ih = refl
         go (some l) e true s ih = absurd (start-none v l (at-some (m .start) v s) e)
@@ -72,7 +72,7 @@ module _ (m : Machine) (c : Climbs m) where
         by-link : (v l u : ℕ) → v < length (m .finals) → parentAt work v ≡ By l u → (u < v) × (16 * l + 16 ≤ length bytes)
         by-link v l u b e = go (parent m v) refl (sym (parents v b) ∙ e)
           where
-            go : (o : Option ℕ) → parent m v ≡ o → parentBy m o ≡ By l u → (u < v) × (16 * l + 16 ≤ length bytes)
+            go : (o : Option ℕ) → parent m v ≡ o → parentFrom m o ≡ By l u → (u < v) × (16 * l + 16 ≤ length bytes)
             go none q w = let z : _≡_ {A = ℕ} 0 1 = cc in absurd (omega arith)
             go (some k) q w =
                 let p = parent-up v k q in

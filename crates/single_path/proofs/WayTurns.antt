@@ -8,7 +8,8 @@ use native.Mathlib.Omega.{arith}
 use lib.Dec.{eqb}
 use lib.Ieee.{binary32, add, lt, ofBits}
 use lib.Ieee as Ieee
-use Rattle.shortest_distance.specs.NodeSlots.{distanceWord}
+use Rattle.distance.specs.Held.{weightIn}
+use Rattle.shortest_distance.specs.NodeSlots.{distanceAt}
 use Rattle.sheet.specs.Records.{markAt, finalAt}
 use Rattle.single_path.specs.declared.single.Parent.{Parent}
 use Rattle.single_path.specs.declared.single.Parent.the-variants.{None, By}
@@ -18,10 +19,10 @@ use Rattle.single_path.specs.SingleWords.{parentAt, totalValue, Best, be
 -- ---- the best end
 module _ (bytes : List ℕ) (links : ℕ) (work : List ℕ) where
   pub total-none : (v : ℕ) → eqb (markAt bytes links v) 1 ≡ false → Ieee.inf false ≡ totalValue bytes links work v
-  total-none v e = sym (ap (λ (b : Bool). cond b (add binary32 (ofBits binary32 (distanceWord work v)) (ofBits binary32 (finalAt bytes links v))) (Ieee.inf false)) e)
+  total-none v e = sym (ap (λ (b : Bool). cond b (add binary32 (weightIn (distanceAt work v)) (ofBits binary32 (finalAt bytes links v))) (Ieee.inf false)) e)
 
-  pub total-some : (v : ℕ) → eqb (markAt bytes links v) 1 ≡ true → add binary32 (ofBits binary32 (distanceWord work v)) (ofBits binary32 (finalAt bytes links v)) ≡ totalValue bytes links work v
-  total-some v e = sym (ap (λ (b : Bool). cond b (add binary32 (ofBits binary32 (distanceWord work v)) (ofBits binary32 (finalAt bytes links v))) (Ieee.inf false)) e)
+  pub total-some : (v : ℕ) → eqb (markAt bytes links v) 1 ≡ true → add binary32 (weightIn (distanceAt work v)) (ofBits binary32 (finalAt bytes links v)) ≡ totalValue bytes links work v
+  total-some v e = sym (ap (λ (b : Bool). cond b (add binary32 (weightIn (distanceAt work v)) (ofBits binary32 (finalAt bytes links v))) (Ieee.inf false)) e)
 
   -- one node more, by the test
   abbrev pub next : ℕ → Bool → Best

@@ -6,14 +6,17 @@ use mathlib.Core.List.{List, [], _∷_, _++_}
 use Prim.Native.Nat.{ℕ, zero, suc, _+_, _*_, _≤_, _<_}
 use lib.Dec.{eqb, ltb}
 use lib.ListN.{length, getD, set}
-use lib.Ieee.{Float, binary32, add, lt, ofBits, toBits}
+use lib.Ieee.{Float, binary32, add, lt, ofBits}
 use lib.Ieee as Ieee
 use Rattle.sheet.specs.Below.{sumBelow}
 use Rattle.sheet.specs.Words.{word}
 use Rattle.sheet.specs.declared.tr.Link.{Link}
 use Rattle.sheet.specs.Records.{linkAt, countAt, markAt, finalAt, firstLink}
-use Rattle.slots.specs.Slots.{infinite, nothing}
-use Rattle.shortest_distance.specs.NodeSlots.{distanceWord}
+use Rattle.slots.specs.Slots.{nothing}
+use Rattle.distance.specs.declared.Distance.{Distance}
+use Rattle.distance.specs.declared.Distance.the-variants.{Reached, Unreached}
+use Rattle.distance.specs.Held.{weightIn, attainedBy}
+use Rattle.shortest_distance.specs.NodeSlots.{distanceAt}
 use Rattle.list_answer.specs.declared.Listed.{Listed}
 use Rattle.single_path.specs.declared.single.Parent.{Parent}
 use Rattle.single_path.specs.declared.single.Parent.the-variants.{None, By}
@@ -40,14 +43,10 @@ unfoldable pub orphaned : ℕ → List ℕ → List ℕ
 orphaned zero work = work
 orphaned (suc v) work = parentStored (orphaned v work) v None
 
--- whether a link from a node at this distance attains the distance whose bits are these
-abbrev pub attainsBits : ℕ → Float → Float → Bool
-attainsBits bits distance weight = eqb (toBits binary32 (add binary32 distance weight)) bits
-
--- link number l of node v made the parent of its next node, where it attains that node's distance
+-- link number l of node v, which is at a distance, made the parent of its next node, where that is reached just by its offer
 abbrev pub parentLink : Link → ℕ → ℕ → Float → List ℕ → List ℕ
 parentLink k l v distance work =
-    cond (attainsBits (distanceWord work (k .nextstate)) distance (k .weight)) (parentStored work (k .nextstate) (By l v)) work
+    cond (attainedBy (distanceAt work (k .nextstate)) (add binary32 distance (k .weight))) (parentStored work (k .nextstate) (By l v)) work
 
 -- n links of node v from a number on, the last first
 unfoldable pub parentLinks : List ℕ → ℕ → ℕ → Float → ℕ → List ℕ → List ℕ
@@ -55,8 +54,12 @@ parentLinks bytes first v distance zero work = work
 parentLinks bytes first v distance (suc i) work = parentLinks bytes first v distance i (parentLink (linkAt bytes (first + i)) (first + i) v distance work)
 
 -- so many links of node v, where it is reached
+abbrev pub parentBy : Distance → List ℕ → ℕ → ℕ → ℕ → List ℕ → List ℕ
+parentBy (Reached cost) bytes first count v work = parentLinks bytes first v cost count work
+parentBy Unreached bytes first count v work = work
+
 abbrev pub parentNode : List ℕ → ℕ → ℕ → ℕ → List ℕ → List ℕ
-parentNode bytes first count v work = cond (eqb (distanceWord work v) infinite) work (parentLinks bytes first v (ofBits binary32 (distanceWord work v)) count work)
+parentNode bytes first count v work = parentBy (distanceAt work v) bytes first count v work
 
 -- the first n nodes, the last first
 unfoldable pub parentNodes : List ℕ → ℕ → ℕ → List ℕ → List ℕ
@@ -68,7 +71,7 @@ parentNodes bytes links (suc v) work = parentNodes bytes links v (parentNode byt
 -- the total of node v, infinite where its mark is 0
 abbrev pub totalValue : List ℕ → ℕ → List ℕ → ℕ → Float
 totalValue bytes links work v =
-    cond (eqb (markAt bytes links v) 1) (add binary32 (ofBits binary32 (distanceWord work v)) (ofBits binary32 (finalAt bytes links v))) (Ieee.inf false)
+    cond (eqb (markAt bytes links v) 1) (add binary32 (weightIn (distanceAt work v)) (ofBits binary32 (finalAt bytes links v))) (Ieee.inf false)
 
 -- An end, or none, and its total.
 pub record Best : Type 0 where

@@ -1,5 +1,5 @@
 // The best reading (single_shortest_path and its backtrace in shortest_path.rs of rustfst), in a slot
-// of eight words a node: word 0 is its distance, words 2 and 3 its parent.
+// of eight words a node: words 0 and 1 are its distance, words 2 and 3 its parent.
 ghost use mathlib.Core.Path.{_≡_};
 ghost use Prim.Native.Nat.{ℕ, _+_, _*_, _≤_, _<_};
 ghost use lib.ListN.{length, drop};
@@ -12,10 +12,11 @@ ghost use Rattle.search.specs.ListMachine.{resultFor};
 ghost use Rattle.shortest_distance.specs.Handed.{handedOver};
 ghost use Rattle.sheet.specs.Machine.{machine};
 ghost use Rattle.single_path.specs.SingleWords.{parentAt, parentStored, orphaned};
-ghost use Rattle.single_path.specs.SingleWords.{parentLink, parentNode, parentNodes};
+ghost use Rattle.single_path.specs.SingleWords.{parentLink, parentLinks, parentNode, parentNodes};
 ghost use Rattle.single_path.specs.SingleWords.{totalValue, bestBelow, Falls, Traced, wayBack};
 ghost use Rattle.single_path.specs.SingleWords.{linkTo, wayLinks, wayNodes, wayFrom, wayListed};
 ghost use Rattle.list_answer.specs.ListAnswer.{listedIn, listedOver};
+use distance::Distance;
 use list_answer::Listed;
 use sheet::refusal;
 use sheet::tr::Link;
@@ -24,7 +25,6 @@ use sheet::tr::Trailer;
 use sheet::words::put_word;
 use sheet::words::put_words;
 use sheet::words::word;
-use slots::INFINITE;
 use slots::NOTHING;
 use slots::SLOT;
 
@@ -89,38 +89,44 @@ fn clear_parents(work: &mut [u32], nodes: u32)
     }
 }
 
-// Makes a link the parent of its next node where it attains that node's distance, bit by bit: sums
-// are exact.
-fn parent_link(k: Link, l: u32, v: u32, distance: f32, work: &mut [u32])
+// Makes a link the parent of its next node where that is reached just by its offer.
+fn parent_link(k: Link, l: u32, v: u32, cost: f32, work: &mut [u32])
     requires { ⌜ 8 * k .nextstate + 8 ≤ length (now work) ⌝ }
-    ensures { λ _. ⌜ now (work .exit) ≡ parentLink k l v distance (now (work .entry)) ⌝ }
+    ensures { λ _. ⌜ now (work .exit) ≡ parentLink k l v cost (now (work .entry)) ⌝ }
 {
-    let offer = tropical_weight::to_bits(tropical_weight::times(distance, k.weight));
-    if offer != work[SLOT * (k.nextstate as usize)] {
-        return;
+    let offer = tropical_weight::times(cost, k.weight);
+    let next = distance::distance_at(work, SLOT * (k.nextstate as usize));
+    if distance::attained_by(next, offer) {
+        store_parent(work, k.nextstate, Parent::By(l, v));
     }
-    store_parent(work, k.nextstate, Parent::By(l, v));
 }
 
-// The links of a node that is reached, the last first, so that the first that attains stays.
-fn parent_links(sheet: &[u8], first: u32, count: u32, v: u32, work: &mut [u32])
-    requires { ⌜ (16 * (first + count) ≤ length (now sheet)) × (8 * v < length (now work)) ⌝ }
-    requires { ⌜ first + count < 4294967296 ⌝ }
+// The links of a node that is reached at a cost, the last first, so that the first that attains stays.
+fn parent_links(sheet: &[u8], first: u32, count: u32, v: u32, cost: f32, work: &mut [u32])
+    requires { ⌜ (16 * (first + count) ≤ length (now sheet)) × (first + count < 4294967296) ⌝ }
     requires { ⌜ ((l : ℕ) → l < first + count
         → 8 * wordAt (now sheet) (16 * l + 12) + 8 ≤ length (now work)) ⌝ }
-    ensures { λ _. ⌜ now (work .exit) ≡ parentNode (now (sheet .entry)) first count v (now (work .entry)) ⌝ }
+    ensures { λ _. ⌜ now (work .exit) ≡ parentLinks (now (sheet .entry)) first v cost count (now (work .entry)) ⌝ }
 {
-    let bits = work[SLOT * (v as usize)];
-    if bits == INFINITE {
-        return;
-    }
-    let distance = tropical_weight::from_bits(bits);
     let mut i = count;
     while 0 < i {
         i -= 1;
         let l = first + i;
         let k = sheet::tr::link_at(sheet, l as usize);
-        parent_link(k, l, v, distance, work);
+        parent_link(k, l, v, cost, work);
+    }
+}
+
+// The links of a node where it is reached.
+fn parent_node(sheet: &[u8], first: u32, count: u32, v: u32, work: &mut [u32])
+    requires { ⌜ (16 * (first + count) ≤ length (now sheet)) × (8 * v + 1 < length (now work)) ⌝ }
+    requires { ⌜ first + count < 4294967296 ⌝ }
+    requires { ⌜ ((l : ℕ) → l < first + count
+        → 8 * wordAt (now sheet) (16 * l + 12) + 8 ≤ length (now work)) ⌝ }
+    ensures { λ _. ⌜ now (work .exit) ≡ parentNode (now (sheet .entry)) first count v (now (work .entry)) ⌝ }
+{
+    if let Distance::Reached(cost) = distance::distance_at(work, SLOT * (v as usize)) {
+        parent_links(sheet, first, count, v, cost, work);
     }
 }
 
@@ -138,21 +144,22 @@ fn parents(sheet: &[u8], t: Trailer, work: &mut [u32])
         v -= 1;
         let count = word(sheet, 16 * (links as usize) + 12 * (v as usize));
         l -= count;
-        parent_links(sheet, l, count, v, work);
+        parent_node(sheet, l, count, v, work);
     }
 }
 
 // The total of a node, its distance and its final weight, or infinite where its mark is 0.
 fn total_at(sheet: &[u8], links: u32, v: u32, work: &[u32]) -> f32
-    requires { ⌜ (16 * links + 12 * v + 12 ≤ length (now sheet)) × (8 * v < length (now work)) ⌝ }
+    requires { ⌜ (16 * links + 12 * v + 12 ≤ length (now sheet)) × (8 * v + 1 < length (now work)) ⌝ }
     ensures { λ r. ⌜ r ≡ totalValue (now (sheet .entry)) links (now (work .entry)) v ⌝ }
 {
     let at = 16 * (links as usize) + 12 * (v as usize);
     if word(sheet, at + 4) != 1 {
         return tropical_weight::zero();
     }
-    let distance = tropical_weight::from_bits(work[SLOT * (v as usize)]);
-    tropical_weight::times(distance, tropical_weight::from_bits(word(sheet, at + 8)))
+    let d = distance::distance_at(work, SLOT * (v as usize));
+    let weight = tropical_weight::from_bits(word(sheet, at + 8));
+    tropical_weight::times(distance::as_weight(d), weight)
 }
 
 // The lowest node with the least total, where that is finite. A strict test keeps the lowest.

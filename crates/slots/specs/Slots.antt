@@ -7,10 +7,6 @@ use lib.ListN.{replicate, drop}
 abbrev pub nothing : ℕ
 nothing = 0xffff_ffff
 
--- the bits of infinity
-abbrev pub infinite : ℕ
-infinite = 0x7f80_0000
-
 -- the first n slots left zero, and those beyond as they were
 abbrev pub cleared : ℕ → List ℕ → List ℕ
 cleared n work = replicate (8 * n) 0 ++ drop (8 * n) work

@@ -1,4 +1,4 @@
-// The work area: slots of eight words, and the words that stand for nothing and for infinity.
+// The work area: slots of eight words, and the word that stands for nothing.
 ghost use mathlib.Core.Path.{_≡_};
 ghost use Prim.Native.Nat.{_*_, _≤_};
 ghost use lib.ListN.{length};
@@ -9,9 +9,6 @@ pub const SLOT: usize = 8;
 
 // Where there is no node, no link or no entry.
 pub const NOTHING: u32 = 0xffff_ffff;
-
-// The bits of infinity, the distance of a node not reached.
-pub const INFINITE: u32 = 0x7f80_0000;
 
 // Leaves the first slots zero, so that nothing of a run remains.
 pub fn clear(work: &mut [u32], slots: u32)

@@ -21,7 +21,7 @@ use Rattle.tropical_weight.proofs.Grid.{gridBits-means, unitsOf-ofK}
 use Rattle.sheet.specs.Below.{sumBelow, listBelow, allBelow}
 use Rattle.sheet.specs.Machine.{bitsOf}
 use Rattle.sheet.specs.Sheet.{Parts, linkCount, nodeCount, ilabel, olabel, linkBits, next, count, mark, finalBits, wellMarked, onGridBits, nodesFit, nextsFit, weightsFit}
-use Rattle.sheet.proofs.Below.{allBelow-at, allBelow-of, split-at}
+use Rattle.sheet.proofs.Below.{allBelow-at, allBelow-of, split-at, flat-snoc}
 use Rattle.sheet.proofs.Apart.{both, or-either}
 use Rattle.sheet.proofs.Sources.{counts-sum}
 use Rattle.text_rows.specs.Rows.{Row, link, final, highest, firstNode, unitsOf, onGrid, weightIn, weightsOnGrid, anyFinal, finalsOnce}
@@ -29,7 +29,7 @@ use Rattle.text_rows.specs.Convert.{fieldOf, linkFrom, countFrom, markFi
 use Rattle.text_rows.specs.Written.{firstOf, hasOwn, isLed, hasRows}
 use Rattle.text_rows.specs.RowsFor.{inMillionths, millionths, linkRowFor, finalRowFor, nodeRowsFor, rowsFor}
 use Rattle.text_rows.proofs.Segments.{segments, same-segments, sum-to, length-links}
-use Rattle.text_rows.proofs.Filled.{Named, named-under, flat-snoc, segments-flat, by-threes, finals-two, in-pieces}
+use Rattle.text_rows.proofs.Filled.{Named, named-under, segments-flat, by-threes, finals-two, in-pieces}
 use Rattle.text_rows.proofs.Fitting.{link-on, final-on}
 use Rattle.text_rows.proofs.Judged.{Fours, fours-at, fours-segments, fours-rows, each-next, natAbs-neg}
 

@@ -19,12 +19,12 @@ use Rattle.tropical_weight.proofs.Grid.{unitsOf-ofK}
 use Rattle.sheet.specs.Below.{listBelow}
 use Rattle.sheet.specs.Sheet.{Parts, noStart, linkCount, nodeCount, ilabel, olabel, next, mark, finalBits}
 use Rattle.sheet.specs.Machine.{Link, weightOf, sourcesBelow, startOf, finalOf, linkOf, machineOf}
-use Rattle.sheet.proofs.Below.{length-listBelow, getD-listBelow, listBelow-same}
+use Rattle.sheet.proofs.Below.{length-listBelow, getD-listBelow, listBelow-same, flat-snoc}
 use Rattle.text_rows.specs.Rows.{Row, link, final, firstNode, onGrid, unitsOf, weightsOnGrid}
 use Rattle.text_rows.specs.Convert.{fieldOf, linkFrom, countFrom, markFields, nodesIn, partsOfRows}
 use Rattle.text_rows.specs.RowMachine.{weighs, linkIn, finalIn, machineOfRows}
 use Rattle.text_rows.proofs.Segments.{segments, length-links}
-use Rattle.text_rows.proofs.Filled.{named, flat-snoc}
+use Rattle.text_rows.proofs.Filled.{named}
 use Rattle.text_rows.proofs.Judged.{few-units, links-are, start-is, node-count, count-is, mark-is, finalBits-is, first-named}
 use Rattle.sheet.proofs.Apart.{both}
 

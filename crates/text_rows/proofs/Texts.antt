@@ -13,6 +13,7 @@ use lib.ListN.{length, length-append}
 use borrow.Author.Tests.{ne-eqb, eqb-true, eqb-false, ltb-true, ltb-false, lt-ltb, le-leb}
 use Rattle.io.specs.Digits.{glyph, digits}
 use Rattle.sheet.specs.Below.{listBelow}
+use Rattle.sheet.proofs.Below.{flat-snoc}
 use Rattle.decimals.specs.Decimal.{digitsOnto, digitsOf}
 use Rattle.text_rows.specs.Fields.{andThen, isNewline, isBlank, ontoFirst, rowsOf, ended, goesOn, fieldsOf, numberOf, beforePoint, fromPoint, partOf, bothParts, magnitudeOf, weightOf}
 use Rattle.text_rows.specs.Rows.{Row, rowOf, allRows}
@@ -20,7 +21,6 @@ use Rattle.decimals.specs.Decimal.{placesBy, decimal}
 use Rattle.text_rows.specs.Written.{shortest, partText, magnitudeText, weightText}
 use Rattle.text_rows.specs.RowsFor.{inMillionths}
 use Rattle.decimals.proofs.ReadBack.{digits-back}
-use Rattle.text_rows.proofs.Filled.{flat-snoc}
 
 -- ---- digits, bytes of fields, bytes of rows
 abbrev pub Numeric : List ℕ → Type 0

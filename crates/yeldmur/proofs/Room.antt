@@ -1,5 +1,5 @@
--- The areas are long enough for every list. Assumes nothing.
-use mathlib.Core.Path.{_≡_, refl, sym, ap, _∙_}
+-- The areas are long enough for every list, and those for one reading for the distances. Assumes nothing.
+use mathlib.Core.Path.{_≡_, refl, sym, ap, _∙_, subst}
 use mathlib.Core.Bool.{Bool, true, false, not, _&&_, cond, and-false}
 use mathlib.Core.List.{List}
 use Prim.Native.Nat.{ℕ, zero, suc, _+_, _*_, _/_, _≤_, _<_}
@@ -19,7 +19,11 @@ use Rattle.search.specs.ListMachine.{resultFor, resultBytes}
 use Rattle.search.proofs.Lists.{Accepted, accepted, marked-few}
 use Rattle.search.proofs.Sizes.{result-length, zero-holds, one-holds, many-holds}
 use Rattle.machine.specs.Finals.{finalCount}
-use Rattle.shortest_path.specs.Outcome.{answerOf, slotsNeeded, testedNumber}
+use Rattle.sheet.specs.Sheet.{partsOf}
+use Rattle.sheet.proofs.Sources.{machine-nodes}
+use Rattle.shortest_distance.specs.Outcome.{distanceNumber}
+use Rattle.shortest_distance.proofs.Outcomes.{number-room}
+use Rattle.shortest_path.specs.Outcome.{answerOf, slotsNeeded, testedNumber, listNumber}
 use Rattle.shortest_path.proofs.Joining as Joining
 use Rattle.shortest_path.proofs.Outcomes.{tested-seven, tested-last, number-areas}
 use Rattle.list_answer.specs.ListAnswer.{slotsOf}
@@ -37,14 +41,27 @@ result-short m a (suc zero) b = let s = one-holds m a in omega (arith, result-le
 result-short m a (suc (suc k)) b = let s = many-holds m a (suc (suc k)) (omega arith) b in omega (arith, result-length (resultFor m (suc (suc k))) (s .storable), s .few-nodes, s .few-links)
 
 module _ (sheet : List ℕ) (below : Below 256 sheet) where
-  -- neither 20 nor 21 is given
-  enough : (n slots bytes : ℕ) → inputNumber sheet ≡ 0 → n ≤ listLimit → slotsNeeded sheet n ≤ slots → bytesEnough sheet n ≤ bytes → Enough sheet n slots bytes
-  enough n slots bytes ok few s b words room long wide =
-      let roomy : slotsNeeded sheet n ≤ words / 8 = omega (arith, long, s) in
-      let short : length (answerOf sheet n) ≤ room = omega (arith, wide, b, result-short (machine sheet) (accepted sheet below ok) n few) in
+  -- neither 20 nor 21 is given, of a list
+  list-fits : (n words room : ℕ) → inputNumber sheet ≡ 0 → n ≤ listLimit → 8 * slotsNeeded sheet n ≤ words → bytesEnough sheet n ≤ room → listNumber sheet n words room ≡ 0
+  list-fits n words room ok few long wide =
+      let roomy : slotsNeeded sheet n ≤ words / 8 = omega (arith, long) in
+      let short : length (answerOf sheet n) ≤ room = omega (arith, wide, result-short (machine sheet) (accepted sheet below ok) n few) in
       number-areas sheet n words room ok few
       ∙ ap {B = ℕ} (λ (b : Bool). cond b 20 (cond (ltb room (length (answerOf sheet n))) 21 0)) (le-ltb (words / 8) (slotsNeeded sheet n) roomy)
       ∙ ap {B = ℕ} (λ (b : Bool). cond b 21 0) (le-ltb room (length (answerOf sheet n)) short)
+
+  -- nor of distances, in areas for one reading
+  distances-fit : (n words room : ℕ) → n ≡ 1 → inputNumber sheet ≡ 0 → 8 * slotsNeeded sheet n ≤ words → bytesEnough sheet n ≤ room → distanceNumber sheet words room ≡ 0
+  distances-fit n words room one ok long wide =
+      let slots : 8 * slotsNeeded sheet 1 ≤ words = subst (λ (k : ℕ). 8 * slotsNeeded sheet k ≤ words) one long in
+      let bytes : bytesEnough sheet 1 ≤ room = subst (λ (k : ℕ). bytesEnough sheet k ≤ room) one wide in
+      number-room sheet words room ok (omega (arith, slots, machine-nodes (partsOf sheet))) (omega (arith, bytes, machine-nodes (partsOf sheet)))
+
+  enough : (n slots bytes : ℕ) → inputNumber sheet ≡ 0 → n ≤ listLimit → slotsNeeded sheet n ≤ slots → bytesEnough sheet n ≤ bytes → Enough sheet n slots bytes
+  enough n slots bytes ok few s b = record {
+    list = λ words room long wide. list-fits n words room ok few (omega (arith, s, long)) (omega (arith, b, wide));
+    distances = λ one words room long wide. distances-fit n words room one ok (omega (arith, s, long)) (omega (arith, b, wide));
+  }
 
 -- ---- more of each count needs no less
 module _ (N T F nodes links finals : ℕ) (hN : N ≤ nodes) (hT : T ≤ links) (hF : F ≤ finals) where

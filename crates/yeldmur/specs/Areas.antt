@@ -1,4 +1,4 @@
--- Areas with which a call is never refused for want of room: of a list the slots that it needs and a bound on the bytes, of a conversion the bytes. Definitions only.
+-- Areas with which a call is never refused for want of room: of a list, and of distances, the slots that are needed and a bound on the bytes, of a conversion the bytes. Definitions only.
 use mathlib.Core.Path.{_≡_}
 use mathlib.Core.Bool.{not, _&&_, cond}
 use mathlib.Core.List.{List}
@@ -9,6 +9,7 @@ use Rattle.tropical_weight.specs.Limits.{nodeLimit, linkLimit, listLimit}
 use Rattle.sheet.specs.Machine.{Machine, machine}
 use Rattle.machine.specs.Readings.{marked}
 use Rattle.machine.specs.Input.{inputNumber}
+use Rattle.shortest_distance.specs.Outcome.{distanceNumber}
 use Rattle.shortest_path.specs.Outcome.{listNumber}
 
 -- the bytes of a result with so many states and links: 12 a state, 16 and a word a link, and the trailer
@@ -33,9 +34,12 @@ bytesFor m n = bytesOf (length (m .finals)) (length (m .links)) (marked (m .fina
 abbrev pub bytesEnough : List ℕ → ℕ → ℕ
 bytesEnough sheet n = bytesFor (machine sheet) n
 
--- no list for n is refused in areas of so many slots of eight words, and bytes, or longer ones
-abbrev pub Enough : List ℕ → ℕ → ℕ → ℕ → Type 0
-Enough sheet n slots bytes = (words room : ℕ) → 8 * slots ≤ words → bytes ≤ room → listNumber sheet n words room ≡ 0
+-- Areas of so many slots of eight words, and bytes, or longer ones.
+pub record Enough (sheet : List ℕ) (n slots bytes : ℕ) : Type 0 where
+  -- no list for n is refused in them
+  pub list : (words room : ℕ) → 8 * slots ≤ words → bytes ≤ room → listNumber sheet n words room ≡ 0
+  -- nor, where n is 1, are the distances
+  pub distances : n ≡ 1 → (words room : ℕ) → 8 * slots ≤ words → bytes ≤ room → distanceNumber sheet words room ≡ 0
 
 -- ---- for counts in place of a sheet
 -- the first number of 5 and 7 whose test fails, or 0
@@ -46,7 +50,7 @@ countsNumber nodes links n = cond (not (leb nodes nodeLimit && leb links linkLim
 abbrev pub finalsOf : ℕ → ℕ → ℕ
 finalsOf nodes finals = cond (ltb nodes finals) nodes finals
 
--- no list for n is refused in such areas, of any accepted sheet with at most so many nodes, links and final nodes
+-- nothing is refused for want of room in such areas, of any accepted sheet with at most so many nodes, links and final nodes
 abbrev pub Serves : ℕ → ℕ → ℕ → ℕ → ℕ → ℕ → Type 0
 Serves nodes links finals n slots bytes =
     (sheet : List ℕ)

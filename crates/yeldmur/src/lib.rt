@@ -122,7 +122,8 @@ pub extern "C" fn yeldmur_sheet_rows_bytes(sheet: &[u8], bytes: &mut u64) -> u32
     tell(answer, bytes)
 }
 
-// The distances of a sheet's nodes, as 32 weight bits each, and how many there are.
+// The distances of a sheet's nodes, two words each, 1 and the weight bits, or 0 and 0 where a node is
+// unreached; and how many there are.
 #[no_mangle]
 pub extern "C" fn yeldmur_shortest_distance(
     sheet: &[u8],

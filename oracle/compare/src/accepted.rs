@@ -14,12 +14,22 @@ use crate::tally::Tally;
 use crate::writer;
 use yeldmur::ffi;
 
-/// The Rust's distances, as the library must answer them.
+/// The two words of a distance: the Rust's infinity is an unreached node.
+fn written(distance: f32) -> [u32; 2] {
+    if distance == f32::INFINITY {
+        [0, 0]
+    } else {
+        [1, distance.to_bits()]
+    }
+}
+
+/// The Rust's distances, as the library must answer them: as many values, two words each.
 pub fn distances(machine: &Machine) -> Answer {
-    let bytes = bytes::distances(&reference::distances(machine));
+    let distances = reference::distances(machine);
+    let words = distances.iter().flat_map(|distance| written(*distance));
     Answer {
-        counts: vec![bytes.len() as u32 / 4],
-        bytes,
+        counts: vec![distances.len() as u32],
+        bytes: words.flat_map(u32::to_le_bytes).collect(),
     }
 }
 

@@ -41,6 +41,7 @@ fn areas(random: &mut Random, slots: usize, answer: Option<&Answer>) -> Areas {
             length + 1,
             shorter(length, 1),
             shorter(length, 4),
+            shorter(length, 8),
             0,
         ]),
     }

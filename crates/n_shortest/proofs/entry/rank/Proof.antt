@@ -8,23 +8,20 @@ use Rattle.n_shortest.proofs.entry.rank.Tie as tie
 enum-known-e : tie.Need-enum-known-e
 enum-known-e c = search needs
 
-cast-from-bits : tie.Need-cast-from-bits
-cast-from-bits c = search needs
+cast-distance-at : tie.Need-cast-distance-at
+cast-distance-at c = search needs
 
-mul-from-bits : tie.Need-mul-from-bits
-mul-from-bits c = search needs
+mul-distance-at : tie.Need-mul-distance-at
+mul-distance-at c = search needs
 
-add-from-bits : tie.Need-add-from-bits
-add-from-bits c = let root = c .before .before .before .before in omega (arith, inside-half (now (root .args .part)) (root .args .nodes) (c .before .e .given .1) (root .pre), root .good .0 .0, root .good .0 .1)
+add-distance-at : tie.Need-add-distance-at
+add-distance-at c = let root = c .before .before .before .before in omega (arith, inside-half (now (root .args .part)) (root .args .nodes) (c .before .e .given .1) (root .pre), root .good .0 .0, root .good .0 .1)
 
-mul-from-bits-2 : tie.Need-mul-from-bits-2
-mul-from-bits-2 c = let root = c .before .before .before .before in omega (arith, inside-half (now (root .args .part)) (root .args .nodes) (c .before .e .given .1) (root .pre), root .good .0 .0, root .good .0 .1)
+distance-at-requires : tie.Need-distance-at-requires
+distance-at-requires c κs = let root = c .before .before .before .before in inside-half (now (root .args .part)) (root .args .nodes) (c .before .e .given .1) (root .pre)
 
-shared-slice-read-from-bits : tie.Need-shared-slice-read-from-bits
-shared-slice-read-from-bits c = let root = c .before .before .before .before .before in inside-half (now (root .args .part)) (root .args .nodes) (c .before .before .e .given .1) (root .pre)
-
-from-bits-requires : tie.Need-from-bits-requires
-from-bits-requires c κs = search needs
+as-weight-requires : tie.Need-as-weight-requires
+as-weight-requires c κs = search needs
 
 times-requires : tie.Need-times-requires
 times-requires c κs = search needs
@@ -35,7 +32,7 @@ enum-known-e-2 c = search needs
 returns : tie.Need-returns
 returns c =
     let root = c .before .before .before .before .before .before .before in
-    rank-half (now (root .args .part)) (root .args .nodes) (c .before .before .before .before .e .given .1) (c .before .from-bits .ensures) (c .times .ensures .same)
+    rank-half (now (root .args .part)) (root .args .nodes) (c .before .before .before .before .e .given .1) (c .before .before .distance-at .ensures) (c .before .as-weight .ensures) (c .times .ensures .same)
 
 returns-2 : tie.Need-returns-2
 returns-2 c = search needs
@@ -45,12 +42,11 @@ rank-spec =
     tie.close
     (tie.spec
     enum-known-e
-    cast-from-bits
-    mul-from-bits
-    add-from-bits
-    mul-from-bits-2
-    shared-slice-read-from-bits
-    from-bits-requires
+    cast-distance-at
+    mul-distance-at
+    add-distance-at
+    distance-at-requires
+    as-weight-requires
     times-requires
     enum-known-e-2
     returns

@@ -1,7 +1,6 @@
 use mathlib.Core.Path.{_∙_}
 use Prim.Native.Nat.{_≤_}
 use native.Mathlib.Omega.{arith}
-use lib.ListN.{length-set}
 use denote.Ref.{now}
 use borrow.Author.Needs.{needs}
 use Rattle.machine.proofs.FinalCount.{count-most}
@@ -42,22 +41,16 @@ least-total-requires c κs =
     let kept = c .before .before .before .reverse-finals .kept .1 .1 .1 .1 .0 ∙ c .before .before .before .before .before .before .before .reverse-links .kept .1 .1 .1 .0 ∙ c .before .before .before .before .before .before .before .before .before .before .before .clear-heads .kept .0 in
     (g .0 .laid-out, omega (arith, kept, c .before .before .before .before .before .before .before .before .before .before .before .before .before .before .before .pre .1))
 
-to-bits-requires : tie.Need-to-bits-requires
-to-bits-requires c κs = search needs
-
-mul-part : tie.Need-mul-part
-mul-part c = search needs
-
-slice-write-part : tie.Need-slice-write-part
-slice-write-part c = search needs
+put-distance-requires : tie.Need-put-distance-requires
+put-distance-requires c κs = search needs
 
 same-length : tie.Need-same-length
-same-length c = simp length-set (c .before .before .before .before .before .reverse-finals .kept .1 .1 .1 .1 .0 ∙ c .before .before .before .before .before .before .before .before .before .reverse-links .kept .1 .1 .1 .0 ∙ c .before .before .before .before .before .before .before .before .before .before .before .before .before .clear-heads .kept .0)
+same-length c = search needs
 
 returns : tie.Need-returns
 returns c =
-    let args = c .before .before .before .before .before .before .before .before .before .before .before .before .before .before .before .before .before .args in
-    passes-made (now (args .sheet)) (args .heads) (args .chains) (args .t .nodes) (args .t .links) (now (args .part)) _ _ _ _ _ (c .before .before .before .before .before .before .before .before .before .before .before .before .before .clear-heads .ensures) (c .before .before .before .before .before .before .before .before .before .reverse-links .ensures) (c .before .before .before .before .before .reverse-finals .ensures) (c .before .least-total .ensures) (c .to-bits .ensures)
+    let args = c .before .before .before .before .before .before .before .before .before .before .before .before .before .before .before .before .before .before .before .before .args in
+    passes-made (now (args .sheet)) (args .heads) (args .chains) (args .t .nodes) (args .t .links) (now (args .part)) _ _ _ _ _ (c .before .before .before .before .before .before .before .before .before .before .before .before .before .before .before .before .clear-heads .ensures) (c .before .before .before .before .before .before .before .before .before .before .before .before .reverse-links .ensures) (c .before .before .before .before .before .before .before .before .reverse-finals .ensures) (c .before .before .before .before .least-total .ensures) (c .before .before .put-distance .ensures)
 
 pub reverse-spec : {M : Type 1} → statement M
 reverse-spec =
@@ -68,8 +61,6 @@ reverse-spec =
     reverse-links-requires
     reverse-finals-requires
     least-total-requires
-    to-bits-requires
-    mul-part
-    slice-write-part
+    put-distance-requires
     same-length
     returns)

@@ -2,8 +2,8 @@ use mathlib.Core.Path.{_≡_, sym, ap, _∙_}
 use Prim.Native.Nat.{ℕ, _≤_}
 use native.Mathlib.Omega.{arith}
 use denote.Ref.{now}
-use borrow.Author.Tests.{eq-eqb, ne-eqb}
 use borrow.Author.Needs.{needs}
+use Rattle.distance.specs.Held.{reachedIn}
 use Rattle.shortest_distance.specs.NodeSlots.{heightIn}
 use Rattle.shortest_distance.proofs.Areas.{height-found, height-down}
 use Rattle.shortest_distance.proofs.node_slots.height.Statement.{statement}
@@ -18,26 +18,27 @@ abbrev μ-loop : tie.MeasureT-loop
 loop-holds : tie.Need-loop-holds Inv-loop μ-loop
 loop-holds c = search needs
 
-sub-if1 : tie.Need-sub-if1 Inv-loop μ-loop
-sub-if1 c = search needs
+sub-distance-at : tie.Need-sub-distance-at Inv-loop μ-loop
+sub-distance-at c = search needs
 
-cast-if1 : tie.Need-cast-if1 Inv-loop μ-loop
-cast-if1 c = search needs
+cast-distance-at : tie.Need-cast-distance-at Inv-loop μ-loop
+cast-distance-at c = search needs
 
-mul-if1 : tie.Need-mul-if1 Inv-loop μ-loop
-mul-if1 c = search needs
+mul-distance-at : tie.Need-mul-distance-at Inv-loop μ-loop
+mul-distance-at c = search needs
 
-mul-if1-2 : tie.Need-mul-if1-2 Inv-loop μ-loop
-mul-if1-2 c = search needs
+distance-at-requires : tie.Need-distance-at-requires Inv-loop μ-loop
+distance-at-requires c κs = search needs
 
-shared-slice-read-if1 : tie.Need-shared-slice-read-if1 Inv-loop μ-loop
-shared-slice-read-if1 c = search needs
+is-reached-requires : tie.Need-is-reached-requires Inv-loop μ-loop
+is-reached-requires c κs = search needs
 
 returns : tie.Need-returns Inv-loop μ-loop
 returns c =
-    let turn = c .before .before .before .loop in
-    let area = now (c .before .before .before .before .args .work) in
-    sym (height-found area (turn .n) (c .before .before .loop-test .taken) (ne-eqb _ _ (c .if1 .taken))) ∙ turn .inv .1
+    let turn = c .before .before .before .before .loop in
+    let area = now (c .before .before .before .before .before .before .args .work) in
+    let told = c .before .is-reached .ensures ∙ ap reachedIn (c .before .before .distance-at .ensures) in
+    sym (height-found area (turn .n) (c .before .before .before .loop-test .taken) (sym told ∙ c .if1 .taken)) ∙ turn .inv .1
 
 sub-n : tie.Need-sub-n Inv-loop μ-loop
 sub-n c = search needs
@@ -47,17 +48,18 @@ loop-less c = search needs
 
 loop-again : tie.Need-loop-again Inv-loop μ-loop
 loop-again c =
-    let turn = c .before .before .before .loop in
-    let area = now (c .before .before .before .before .args .work) in (
+    let turn = c .before .before .before .before .loop in
+    let area = now (c .before .before .before .before .before .before .args .work) in
+    let told = c .before .is-reached .ensures ∙ ap reachedIn (c .before .before .distance-at .ensures) in (
       search needs,
-      sym (height-down area (turn .n) (c .before .before .loop-test .taken) (eq-eqb _ _ (c .if1 .left))) ∙ turn .inv .1,
+      sym (height-down area (turn .n) (c .before .before .before .loop-test .taken) (sym told ∙ c .if1 .left)) ∙ turn .inv .1,
     )
 
 returns-2 : tie.Need-returns-2 Inv-loop μ-loop
 unfolding heightIn
 returns-2 c =
     let none : c .before .loop .n ≡ 0 = omega arith in
-    ap (λ (k : ℕ). heightIn (now (c .before .before .args .work)) k) (sym none) ∙ c .before .loop .inv .1
+    ap (λ (k : ℕ). heightIn (now (c .before .before .before .args .work)) k) (sym none) ∙ c .before .loop .inv .1
 
 pub height-spec : {M : Type 1} → statement M
 height-spec =
@@ -66,11 +68,11 @@ height-spec =
     Inv-loop
     μ-loop
     loop-holds
-    sub-if1
-    cast-if1
-    mul-if1
-    mul-if1-2
-    shared-slice-read-if1
+    sub-distance-at
+    cast-distance-at
+    mul-distance-at
+    distance-at-requires
+    is-reached-requires
     returns
     sub-n
     loop-less

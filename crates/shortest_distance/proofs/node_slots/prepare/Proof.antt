@@ -9,7 +9,8 @@ use borrow.Author.Needs.{needs}
 use Rattle.sheet.specs.Below.{sumBelow}
 use Rattle.sheet.proofs.Below.{sum-mono}
 use Rattle.sheet.specs.Records.{countAt}
-use Rattle.slots.specs.Slots.{infinite}
+use Rattle.distance.specs.declared.Distance.the-variants.{Unreached}
+use Rattle.distance.specs.Held.{withDistance}
 use Rattle.shortest_distance.specs.NodeSlots.{prepared}
 use Rattle.shortest_distance.proofs.Areas.{prepared-next}
 use Rattle.shortest_distance.proofs.node_slots.prepare.Statement.{statement}
@@ -27,12 +28,12 @@ abbrev μ-loop : tie.MeasureT-loop
 μ-loop sheet links nodes work₀ first₀ v₀ work first v = nodes - v
 
 -- the links of the nodes up to this one are among those stated
-within : (c : tie.After-word Inv-loop μ-loop) → c .before .before .loop .first + c .word .result ≤ c .before .before .before .before .before .args .links
+within : (c : tie.After-word Inv-loop μ-loop) → c .before .before .before .before .before .before .loop .first + c .word .result ≤ c .before .before .before .before .before .before .before .before .before .args .links
 within c =
-    let args = c .before .before .before .before .before .args in
+    let args = c .before .before .before .before .before .before .before .before .before .args in
     let bytes = now (args .sheet) in
-    let turn = c .before .before .loop in
-    omega (arith, turn .inv .2, c .word .ensures, next-sum bytes (args .links) (turn .v), sum-mono (countAt bytes (args .links)) (args .nodes) (turn .v + 1) (omega arith), c .before .before .before .before .before .pre .2)
+    let turn = c .before .before .before .before .before .before .loop in
+    omega (arith, turn .inv .2, c .word .ensures, next-sum bytes (args .links) (turn .v), sum-mono (countAt bytes (args .links)) (args .nodes) (turn .v + 1) (omega arith), c .before .before .before .before .before .before .before .before .before .pre .2)
 
 loop-holds : tie.Need-loop-holds Inv-loop μ-loop
 unfolding sumBelow prepared
@@ -44,20 +45,17 @@ cast-at c = search needs
 mul-at : tie.Need-mul-at Inv-loop μ-loop
 mul-at c = search needs
 
+put-distance-requires : tie.Need-put-distance-requires Inv-loop μ-loop
+put-distance-requires c κs = search needs
+
+add-work : tie.Need-add-work Inv-loop μ-loop
+add-work c = search needs
+
 mul-work : tie.Need-mul-work Inv-loop μ-loop
 mul-work c = search needs
 
 slice-write-work : tie.Need-slice-write-work Inv-loop μ-loop
 slice-write-work c = search needs
-
-add-work : tie.Need-add-work Inv-loop μ-loop
-add-work c = search needs
-
-mul-work-2 : tie.Need-mul-work-2 Inv-loop μ-loop
-mul-work-2 c = search needs
-
-slice-write-work-2 : tie.Need-slice-write-work-2 Inv-loop μ-loop
-slice-write-work-2 c = simp length-set (omega arith)
 
 mul-word : tie.Need-mul-word Inv-loop μ-loop
 mul-word c = search needs
@@ -85,14 +83,14 @@ loop-less c = search needs
 
 loop-again : tie.Need-loop-again Inv-loop μ-loop
 loop-again c =
-    let turn = c .before .before .loop in
-    let args = c .before .before .before .before .before .args in
+    let turn = c .before .before .before .before .before .before .loop in
+    let args = c .before .before .before .before .before .before .before .before .before .args in
     let bytes = now (args .sheet) in
     let at = 8 * turn .v in (
       search needs,
-      simp length-set (turn .inv .1),
+      simp length-set (c .before .before .before .put-distance .kept .0 ∙ turn .inv .1),
       (λ i. turn .inv .2 i + c .word .ensures i) ∙ sym (next-sum bytes (args .links) (turn .v)),
-      (λ i. set (set (turn .inv .3 i) at infinite) (at + 1) (turn .inv .2 i)) ∙ sym (prepared-next bytes (args .links) (turn .v) (now (args .work))),
+      (λ i. set ((c .before .before .before .put-distance .ensures ∙ ap (λ (x : List ℕ). withDistance x at Unreached) (turn .inv .3)) i) (at + 4) (turn .inv .2 i)) ∙ sym (prepared-next bytes (args .links) (turn .v) (now (args .work))),
     )
 
 same-length : tie.Need-same-length Inv-loop μ-loop
@@ -113,11 +111,10 @@ prepare-spec =
     loop-holds
     cast-at
     mul-at
+    put-distance-requires
+    add-work
     mul-work
     slice-write-work
-    add-work
-    mul-work-2
-    slice-write-work-2
     mul-word
     cast-word
     mul-word-2

@@ -1,14 +1,13 @@
 use mathlib.Core.Path.{_≡_, ap, _∙_}
-use mathlib.Core.List.{List}
 use Prim.Native.Nat.{ℕ, _-_, _*_, _≤_}
 use native.Mathlib.Omega.{arith}
 use lib.ListN.{length}
 use lib.Seq.{sets}
 use denote.Ref.{now}
 use borrow.Author.Needs.{needs}
-use Rattle.sheet.specs.Below.{listBelow}
-use Rattle.sheet.specs.Words.{bytesOf, bytesOfAll}
-use Rattle.shortest_distance.specs.NodeSlots.{distanceWord, distanceWords}
+use Rattle.sheet.specs.Words.{bytesOfAll}
+use Rattle.distance.specs.Held.{wordsIn}
+use Rattle.shortest_distance.specs.NodeSlots.{distanceWords}
 use Rattle.shortest_distance.proofs.Areas.{sets-distance}
 use Rattle.shortest_distance.proofs.node_slots.put_distances.Statement.{statement}
 use Rattle.shortest_distance.proofs.node_slots.put_distances.Tie as tie
@@ -20,29 +19,26 @@ abbrev μ-loop : tie.MeasureT-loop
 μ-loop work count result₀ v₀ result v = count - v
 
 loop-holds : tie.Need-loop-holds Inv-loop μ-loop
-unfolding bytesOfAll listBelow
+unfolding bytesOfAll distanceWords
 loop-holds c = search needs
 
-cast-put-word : tie.Need-cast-put-word Inv-loop μ-loop
-cast-put-word c = search needs
+cast-distance-at : tie.Need-cast-distance-at Inv-loop μ-loop
+cast-distance-at c = search needs
 
-mul-put-word : tie.Need-mul-put-word Inv-loop μ-loop
-mul-put-word c = search needs
+mul-distance-at : tie.Need-mul-distance-at Inv-loop μ-loop
+mul-distance-at c = search needs
 
-cast-put-word-2 : tie.Need-cast-put-word-2 Inv-loop μ-loop
-cast-put-word-2 c = search needs
+distance-at-requires : tie.Need-distance-at-requires Inv-loop μ-loop
+distance-at-requires c κs = search needs
 
-mul-put-word-2 : tie.Need-mul-put-word-2 Inv-loop μ-loop
-mul-put-word-2 c = search needs
+cast-write-distance : tie.Need-cast-write-distance Inv-loop μ-loop
+cast-write-distance c = search needs
 
-mul-put-word-3 : tie.Need-mul-put-word-3 Inv-loop μ-loop
-mul-put-word-3 c = search needs
+mul-write-distance : tie.Need-mul-write-distance Inv-loop μ-loop
+mul-write-distance c = search needs
 
-shared-slice-read-put-word : tie.Need-shared-slice-read-put-word Inv-loop μ-loop
-shared-slice-read-put-word c = search needs
-
-put-word-requires : tie.Need-put-word-requires Inv-loop μ-loop
-put-word-requires c κs = search needs
+write-distance-requires : tie.Need-write-distance-requires Inv-loop μ-loop
+write-distance-requires c κs = search needs
 
 add-v : tie.Need-add-v Inv-loop μ-loop
 add-v c = search needs
@@ -52,13 +48,13 @@ loop-less c = search needs
 
 loop-again : tie.Need-loop-again Inv-loop μ-loop
 loop-again c =
-    let put = c .before .before .put-word in
+    let put = c .before .before .write-distance in
+    let read = c .before .before .before .before .distance-at in
     let turn = c .before .before .before .before .before .before .loop in
-    let args = c .before .before .before .before .before .before .before .before .before .args in
-    let area = now (args .work) in (
+    let args = c .before .before .before .before .before .before .before .before .before .args in (
       search needs,
       put .kept .0 ∙ turn .inv .1,
-      put .ensures ∙ ap (λ (l : List ℕ). sets l (4 * turn .v) (bytesOf (distanceWord area (turn .v)))) (turn .inv .2) ∙ sets-distance (now (args .result)) area (turn .v),
+      put .ensures ∙ (λ i. sets (turn .inv .2 i) (8 * turn .v) (bytesOfAll (wordsIn (read .ensures i)))) ∙ sets-distance (now (args .result)) (now (args .work)) (turn .v),
     )
 
 same-length : tie.Need-same-length Inv-loop μ-loop
@@ -77,13 +73,12 @@ put-distances-spec =
     Inv-loop
     μ-loop
     loop-holds
-    cast-put-word
-    mul-put-word
-    cast-put-word-2
-    mul-put-word-2
-    mul-put-word-3
-    shared-slice-read-put-word
-    put-word-requires
+    cast-distance-at
+    mul-distance-at
+    distance-at-requires
+    cast-write-distance
+    mul-write-distance
+    write-distance-requires
     add-v
     loop-less
     loop-again

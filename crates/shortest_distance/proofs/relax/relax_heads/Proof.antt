@@ -10,6 +10,7 @@ use Rattle.sheet.specs.declared.tr.Link.{Link}
 use Rattle.state_order_queue.specs.declared.Queue.{Queue}
 use Rattle.state_order_queue.specs.Queues.{isEmpty, enqueued, dequeued}
 use Rattle.state_order_queue.proofs.Records.{valid-ends, flagged-enqueued, cleared-dequeued}
+use Rattle.distance.specs.Held.{weightIn}
 use Rattle.shortest_distance.specs.NodeSlots.{firstWord}
 use Rattle.shortest_distance.specs.Relaxation.{State, relaxLink, relaxLinks, relaxHeads}
 use Rattle.shortest_distance.specs.Sound.{Sound}
@@ -51,12 +52,12 @@ among c =
     let turn = c .before .before .before .before .before .loop in
     omega (arith, head-links (now (args .sheet)) (args .links) (args .nodes) (record { work = turn .work; queue = turn .queue }) (turn .inv .2) (filled (c .before .before)), c .word .ensures)
 
-next : (c : tie.After-link-at Inv-loop2 μ-loop2 Inv-loop μ-loop) → c .link-at .result .nextstate < c .before .before .before .before .before .before .before .before .before .before .before .before .before .before .before .before .before .args .nodes
-next c = subst (λ (k : Link). k .nextstate < c .before .before .before .before .before .before .before .before .before .before .before .before .before .before .before .before .before .args .nodes) (sym (c .link-at .ensures)) (c .before .before .loop2 .inv .2 .inside _ (omega (arith, among (c .before .before .before .before .before .before .before .before .before))))
+next : (c : tie.After-link-at Inv-loop2 μ-loop2 Inv-loop μ-loop) → c .link-at .result .nextstate < c .before .before .before .before .before .before .before .before .before .before .before .before .before .before .before .before .before .before .args .nodes
+next c = subst (λ (k : Link). k .nextstate < c .before .before .before .before .before .before .before .before .before .before .before .before .before .before .before .before .before .before .args .nodes) (sym (c .link-at .ensures)) (c .before .before .loop2 .inv .2 .inside _ (omega (arith, among (c .before .before .before .before .before .before .before .before .before .before))))
 
 -- front's flag cleared and front moved: the queue without its head
-taken : (c : tie.After-dequeue-cleared Inv-loop2 μ-loop2 Inv-loop μ-loop) → c .dequeue-cleared .result ≡ dequeued (c .before .before .before .before .before .before .before .before .before .before .before .loop .queue)
-taken c = c .dequeue-cleared .ensures ∙ cleared-dequeued (c .before .before .before .before .before .before .before .before .before .before .before .loop .queue) (filled (c .before .before .before .before .before .before .before .before))
+taken : (c : tie.After-dequeue-cleared Inv-loop2 μ-loop2 Inv-loop μ-loop) → c .dequeue-cleared .result ≡ dequeued (c .before .before .before .before .before .before .before .before .before .before .before .before .loop .queue)
+taken c = c .dequeue-cleared .ensures ∙ cleared-dequeued (c .before .before .before .before .before .before .before .before .before .before .before .before .loop .queue) (filled (c .before .before .before .before .before .before .before .before .before))
 
 loop-holds : tie.Need-loop-holds Inv-loop2 μ-loop2 Inv-loop μ-loop
 loop-holds c =
@@ -104,47 +105,44 @@ add-word c = omega (arith, node (c .before))
 word-requires : tie.Need-word-requires Inv-loop2 μ-loop2 Inv-loop μ-loop
 word-requires c κs = omega (arith, node (c .before))
 
-mul-from-bits : tie.Need-mul-from-bits Inv-loop2 μ-loop2 Inv-loop μ-loop
-mul-from-bits c = omega (arith, node (c .before .before))
+mul-distance-at : tie.Need-mul-distance-at Inv-loop2 μ-loop2 Inv-loop μ-loop
+mul-distance-at c = omega (arith, node (c .before .before .before))
 
-mul-from-bits-2 : tie.Need-mul-from-bits-2 Inv-loop2 μ-loop2 Inv-loop μ-loop
-mul-from-bits-2 c = omega (arith, node (c .before .before))
+distance-at-requires : tie.Need-distance-at-requires Inv-loop2 μ-loop2 Inv-loop μ-loop
+distance-at-requires c κs = omega (arith, node (c .before .before .before))
 
-slice-read-from-bits : tie.Need-slice-read-from-bits Inv-loop2 μ-loop2 Inv-loop μ-loop
-slice-read-from-bits c = omega (arith, node (c .before .before .before))
-
-from-bits-requires : tie.Need-from-bits-requires Inv-loop2 μ-loop2 Inv-loop μ-loop
-from-bits-requires c κs = search needs
+as-weight-requires : tie.Need-as-weight-requires Inv-loop2 μ-loop2 Inv-loop μ-loop
+as-weight-requires c κs = search needs
 
 element-write-queue : tie.Need-element-write-queue Inv-loop2 μ-loop2 Inv-loop μ-loop
-element-write-queue c = omega (arith, node (c .before .before .before .before), c .before .before .before .before .before .before .before .loop .inv .2 .few)
+element-write-queue c = omega (arith, node (c .before .before .before .before .before), c .before .before .before .before .before .before .before .before .loop .inv .2 .few)
 
 next-front-requires : tie.Need-next-front-requires Inv-loop2 μ-loop2 Inv-loop μ-loop
-next-front-requires c κs = (valid-ends _ (c .before .before .before .before .before .before .before .before .before .loop .inv .2 .valid), filled (c .before .before .before .before .before .before))
+next-front-requires c κs = (valid-ends _ (c .before .before .before .before .before .before .before .before .before .before .loop .inv .2 .valid), filled (c .before .before .before .before .before .before .before))
 
 dequeue-cleared-requires : tie.Need-dequeue-cleared-requires Inv-loop2 μ-loop2 Inv-loop μ-loop
-dequeue-cleared-requires c κs = let turn = c .before .before .before .before .before .before .before .before .before .before .loop in (getD-set-same (turn .queue .flags) (turn .queue .front) false false (omega (arith, node (c .before .before .before .before .before .before .before), turn .inv .2 .few, turn .inv .2 .full)), c .next-front .ensures)
+dequeue-cleared-requires c κs = let turn = c .before .before .before .before .before .before .before .before .before .before .before .loop in (getD-set-same (turn .queue .flags) (turn .queue .front) false false (omega (arith, node (c .before .before .before .before .before .before .before .before), turn .inv .2 .few, turn .inv .2 .full)), c .next-front .ensures)
 
 loop2-holds : tie.Need-loop2-holds Inv-loop2 μ-loop2 Inv-loop μ-loop
 unfolding relaxLinks
 loop2-holds c =
-    let args = c .before .before .before .before .before .before .before .before .before .before .before .before .before .before .args in
-    let turn = c .before .before .before .before .before .before .before .before .before .before .before .loop in
+    let args = c .before .before .before .before .before .before .before .before .before .before .before .before .before .before .before .args in
+    let turn = c .before .before .before .before .before .before .before .before .before .before .before .before .loop in
     let bytes = now (args .sheet) in
-    let sound = head-taken bytes (args .links) (args .nodes) (record { work = turn .work; queue = turn .queue }) (turn .inv .2) (filled (c .before .before .before .before .before .before .before .before)) in
+    let sound = head-taken bytes (args .links) (args .nodes) (record { work = turn .work; queue = turn .queue }) (turn .inv .2) (filled (c .before .before .before .before .before .before .before .before .before)) in
     (search needs, refl, subst (Sound bytes (args .links) (args .nodes) (turn .work)) (sym (taken c)) sound, refl)
 
 cast-link-at : tie.Need-cast-link-at Inv-loop2 μ-loop2 Inv-loop μ-loop
-cast-link-at c = omega (arith, among (c .before .before .before .before .before .before .before .before))
+cast-link-at c = omega (arith, among (c .before .before .before .before .before .before .before .before .before))
 
 cast-link-at-2 : tie.Need-cast-link-at-2 Inv-loop2 μ-loop2 Inv-loop μ-loop
 cast-link-at-2 c = search needs
 
 add-link-at : tie.Need-add-link-at Inv-loop2 μ-loop2 Inv-loop μ-loop
-add-link-at c = omega (arith, among (c .before .before .before .before .before .before .before .before))
+add-link-at c = omega (arith, among (c .before .before .before .before .before .before .before .before .before))
 
 link-at-requires : tie.Need-link-at-requires Inv-loop2 μ-loop2 Inv-loop μ-loop
-link-at-requires c κs = omega (arith, among (c .before .before .before .before .before .before .before .before), c .before .loop2 .inv .2 .laid-out)
+link-at-requires c κs = omega (arith, among (c .before .before .before .before .before .before .before .before .before), c .before .loop2 .inv .2 .laid-out)
 
 relax-link-requires : tie.Need-relax-link-requires Inv-loop2 μ-loop2 Inv-loop μ-loop
 relax-link-requires c κs = omega (arith, next (c .before), c .before .before .before .loop2 .inv .2 .slots)
@@ -166,15 +164,15 @@ loop2-less c = search needs
 
 loop2-again : tie.Need-loop2-again Inv-loop2 μ-loop2 Inv-loop μ-loop
 loop2-again c =
-    let args = c .before .before .before .before .before .before .before .before .before .before .before .before .before .before .before .before .before .before .before .before .before .before .args in
+    let args = c .before .before .before .before .before .before .before .before .before .before .before .before .before .before .before .before .before .before .before .before .before .before .before .args in
     let turn = c .before .before .before .before .before .before .before .loop2 in
     let read = c .before .before .before .before .before .link-at in
     let offer = c .before .before .before .relax-link in
-    let distance = c .before .before .before .before .before .before .before .before .before .before .before .before .from-bits .result in
+    let distance = c .before .before .before .before .before .before .before .before .before .before .before .before .as-weight .result in
     let old : State = record { work = turn .work; queue = turn .queue } in
     let kept : Bool → Queue = λ b. cond b (enqueued (turn .queue) (read .result .nextstate)) (turn .queue) in
     let queue : c .if2 .queue ≡ relaxLink (read .result) distance old .queue = ⊎-elim (λ w. w .2 ∙ w .1 .ensures ∙ flagged-enqueued (turn .queue) (read .result .nextstate) ∙ ap kept (sym (w .0 .taken) ∙ offer .ensures .0)) (λ w. w .1 ∙ ap kept (sym (w .0 .left) ∙ offer .ensures .0)) (c .if2 .came) in
-    let next = link-again (now (args .sheet)) (args .links) (args .nodes) _ distance (turn .i) _ old (omega (arith, among (c .before .before .before .before .before .before .before .before .before .before .before .before .before .before))) (turn .inv .2) (turn .inv .3) (read .result) (read .ensures) _ (λ j. record { work = offer .ensures .1 j; queue = queue j }) in
+    let next = link-again (now (args .sheet)) (args .links) (args .nodes) _ distance (turn .i) _ old (omega (arith, among (c .before .before .before .before .before .before .before .before .before .before .before .before .before .before .before))) (turn .inv .2) (turn .inv .3) (read .result) (read .ensures) _ (λ j. record { work = offer .ensures .1 j; queue = queue j }) in
     (search needs, offer .kept .1 .1 .0 ∙ turn .inv .1, next .0, next .1)
 
 add-turn : tie.Need-add-turn Inv-loop2 μ-loop2 Inv-loop μ-loop
@@ -185,15 +183,15 @@ loop-less c = search needs
 
 loop-again : tie.Need-loop-again Inv-loop2 μ-loop2 Inv-loop μ-loop
 loop-again c =
-    let args = c .before .before .before .before .before .before .before .before .before .before .before .before .before .before .before .before .args in
-    let turn = c .before .before .before .before .before .before .before .before .before .before .before .before .before .loop in
+    let args = c .before .before .before .before .before .before .before .before .before .before .before .before .before .before .before .before .before .args in
+    let turn = c .before .before .before .before .before .before .before .before .before .before .before .before .before .before .loop in
     let inner = c .before .loop2 in
     let bytes = now (args .sheet) in
     let old : State = record { work = turn .work; queue = turn .queue } in
     let last : State = record { work = inner .work; queue = inner .queue } in
-    let all : inner .i ≡ c .before .before .before .before .before .before .before .before .word .result = omega arith in
-    let made = head-made bytes (args .links) old _ _ _ (c .before .before .before .before .before .before .from-bits .ensures) (all ∙ c .before .before .before .before .before .before .before .before .word .ensures) (taken (c .before .before)) last (inner .inv .3) in
-    let next = heads-again bytes (args .links) old (args .nodes) (turn .turn) _ last (c .before .before .before .before .before .before .before .before .before .before .before .before .loop-test .taken) (filled (c .before .before .before .before .before .before .before .before .before .before)) (turn .inv .2) made (turn .inv .3) in
+    let all : inner .i ≡ c .before .before .before .before .before .before .before .before .before .word .result = omega arith in
+    let made = head-made bytes (args .links) old _ _ _ (c .before .before .before .before .before .before .as-weight .ensures ∙ ap weightIn (c .before .before .before .before .before .before .before .distance-at .ensures)) (all ∙ c .before .before .before .before .before .before .before .before .before .word .ensures) (taken (c .before .before)) last (inner .inv .3) in
+    let next = heads-again bytes (args .links) old (args .nodes) (turn .turn) _ last (c .before .before .before .before .before .before .before .before .before .before .before .before .before .loop-test .taken) (filled (c .before .before .before .before .before .before .before .before .before .before .before)) (turn .inv .2) made (turn .inv .3) in
     (search needs, inner .inv .1 ∙ turn .inv .1, next .0, next .1)
 
 same-length-2 : tie.Need-same-length-2 Inv-loop2 μ-loop2 Inv-loop μ-loop
@@ -229,10 +227,9 @@ relax-heads-spec =
     mul-word-2
     add-word
     word-requires
-    mul-from-bits
-    mul-from-bits-2
-    slice-read-from-bits
-    from-bits-requires
+    mul-distance-at
+    distance-at-requires
+    as-weight-requires
     element-write-queue
     next-front-requires
     dequeue-cleared-requires

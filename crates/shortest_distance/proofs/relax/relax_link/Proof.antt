@@ -1,20 +1,21 @@
 use mathlib.Core.Path.{_≡_, ap, _∙_}
+use mathlib.Core.Bool.{not}
 use denote.Ref.{now}
 use borrow.Author.Tests.{not-true, not-false}
-use lib.Ieee.{binary32, toBits}
-use Rattle.shortest_distance.specs.NodeSlots.{distanceWord}
-use Rattle.shortest_distance.specs.Relaxation.{improves}
+use Rattle.distance.specs.Held.{weightIn, reachedIn}
+use Rattle.distance.specs.Offer.{improves}
+use Rattle.shortest_distance.specs.NodeSlots.{distanceAt}
 use Rattle.shortest_distance.proofs.Turns.{offer-test, offer-left, offer-taken}
 use borrow.Author.Needs.{needs}
 use Rattle.shortest_distance.proofs.relax.relax_link.Statement.{statement}
 use Rattle.shortest_distance.proofs.relax.relax_link.Tie as tie
 
 -- whether the offer is less than the old distance
-judged : (c : tie.After-natural-less) → let args = c .before .before .before .before .before .before .args in
-    improves (distanceWord (now (args .work)) (args .k .nextstate)) (args .distance) (args .k .weight) ≡ c .natural-less .result
+judged : (c : tie.After-natural-less) → let args = c .before .before .before .before .before .before .before .args in
+    improves (distanceAt (now (args .work)) (args .k .nextstate)) (args .d) (args .k .weight) ≡ c .natural-less .result
 judged c =
-    let args = c .before .before .before .before .before .before .args in
-    offer-test (distanceWord (now (args .work)) (args .k .nextstate)) (args .distance) (args .k .weight) _ _ _ (c .before .before .from-bits .ensures) (c .before .times .ensures .same) (c .natural-less .ensures .same)
+    let args = c .before .before .before .before .before .before .before .args in
+    offer-test (distanceAt (now (args .work)) (args .k .nextstate)) (args .d) (args .k .weight) _ _ _ (c .before .before .as-weight .ensures ∙ ap weightIn (c .before .before .before .distance-at .ensures)) (c .before .times .ensures .same) (c .natural-less .ensures .same)
 
 cast-at : tie.Need-cast-at
 cast-at c = search needs
@@ -22,42 +23,41 @@ cast-at c = search needs
 mul-at : tie.Need-mul-at
 mul-at c = search needs
 
-mul-word : tie.Need-mul-word
-mul-word c = search needs
-
-slice-read-word : tie.Need-slice-read-word
-slice-read-word c = search needs
-
-from-bits-requires : tie.Need-from-bits-requires
-from-bits-requires c κs = search needs
+distance-at-requires : tie.Need-distance-at-requires
+distance-at-requires c κs = search needs
 
 times-requires : tie.Need-times-requires
 times-requires c κs = search needs
 
+as-weight-requires : tie.Need-as-weight-requires
+as-weight-requires c κs = search needs
+
 natural-less-requires : tie.Need-natural-less-requires
 natural-less-requires c κs = search needs
-
-returns : tie.Need-returns
-returns c =
-    let args = c .before .before .before .before .before .before .before .args in
-    offer-left (args .k) (args .distance) (now (args .work)) (judged (c .before) ∙ not-true (c .before .natural-less .result) (c .if1 .taken))
-
-to-bits-requires : tie.Need-to-bits-requires
-to-bits-requires c κs = search needs
-
-mul-work : tie.Need-mul-work
-mul-work c = search needs
-
-slice-write-work : tie.Need-slice-write-work
-slice-write-work c = search needs
 
 same-length : tie.Need-same-length
 same-length c = search needs
 
+returns : tie.Need-returns
+returns c =
+    let args = c .before .before .before .before .before .before .before .before .args in
+    offer-left (args .k) (args .d) (now (args .work)) (judged (c .before) ∙ not-true (c .before .natural-less .result) (c .if1 .taken))
+
+put-distance-requires : tie.Need-put-distance-requires
+put-distance-requires c κs = search needs
+
+is-reached-requires : tie.Need-is-reached-requires
+is-reached-requires c κs = search needs
+
+same-length-2 : tie.Need-same-length-2
+same-length-2 c = search needs
+
 returns-2 : tie.Need-returns-2
 returns-2 c =
-    let args = c .before .before .before .before .before .before .before .before .args in
-    offer-taken (args .k) (args .distance) (now (args .work)) (judged (c .before .before) ∙ not-false (c .before .before .natural-less .result) (c .before .if1 .left)) (c .to-bits .result) (c .to-bits .ensures ∙ ap (toBits binary32) (c .before .before .before .times .ensures .same))
+    let args = c .before .before .before .before .before .before .before .before .before .before .before .before .before .args in
+    let less = c .before .before .before .before .before .before .natural-less .result in
+    let made = offer-taken (args .k) (args .d) (now (args .work)) (judged (c .before .before .before .before .before .before) ∙ not-false less (c .before .before .before .before .before .if1 .left)) (c .before .before .before .before .before .before .before .times .result) (c .before .before .before .before .before .before .before .times .ensures .same) in
+    (ap not (c .is-reached .ensures ∙ ap reachedIn (c .before .before .before .before .before .before .before .before .before .distance-at .ensures)) ∙ made .0, c .before .before .before .put-distance .ensures ∙ made .1)
 
 pub relax-link-spec : {M : Type 1} → statement M
 relax-link-spec =
@@ -65,14 +65,13 @@ relax-link-spec =
     (tie.spec
     cast-at
     mul-at
-    mul-word
-    slice-read-word
-    from-bits-requires
+    distance-at-requires
+    as-weight-requires
     times-requires
     natural-less-requires
-    returns
-    to-bits-requires
-    mul-work
-    slice-write-work
     same-length
+    returns
+    put-distance-requires
+    is-reached-requires
+    same-length-2
     returns-2)

@@ -1,21 +1,21 @@
-use mathlib.Core.Path.{_≡_, refl, sym, ap, _∙_, subst}
-use mathlib.Core.Bool.{false}
-use Prim.Native.Nat.{ℕ, _+_, _*_, _≤_}
+use mathlib.Core.Path.{_≡_, sym, ap, _∙_, subst}
+use mathlib.Core.Bool.{true, false}
+use Prim.Native.Nat.{_+_, _*_, _≤_}
 use native.Mathlib.Omega.{arith}
 use lib.ListN.{length}
 use denote.Ref.{now}
-use Rattle.sheet.specs.Words.{bytesOf, bytesOfAll}
 use Rattle.sheet.specs.Sheet.{partsOf}
 use Rattle.sheet.specs.Machine.{machineOf}
 use Rattle.reversed_machine.specs.Laid.{Reversal}
 use Rattle.reversed_machine.proofs.Reversals.{reversal}
 use Rattle.shortest_path.proofs.Joining.{few-finals, few-links, few-nodes, product, slots-are, start-is, begins, going, none-there, listed-done, answers, leaves}
-use Rattle.search.specs.ListMachine.{empty}
 use Rattle.list_answer.specs.ListAnswer.{listedIn, listedOver}
 use Rattle.n_shortest.specs.declared.n_best.Places.{Places}
-use Rattle.n_shortest.specs.SearchWords.{Words, afterW, begunW, stoppedW, Ready, Begins}
+use Rattle.n_shortest.specs.SearchWords.{Words, afterW, begunW}
 use Rattle.list_machine.specs.TrimWords.{keptCount, listAnswer, listAfter, Listable}
+use Rattle.distance.specs.Held.{reachedIn, distanceIn}
 use borrow.Author.Needs.{needs}
+use borrow.Author.Tests.{not-true, not-false}
 use Rattle.shortest_path.proofs.lists.list_many.Statement.{statement}
 use Rattle.shortest_path.proofs.lists.list_many.Tie as tie
 
@@ -41,6 +41,13 @@ turned c =
     let f = few (c .before .before .before .before .before .before .before .before .before) in
     subst (Reversal (machineOf (partsOf (now (args .sheet)))) (8 * (1 + args .finals + args .n * (args .t .links + 1))) (8 * (1 + args .finals + args .n * (args .t .links + 1)) + 8 * (args .t .nodes + 1)) (c .before .before .before .before .measure .last .1 .1 .0)) (sym (c .reverse .ensures))
     (reversal (now (args .sheet)) (root .pre .0 .0) (args .t) (root .pre .0 .1) (args .finals) _ _ (c .before .before .before .before .measure .last .1 .1 .0) (root .pre .0 .2) (omega arith) (omega (arith, f .0, f .1, f .2, f .3, f .4, c .before .before .before .before .measure .kept .1 .1 .0)) (c .before .before .before .before .measure .ensures .measured))
+
+-- whether the least total is reached, by the test
+unreached : (c : tie.Then1) → let args = c .before .before .before .before .before .before .before .before .before .before .before .before .before .before .before .before .args in reachedIn (distanceIn (c .before .before .before .before .before .before .reverse .last .1 .1 .1 .0) (8 * (1 + args .finals + args .n * (args .t .links + 1)))) ≡ false
+unreached c = ap reachedIn (sym (c .before .before .distance-at .ensures)) ∙ sym (c .before .is-reached .ensures) ∙ not-true (c .before .is-reached .result) (c .if1 .taken)
+
+reached : (c : tie.Else1) → let args = c .before .before .before .before .before .before .before .before .before .before .before .before .before .before .before .before .args in reachedIn (distanceIn (c .before .before .before .before .before .before .reverse .last .1 .1 .1 .0) (8 * (1 + args .finals + args .n * (args .t .links + 1)))) ≡ true
+reached c = ap reachedIn (sym (c .before .before .distance-at .ensures)) ∙ sym (c .before .is-reached .ensures) ∙ not-false (c .before .is-reached .result) (c .if1 .left)
 
 add-allowed : tie.Need-add-allowed
 add-allowed c = let f = few (c .before .before) in omega (arith, f .0, f .1, f .2, f .3, f .4)
@@ -78,11 +85,11 @@ measure-requires c κs = let root = c .before .before .before .before .before in
 reverse-requires : tie.Need-reverse-requires
 reverse-requires c κs = let root = c .before .before .before .before .before .before .before .before .before in let f = few (c .before .before .before .before .before .before .before .before) in (root .pre .0, (omega arith, omega (arith, f .0, f .1, f .2, f .3, f .4, c .before .before .before .measure .kept .1 .1 .0)))
 
-mul-if1 : tie.Need-mul-if1
-mul-if1 c = let f = few (c .before .before .before .before .before .before .before .before .before .before .before) in omega (arith, f .0, f .1, f .2, f .3, f .4)
+distance-at-requires : tie.Need-distance-at-requires
+distance-at-requires c κs = let f = few (c .before .before .before .before .before .before .before .before .before .before .before .before) in omega (arith, f .0, f .1, f .2, f .3, f .4, c .before .before .before .reverse .kept .1 .1 .1 .0, c .before .before .before .before .before .before .before .measure .kept .1 .1 .0)
 
-slice-read-if1 : tie.Need-slice-read-if1
-slice-read-if1 c = let f = few (c .before .before .before .before .before .before .before .before .before .before .before .before) in omega (arith, f .0, f .1, f .2, f .3, f .4, c .before .before .before .reverse .kept .1 .1 .1 .0, c .before .before .before .before .before .before .before .measure .kept .1 .1 .0)
+is-reached-requires : tie.Need-is-reached-requires
+is-reached-requires c κs = search needs
 
 put-none-requires : tie.Need-put-none-requires
 put-none-requires c κs = search needs
@@ -95,33 +102,33 @@ same-length-2 c = search needs
 
 returns : tie.Need-returns
 returns c =
-    let root = c .before .before .before .before .before .before .before .before .before .before .before .before .before .before .before .before .before .before in
+    let root = c .before .before .before .before .before .before .before .before .before .before .before .before .before .before .before .before .before .before .before .before in
     let args = root .args in
-    let old = c .before .before .before .before .before .before .before .before .before .before .before .before .measure .last .1 .1 .0 in
-    let part = c .before .before .before .before .before .before .before .before .reverse .last .1 .1 .1 .0 in
-    let e = none-there (now (args .sheet)) (λ i. omega (arith, c .before .before .before .before .before .before .before .before .before .before .before .before .before .before .before .before .before .shared-slice-known .given i)) (root .pre .0 .0) (args .t) (root .pre .0 .1) (args .finals) (root .pre .0 .2) (args .n) (root .pre .1 .0) (root .pre .1 .1) old part (omega (arith, root .pre .1 .2, c .before .before .before .before .before .before .before .before .before .before .before .before .measure .kept .1 .1 .0)) (turned (c .before .before .before .before .before .before .before .before)) (c .before .before .before .before .if1 .taken) in
+    let old = c .before .before .before .before .before .before .before .before .before .before .before .before .before .before .measure .last .1 .1 .0 in
+    let part = c .before .before .before .before .before .before .before .before .before .before .reverse .last .1 .1 .1 .0 in
+    let e = none-there (now (args .sheet)) (λ i. omega (arith, c .before .before .before .before .before .before .before .before .before .before .before .before .before .before .before .before .before .before .before .shared-slice-known .given i)) (root .pre .0 .0) (args .t) (root .pre .0 .1) (args .finals) (root .pre .0 .2) (args .n) (root .pre .1 .0) (root .pre .1 .1) old part (omega (arith, root .pre .1 .2, c .before .before .before .before .before .before .before .before .before .before .before .before .before .before .measure .kept .1 .1 .0)) (turned (c .before .before .before .before .before .before .before .before .before .before)) (unreached (c .before .before .before .before)) in
     (c .before .before .put-none .ensures .0 ∙ ap (λ r. listedIn r (length (now (args .result)))) (sym e), c .before .before .put-none .ensures .1 ∙ ap (λ r. listedOver r (now (args .result))) (sym e))
 
 add-end : tie.Need-add-end
 add-end c =
-    let root = c .before .before .before .before .before .before .before .before .before .before .before .before .before .before .before in
+    let root = c .before .before .before .before .before .before .before .before .before .before .before .before .before .before .before .before .before in
     let args = root .args in
-    let old = c .before .before .before .before .before .before .before .before .before .measure .last .1 .1 .0 in
-    let part = c .before .before .before .before .before .reverse .last .1 .1 .1 .0 in
-    let start = start-is (now (args .sheet)) (λ i. omega (arith, c .before .before .before .before .before .before .before .before .before .before .before .before .before .before .shared-slice-known .given i)) (root .pre .0 .0) (args .t) (root .pre .0 .1) (args .finals) (root .pre .0 .2) (args .n) (root .pre .1 .0) (root .pre .1 .1) old part (omega (arith, root .pre .1 .2, c .before .before .before .before .before .before .before .before .before .measure .kept .1 .1 .0)) (turned (c .before .before .before .before .before)) (c .before .if1 .left) in
+    let old = c .before .before .before .before .before .before .before .before .before .before .before .measure .last .1 .1 .0 in
+    let part = c .before .before .before .before .before .before .before .reverse .last .1 .1 .1 .0 in
+    let start = start-is (now (args .sheet)) (λ i. omega (arith, c .before .before .before .before .before .before .before .before .before .before .before .before .before .before .before .before .shared-slice-known .given i)) (root .pre .0 .0) (args .t) (root .pre .0 .1) (args .finals) (root .pre .0 .2) (args .n) (root .pre .1 .0) (root .pre .1 .1) old part (omega (arith, root .pre .1 .2, c .before .before .before .before .before .before .before .before .before .before .before .measure .kept .1 .1 .0)) (turned (c .before .before .before .before .before .before .before)) (reached (c .before)) in
     omega (arith, start .1)
 
 add-n-shortest-path : tie.Need-add-n-shortest-path
-add-n-shortest-path c = let f = few (c .before .before .before .before .before .before .before .before .before .before .before .before .before .before .before) in omega (arith, f .0, f .1, f .2, f .3, f .4)
+add-n-shortest-path c = let f = few (c .before .before .before .before .before .before .before .before .before .before .before .before .before .before .before .before .before) in omega (arith, f .0, f .1, f .2, f .3, f .4)
 
 n-shortest-path-requires : tie.Need-n-shortest-path-requires
 n-shortest-path-requires c κs =
-    let root = c .before .before .before .before .before .before .before .before .before .before .before .before .before .before .before .before in
+    let root = c .before .before .before .before .before .before .before .before .before .before .before .before .before .before .before .before .before .before in
     let args = root .args in
-    let old = c .before .before .before .before .before .before .before .before .before .before .measure .last .1 .1 .0 in
-    let part = c .before .before .before .before .before .before .reverse .last .1 .1 .1 .0 in
-    let there = c .before .before .if1 .left in
-    (begins (now (args .sheet)) (λ i. omega (arith, c .before .before .before .before .before .before .before .before .before .before .before .before .before .before .before .shared-slice-known .given i)) (root .pre .0 .0) (args .t) (root .pre .0 .1) (args .finals) (root .pre .0 .2) (args .n) (root .pre .1 .0) (root .pre .1 .1) old part (omega (arith, root .pre .1 .2, c .before .before .before .before .before .before .before .before .before .before .measure .kept .1 .1 .0)) (turned (c .before .before .before .before .before .before)) there, going (now (args .sheet)) (λ i. omega (arith, c .before .before .before .before .before .before .before .before .before .before .before .before .before .before .before .shared-slice-known .given i)) (root .pre .0 .0) (args .t) (root .pre .0 .1) (args .finals) (root .pre .0 .2) (args .n) (root .pre .1 .0) (root .pre .1 .1) old part (omega (arith, root .pre .1 .2, c .before .before .before .before .before .before .before .before .before .before .measure .kept .1 .1 .0)) (turned (c .before .before .before .before .before .before)) there)
+    let old = c .before .before .before .before .before .before .before .before .before .before .before .before .measure .last .1 .1 .0 in
+    let part = c .before .before .before .before .before .before .before .before .reverse .last .1 .1 .1 .0 in
+    let there = reached (c .before .before) in
+    (begins (now (args .sheet)) (λ i. omega (arith, c .before .before .before .before .before .before .before .before .before .before .before .before .before .before .before .before .before .shared-slice-known .given i)) (root .pre .0 .0) (args .t) (root .pre .0 .1) (args .finals) (root .pre .0 .2) (args .n) (root .pre .1 .0) (root .pre .1 .1) old part (omega (arith, root .pre .1 .2, c .before .before .before .before .before .before .before .before .before .before .before .before .measure .kept .1 .1 .0)) (turned (c .before .before .before .before .before .before .before .before)) there, going (now (args .sheet)) (λ i. omega (arith, c .before .before .before .before .before .before .before .before .before .before .before .before .before .before .before .before .before .shared-slice-known .given i)) (root .pre .0 .0) (args .t) (root .pre .0 .1) (args .finals) (root .pre .0 .2) (args .n) (root .pre .1 .0) (root .pre .1 .1) old part (omega (arith, root .pre .1 .2, c .before .before .before .before .before .before .before .before .before .before .before .before .measure .kept .1 .1 .0)) (turned (c .before .before .before .before .before .before .before .before)) there)
 
 cast-write-list : tie.Need-cast-write-list
 cast-write-list c = search needs
@@ -131,39 +138,39 @@ cast-write-list-2 c = search needs
 
 write-list-requires : tie.Need-write-list-requires
 write-list-requires c κs =
-    let root = c .before .before .before .before .before .before .before .before .before .before .before .before .before .before .before .before .before .before .before .before .before .before .before in
+    let root = c .before .before .before .before .before .before .before .before .before .before .before .before .before .before .before .before .before .before .before .before .before .before .before .before .before in
     let args = root .args in
-    let old = c .before .before .before .before .before .before .before .before .before .before .before .before .before .before .before .before .before .measure .last .1 .1 .0 in
-    let part = c .before .before .before .before .before .before .before .before .before .before .before .before .before .reverse .last .1 .1 .1 .0 in
+    let old = c .before .before .before .before .before .before .before .before .before .before .before .before .before .before .before .before .before .before .before .measure .last .1 .1 .0 in
+    let part = c .before .before .before .before .before .before .before .before .before .before .before .before .before .before .before .reverse .last .1 .1 .1 .0 in
     let heads = 8 * (1 + args .finals + args .n * (args .t .links + 1)) in
     let ended : Words = let p : Places = record { nodes = heads; links = heads + 8 * (args .t .nodes + 1); inputs = args .t .links; end = args .t .start + 1 } in afterW p (args .n) (args .t .links + args .finals) (1 + args .finals + args .n * (args .t .links + 1)) (begunW p part) in
     let made = c .before .before .before .before .before .before .n-shortest-path in
     let whole : _≡_ {A = Words} (record { part = made .last .0; counts = made .result }) ended = λ i. record { part = made .ensures .1 i; counts = made .ensures .0 i } in
     subst (λ (w : Words). Listable (now (args .sheet)) (args .t .links) (w .part) (w .counts .entries) (w .counts .listed)) (sym whole)
-    (listed-done (now (args .sheet)) (λ i. omega (arith, c .before .before .before .before .before .before .before .before .before .before .before .before .before .before .before .before .before .before .before .before .before .before .shared-slice-known .given i)) (root .pre .0 .0) (args .t) (root .pre .0 .1) (args .finals) (root .pre .0 .2) (args .n) (root .pre .1 .0) (root .pre .1 .1) old part (omega (arith, root .pre .1 .2, c .before .before .before .before .before .before .before .before .before .before .before .before .before .before .before .before .before .measure .kept .1 .1 .0)) (turned (c .before .before .before .before .before .before .before .before .before .before .before .before .before)) (c .before .before .before .before .before .before .before .before .before .if1 .left))
+    (listed-done (now (args .sheet)) (λ i. omega (arith, c .before .before .before .before .before .before .before .before .before .before .before .before .before .before .before .before .before .before .before .before .before .before .before .before .shared-slice-known .given i)) (root .pre .0 .0) (args .t) (root .pre .0 .1) (args .finals) (root .pre .0 .2) (args .n) (root .pre .1 .0) (root .pre .1 .1) old part (omega (arith, root .pre .1 .2, c .before .before .before .before .before .before .before .before .before .before .before .before .before .before .before .before .before .before .before .measure .kept .1 .1 .0)) (turned (c .before .before .before .before .before .before .before .before .before .before .before .before .before .before .before)) (reached (c .before .before .before .before .before .before .before .before .before)))
 
 same-length-3 : tie.Need-same-length-3
-same-length-3 c = search needs
+same-length-3 c = c .before .before .before .before .write-list .kept .1 .1 .0 ∙ c .before .before .before .before .before .before .before .before .before .before .before .n-shortest-path .kept .0 ∙ c .before .before .before .before .before .before .before .before .before .before .before .before .before .before .before .before .before .before .before .before .reverse .kept .1 .1 .1 .0 ∙ c .before .before .before .before .before .before .before .before .before .before .before .before .before .before .before .before .before .before .before .before .before .before .before .before .measure .kept .1 .1 .0
 
 same-length-4 : tie.Need-same-length-4
 same-length-4 c = search needs
 
 returns-2 : tie.Need-returns-2
 returns-2 c =
-    let root = c .before .before .before .before .before .before .before .before .before .before .before .before .before .before .before .before .before .before .before .before .before .before .before .before .before .before .before .before in
+    let root = c .before .before .before .before .before .before .before .before .before .before .before .before .before .before .before .before .before .before .before .before .before .before .before .before .before .before .before .before .before .before in
     let args = root .args in
-    let old = c .before .before .before .before .before .before .before .before .before .before .before .before .before .before .before .before .before .before .before .before .before .before .measure .last .1 .1 .0 in
-    let part = c .before .before .before .before .before .before .before .before .before .before .before .before .before .before .before .before .before .before .reverse .last .1 .1 .1 .0 in
+    let old = c .before .before .before .before .before .before .before .before .before .before .before .before .before .before .before .before .before .before .before .before .before .before .before .before .measure .last .1 .1 .0 in
+    let part = c .before .before .before .before .before .before .before .before .before .before .before .before .before .before .before .before .before .before .before .before .reverse .last .1 .1 .1 .0 in
     let heads = 8 * (1 + args .finals + args .n * (args .t .links + 1)) in
     let ended : Words = let p : Places = record { nodes = heads; links = heads + 8 * (args .t .nodes + 1); inputs = args .t .links; end = args .t .start + 1 } in afterW p (args .n) (args .t .links + args .finals) (1 + args .finals + args .n * (args .t .links + 1)) (begunW p part) in
     let made = c .before .before .before .before .before .before .before .before .before .before .before .n-shortest-path in
     let whole : _≡_ {A = Words} (record { part = made .last .0; counts = made .result }) ended = λ i. record { part = made .ensures .1 i; counts = made .ensures .0 i } in
-    let there = c .before .before .before .before .before .before .before .before .before .before .before .before .before .before .if1 .left in
+    let there = reached (c .before .before .before .before .before .before .before .before .before .before .before .before .before .before) in
     let long = length (now (args .result)) in (
       c .before .before .before .before .write-list .ensures .0 ∙ ap (λ (w : Words). listAnswer (w .counts .listed) (keptCount (w .counts .entries) (w .counts .listed) (w .part)) (w .counts .taken) long) whole
-          ∙ answers (now (args .sheet)) (λ i. omega (arith, c .before .before .before .before .before .before .before .before .before .before .before .before .before .before .before .before .before .before .before .before .before .before .before .before .before .before .before .shared-slice-known .given i)) (root .pre .0 .0) (args .t) (root .pre .0 .1) (args .finals) (root .pre .0 .2) (args .n) (root .pre .1 .0) (root .pre .1 .1) old part (omega (arith, root .pre .1 .2, c .before .before .before .before .before .before .before .before .before .before .before .before .before .before .before .before .before .before .before .before .before .before .measure .kept .1 .1 .0)) (turned (c .before .before .before .before .before .before .before .before .before .before .before .before .before .before .before .before .before .before)) there long,
+          ∙ answers (now (args .sheet)) (λ i. omega (arith, c .before .before .before .before .before .before .before .before .before .before .before .before .before .before .before .before .before .before .before .before .before .before .before .before .before .before .before .before .before .shared-slice-known .given i)) (root .pre .0 .0) (args .t) (root .pre .0 .1) (args .finals) (root .pre .0 .2) (args .n) (root .pre .1 .0) (root .pre .1 .1) old part (omega (arith, root .pre .1 .2, c .before .before .before .before .before .before .before .before .before .before .before .before .before .before .before .before .before .before .before .before .before .before .before .before .measure .kept .1 .1 .0)) (turned (c .before .before .before .before .before .before .before .before .before .before .before .before .before .before .before .before .before .before .before .before)) there long,
       c .before .before .before .before .write-list .ensures .1 .1 ∙ ap (λ (w : Words). listAfter (now (args .sheet)) (args .t .links) (w .part) (w .counts .entries) (w .counts .listed) (now (args .result))) whole
-          ∙ leaves (now (args .sheet)) (λ i. omega (arith, c .before .before .before .before .before .before .before .before .before .before .before .before .before .before .before .before .before .before .before .before .before .before .before .before .before .before .before .shared-slice-known .given i)) (root .pre .0 .0) (args .t) (root .pre .0 .1) (args .finals) (root .pre .0 .2) (args .n) (root .pre .1 .0) (root .pre .1 .1) old part (omega (arith, root .pre .1 .2, c .before .before .before .before .before .before .before .before .before .before .before .before .before .before .before .before .before .before .before .before .before .before .measure .kept .1 .1 .0)) (turned (c .before .before .before .before .before .before .before .before .before .before .before .before .before .before .before .before .before .before)) there (now (args .result)),
+          ∙ leaves (now (args .sheet)) (λ i. omega (arith, c .before .before .before .before .before .before .before .before .before .before .before .before .before .before .before .before .before .before .before .before .before .before .before .before .before .before .before .before .before .shared-slice-known .given i)) (root .pre .0 .0) (args .t) (root .pre .0 .1) (args .finals) (root .pre .0 .2) (args .n) (root .pre .1 .0) (root .pre .1 .1) old part (omega (arith, root .pre .1 .2, c .before .before .before .before .before .before .before .before .before .before .before .before .before .before .before .before .before .before .before .before .before .before .before .before .measure .kept .1 .1 .0)) (turned (c .before .before .before .before .before .before .before .before .before .before .before .before .before .before .before .before .before .before .before .before)) there (now (args .result)),
     )
 
 pub list-many-spec : {M : Type 1} → statement M
@@ -182,8 +189,8 @@ list-many-spec =
     add-chains-2
     measure-requires
     reverse-requires
-    mul-if1
-    slice-read-if1
+    distance-at-requires
+    is-reached-requires
     put-none-requires
     same-length
     same-length-2

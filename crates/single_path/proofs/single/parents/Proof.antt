@@ -62,8 +62,8 @@ word-requires c κs = omega (arith, fields (c .before) .laid-out)
 sub-l : tie.Need-sub-l Inv-loop μ-loop
 sub-l c = omega (arith, fall c .0)
 
-parent-links-requires : tie.Need-parent-links-requires Inv-loop μ-loop
-parent-links-requires c κs =
+parent-node-requires : tie.Need-parent-node-requires Inv-loop μ-loop
+parent-node-requires c κs =
     let root = c .before .before .before .before .before .before in
     let turn = c .before .before .before .loop in
     let r = fields (c .before .before .before) in
@@ -80,7 +80,7 @@ loop-again : tie.Need-loop-again Inv-loop μ-loop
 loop-again c =
     let args = c .before .before .before .before .before .before .before .before .before .args in
     let turn = c .before .before .before .before .before .before .loop in
-    let call = c .before .before .parent-links in
+    let call = c .before .before .parent-node in
     let bytes = now (args .sheet) in
     let count = c .before .before .before .before .word in
     let first : turn .l - count .result ≡ firstLink bytes (args .t .links) (turn .v - 1) = omega (arith, fall (c .before .before .before .before) .0) in (
@@ -115,7 +115,7 @@ parents-spec =
     add-word
     word-requires
     sub-l
-    parent-links-requires
+    parent-node-requires
     loop-less
     loop-again
     same-length

@@ -4,6 +4,7 @@ use lib.Dec.{eqb, lit≤}
 use lib.Ieee.{binary32, add, ofBits}
 use denote.Ref.{now}
 use borrow.Author.Tests.{eq-eqb, ne-eqb}
+use Rattle.distance.specs.Held.{weightIn}
 use Rattle.single_path.proofs.WayTurns.{total-none, total-some}
 use borrow.Author.Needs.{needs}
 use Rattle.single_path.proofs.single.total_at.Statement.{statement}
@@ -32,17 +33,11 @@ returns c =
     let args = c .before .before .before .before .before .args in
     c .zero .ensures 6 (lit≤ tt) ∙ total-none (now (args .sheet)) (args .links) (now (args .work)) (args .v) (ap (λ (x : ℕ). eqb x 1) (sym (c .before .before .word .ensures)) ∙ ne-eqb _ _ (c .before .if1 .taken))
 
-mul-from-bits : tie.Need-mul-from-bits
-mul-from-bits c = search needs
+mul-distance-at : tie.Need-mul-distance-at
+mul-distance-at c = search needs
 
-mul-from-bits-2 : tie.Need-mul-from-bits-2
-mul-from-bits-2 c = search needs
-
-shared-slice-read-from-bits : tie.Need-shared-slice-read-from-bits
-shared-slice-read-from-bits c = search needs
-
-from-bits-requires : tie.Need-from-bits-requires
-from-bits-requires c κs = search needs
+distance-at-requires : tie.Need-distance-at-requires
+distance-at-requires c κs = search needs
 
 add-word-2 : tie.Need-add-word-2
 add-word-2 c = search needs
@@ -50,8 +45,11 @@ add-word-2 c = search needs
 word-requires-2 : tie.Need-word-requires-2
 word-requires-2 c κs = search needs
 
-from-bits-requires-2 : tie.Need-from-bits-requires-2
-from-bits-requires-2 c κs = search needs
+from-bits-requires : tie.Need-from-bits-requires
+from-bits-requires c κs = search needs
+
+as-weight-requires : tie.Need-as-weight-requires
+as-weight-requires c κs = search needs
 
 times-requires : tie.Need-times-requires
 times-requires c κs = search needs
@@ -59,9 +57,12 @@ times-requires c κs = search needs
 returns-2 : tie.Need-returns-2
 returns-2 c =
     let args = c .before .before .before .before .before .before .before .before .before .args in
+    let mark = c .before .before .before .before .before .before .word in
+    let weight = c .before .as-weight .ensures ∙ ap weightIn (c .before .before .before .before .distance-at .ensures) in
+    let final = c .before .before .from-bits .ensures ∙ ap (ofBits binary32) (c .before .before .before .word2 .ensures) in
     c .times .ensures .same
-    ∙ (λ i. add binary32 (c .before .before .before .from-bits .ensures i) ((c .before .from-bits2 .ensures ∙ ap (ofBits binary32) (c .before .before .word2 .ensures)) i))
-    ∙ total-some (now (args .sheet)) (args .links) (now (args .work)) (args .v) (ap (λ (x : ℕ). eqb x 1) (sym (c .before .before .before .before .before .before .word .ensures)) ∙ eq-eqb _ _ (c .before .before .before .before .before .if1 .left))
+    ∙ (λ i. add binary32 (weight i) (final i))
+    ∙ total-some (now (args .sheet)) (args .links) (now (args .work)) (args .v) (ap (λ (x : ℕ). eqb x 1) (sym (mark .ensures)) ∙ eq-eqb _ _ (c .before .before .before .before .before .if1 .left))
 
 pub total-at-spec : {M : Type 1} → statement M
 total-at-spec =
@@ -74,12 +75,11 @@ total-at-spec =
     word-requires
     zero-requires
     returns
-    mul-from-bits
-    mul-from-bits-2
-    shared-slice-read-from-bits
-    from-bits-requires
+    mul-distance-at
+    distance-at-requires
     add-word-2
     word-requires-2
-    from-bits-requires-2
+    from-bits-requires
+    as-weight-requires
     times-requires
     returns-2)
