@@ -5,7 +5,7 @@ use mathlib.Core.List.{List, [], _∷_}
 use Prim.Native.Nat.{ℕ, _+_}
 use lib.Dec.{eqb}
 use lib.Ieee as Ieee
-use lib.Ieee.{Float, binary32, lt, eq, ofBits, toBits}
+use lib.Ieee.{Float, binary32, lt, ofBits, toBits}
 use lib.ListN.{getD, set}
 use Rattle.tropical_weight.specs.Limits.{unit}
 use Rattle.tropical_weight.specs.Grid.{ofK}
@@ -30,11 +30,6 @@ distanceFrom w = cond (lt w (Ieee.inf false)) (Reached w) Unreached
 abbrev pub reachedIn : Distance → Bool
 reachedIn (Reached cost) = true
 reachedIn Unreached = false
-
--- whether it is reached at just this cost
-abbrev pub attainedBy : Distance → Float → Bool
-attainedBy (Reached cost) offer = eq offer cost
-attainedBy Unreached offer = false
 
 -- ---- its two words
 abbrev pub markIn : Distance → ℕ

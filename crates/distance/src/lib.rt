@@ -5,7 +5,7 @@ ghost use Prim.Native.Nat.{_+_, _≤_, _<_};
 ghost use lib.ListN.{length};
 ghost use lib.Seq.{sets};
 ghost use Rattle.sheet.specs.Words.{bytesOfAll};
-ghost use Rattle.distance.specs.Held.{weightIn, distanceFrom, reachedIn, attainedBy};
+ghost use Rattle.distance.specs.Held.{weightIn, distanceFrom, reachedIn};
 ghost use Rattle.distance.specs.Held.{markIn, bitsIn, wordsIn, distanceIn, withDistance};
 use sheet::words::put_words;
 
@@ -43,16 +43,6 @@ pub fn is_reached(d: Distance) -> bool
 {
     match d {
         Distance::Reached(_) => true,
-        Distance::Unreached => false,
-    }
-}
-
-// Whether it is reached at just this cost: sums are exact.
-pub fn attained_by(d: Distance, offer: f32) -> bool
-    ensures { λ r. ⌜ r ≡ attainedBy d offer ⌝ }
-{
-    match d {
-        Distance::Reached(cost) => offer == cost,
         Distance::Unreached => false,
     }
 }

@@ -25,7 +25,7 @@ use Rattle.machine.proofs.Sums.{plusAll-le, plusAll-in, plusAll-append}
 use Rattle.machine.proofs.Runs.{at-some}
 use Rattle.machine.proofs.Relax.{rowAt, distOver, more-runs, same-runs, row-is, source-settled}
 use Rattle.machine.proofs.Reached.{finite-reached, reached-above}
-use Rattle.machine.proofs.Parents.{Lowest, lowest-is, lowest-found, attains-eq, eq-attains}
+use Rattle.machine.proofs.Parents.{Lowest, lowest-is, lowest-found, finite, attains-eq, eq-attains}
 
 -- ---- tests
 lowest-none : (n : ℕ) (p : ℕ → Bool) → ((k : ℕ) → k < n → p k ≡ false) → lowest n p ≡ none
@@ -55,10 +55,6 @@ attains-inf inf = refl
 below-inf : (a b : Tropical) → ltT a b ≡ true → ltT a inf ≡ true
 below-inf (fin a) b e = refl
 below-inf inf b e = e
-
-finite : (a : Tropical) → ltT a inf ≡ true → (k : ℤ) × (a ≡ fin k)
-finite (fin a) e = (a, refl)
-finite inf e = absurd (not-both e refl)
 
 not-less : (a b : Tropical) → b ≼ a → ltT a b ≡ true → ⊥
 not-less a b h e = not-both e (ltT-not a b ∙ ap not (is-true (leT b a) (h .le)))

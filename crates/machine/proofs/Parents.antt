@@ -63,6 +63,11 @@ pub term : (a b : Tropical) (k : ℤ) → a ⊗ b ≡ fin k → (j : ℤ) × (a 
 term (fin a) b k e = (a, refl)
 term inf b k e = absurd (infinite refl e)
 
+-- what comes before infinity is finite
+pub finite : (a : Tropical) → ltT a inf ≡ true → (k : ℤ) × (a ≡ fin k)
+finite (fin k) e = (k, refl)
+finite inf e = absurd (not-both e refl)
+
 marked : (a : Tropical) (o : Option Tropical) (k : ℤ) → a ⊗ finalWeight o ≡ fin k → (w : Tropical) × (o ≡ some w)
 marked a none k e = absurd (infinite (⊗-zero a) e)
 marked a (some w) k e = (w, refl)
@@ -91,6 +96,23 @@ module _ (m : Machine) where
       let x = lowest-found (length (m .links)) (passes v) j h (is-passes v j k e p q) in
       let y = passes-is v (x .0) (x .2 .1) in
       (x .0, x .1, record { inside = x .2 .0; into = y .0; sum = y .1; first = λ i b f g. not-both (is-passes v i k e f g) (x .2 .2 i b) })
+
+  -- the parent is one, of a finite distance
+  pub parent-is : (v l : ℕ) → parent m v ≡ some l → Parent v l × ((k : ℤ) × (dist m v ≡ fin k))
+  unfolding parent
+  parent-is v l e =
+      let x = subst (Lowest (length (m .links)) (passes v)) e (lowest-is (length (m .links)) (passes v)) in
+      let y = passes-is v l (x .1) in
+      let k = finite (dist m v) (both (ltT (dist m v) inf) (eqT (via m l) (dist m v)) (both (eqb (link m l .next) v) (attains (dist m v) (via m l)) (x .1) .1) .0) in
+      (record { inside = x .0; into = y .0; sum = y .1; first = λ i b f g. not-both (is-passes v i (k .0) (k .1) f g) (x .2 i b) }, k)
+
+  -- an unreached node has none
+  pub parent-none : (v : ℕ) → dist m v ≡ inf → parent m v ≡ none
+  parent-none v e = go (parent m v) refl
+    where
+      go : (o : Option ℕ) → parent m v ≡ o → o ≡ none
+      go none q = refl
+      go (some l) q = absurd (infinite e (parent-is v l q .1 .1))
 
   -- ---- the end attains the least total, which no lower node does
   pub record End (v : ℕ) : Type 0 where

@@ -3,7 +3,7 @@ use mathlib.Core.Path.{_≡_, refl, sym, ap, _∙_, subst}
 use mathlib.Core.List.{List}
 use Prim.Native.Nat.{ℕ, suc, _+_, _≤_, _<_}
 use lib.ListN.{length}
-use Rattle.tropical_weight.specs.Limits.{nodeLimit}
+use Rattle.tropical_weight.specs.Limits.{nodeLimit, linkLimit}
 use Rattle.sheet.specs.Below.{sumBelow}
 use Rattle.sheet.specs.Sheet.{partsOf, statedLinks, statedNodes}
 use Rattle.sheet.specs.Machine.{machineOf}
@@ -36,6 +36,7 @@ module _ (bytes : List ℕ) (accepted : inputNumber bytes ≡ 0) where
     climbs = f .climbs;
     small = f .small;
     few = subst (λ (n : ℕ). n ≤ nodeLimit) (sym nodes-are) (f .few-nodes);
+    few-links = subst (λ (n : ℕ). n ≤ linkLimit) (sym links-are) (f .few-links);
     total = ap (λ (n : ℕ). sumBelow n (countAt bytes (statedLinks bytes))) nodes-are ∙ f .counted ∙ sym links-are;
     source-at = λ v l h a b. f .source-at v l (in-nodes v h) a (subst (λ (n : ℕ). l < n) (next-first v) b);
     next-at = λ l h. f .next-at l (in-links l h);

@@ -17,7 +17,10 @@ use Rattle.machine.specs.Distance as Named
 use Rattle.distance.specs.declared.Distance.the-variants.{Unreached}
 use Rattle.distance.specs.Held.{reachedIn, wordsIn, withDistance}
 use Rattle.distance.proofs.Words.{same-words, put-back, put-word, put-drop, put-length}
+use Rattle.shortest_distance.specs.declared.parent.Parent.the-variants.{None}
+use Rattle.shortest_distance.specs.ParentWords.{parentAt, parentStored}
 use Rattle.shortest_distance.specs.NodeSlots.{distanceAt, firstWord, prepared, heightIn, distanceWords}
+use Rattle.shortest_distance.proofs.ParentWords.{same-parent, stored-word, stored-length, stored-drop, stored-distance, none-back}
 
 -- ---- slots set up
 pub length-prepared : (bytes : List ℕ) (links n : ℕ) (work : List ℕ) → length (prepared bytes links n work) ≡ length work
@@ -27,7 +30,7 @@ length-prepared bytes links (suc v) work = simp length-set (length-prepared byte
 
 -- one slot more
 pub prepared-next : (bytes : List ℕ) (links v : ℕ) (work : List ℕ)
-    → prepared bytes links (v + 1) work ≡ set (withDistance (prepared bytes links v work) (8 * v) Unreached) (8 * v + 4) (sumBelow v (countAt bytes links))
+    → prepared bytes links (v + 1) work ≡ set (parentStored (withDistance (prepared bytes links v work) (8 * v) Unreached) v None) (8 * v + 4) (sumBelow v (countAt bytes links))
 unfolding prepared
 prepared-next bytes links v work = ap (λ (k : ℕ). prepared bytes links k work) (add-one v)
 
@@ -37,12 +40,13 @@ prepared-other : (bytes : List ℕ) (links v : ℕ) (work : List ℕ) (i : ℕ) 
 unfolding prepared
 prepared-other bytes links v work i h =
     let p = prepared bytes links v work in
-    getD-set-other (withDistance p (8 * v) Unreached) (8 * v + 4) i (sumBelow v (countAt bytes links)) 0 (λ e. omega arith)
+    getD-set-other (parentStored (withDistance p (8 * v) Unreached) v None) (8 * v + 4) i (sumBelow v (countAt bytes links)) 0 (λ e. omega arith)
+    ∙ stored-word (withDistance p (8 * v) Unreached) v None i (λ e. omega arith) (λ e. omega arith)
     ∙ put-word p (8 * v) Unreached i (λ e. omega arith) (λ e. omega arith)
 
 -- slot v is set up
 abbrev SetUp : List ℕ → ℕ → List ℕ → ℕ → Type 0
-SetUp bytes links work v = (distanceAt work v ≡ Unreached) × (firstWord work v ≡ sumBelow v (countAt bytes links))
+SetUp bytes links work v = (distanceAt work v ≡ Unreached) × (parentAt work v ≡ None) × (firstWord work v ≡ sumBelow v (countAt bytes links))
 
 pub prepared-words : (bytes : List ℕ) (links n : ℕ) (work : List ℕ) (v : ℕ) → v < n → 8 * n ≤ length work → SetUp bytes links (prepared bytes links n work) v
 unfolding prepared
@@ -52,8 +56,11 @@ prepared-words bytes links (suc n) work v h fits = go (eq-or-lt-of-le (let k : v
     p : List ℕ
     p = prepared bytes links n work
 
+    put : List ℕ
+    put = withDistance p (8 * n) Unreached
+
     named : List ℕ
-    named = withDistance p (8 * n) Unreached
+    named = parentStored put n None
 
     first : ℕ
     first = sumBelow n (countAt bytes links)
@@ -64,12 +71,16 @@ prepared-words bytes links (suc n) work v h fits = go (eq-or-lt-of-le (let k : v
     go : (v ≡ n) ⊎ (v < n) → (v < n → SetUp bytes links p v) → SetUp bytes links (prepared bytes links (suc n) work) v
     go (inl e) r = subst (SetUp bytes links (prepared bytes links (suc n) work)) (sym e) (
       same-words (set named (8 * n + 4) first) named (8 * n) (8 * n) (beside (8 * n) (omega arith)) (beside (8 * n + 1) (omega arith))
+          ∙ stored-distance put n None n
           ∙ put-back p (8 * n) Named.unreached (omega (arith, length-prepared bytes links n work)),
-      getD-set-same named (8 * n + 4) first 0 (omega (arith, put-length p (8 * n) Unreached, length-prepared bytes links n work)),
+      same-parent (set named (8 * n + 4) first) named n (beside (8 * n + 2) (omega arith)) (beside (8 * n + 3) (omega arith))
+          ∙ none-back put n (omega (arith, put-length p (8 * n) Unreached, length-prepared bytes links n work)),
+      getD-set-same named (8 * n + 4) first 0 (omega (arith, stored-length put n None, put-length p (8 * n) Unreached, length-prepared bytes links n work)),
     )
     go (inr l) r = (
       same-words (prepared bytes links (suc n) work) p (8 * v) (8 * v) (prepared-other bytes links n work (8 * v) (omega arith)) (prepared-other bytes links n work (8 * v + 1) (omega arith)) ∙ r l .0,
-      prepared-other bytes links n work (8 * v + 4) (omega arith) ∙ r l .1,
+      same-parent (prepared bytes links (suc n) work) p v (prepared-other bytes links n work (8 * v + 2) (omega arith)) (prepared-other bytes links n work (8 * v + 3) (omega arith)) ∙ r l .1,
+      prepared-other bytes links n work (8 * v + 4) (omega arith) ∙ r l .2,
     )
 
 -- ---- what lies beyond the slots
@@ -78,7 +89,8 @@ unfolding prepared
 beyond bytes links zero work k h = refl
 beyond bytes links (suc v) work k h =
     let p = prepared bytes links v work in
-    drop-set-lt k (withDistance p (8 * v) Unreached) (8 * v + 4) (sumBelow v (countAt bytes links)) (omega arith)
+    drop-set-lt k (parentStored (withDistance p (8 * v) Unreached) v None) (8 * v + 4) (sumBelow v (countAt bytes links)) (omega arith)
+    ∙ stored-drop (withDistance p (8 * v) Unreached) v None k (omega arith)
     ∙ put-drop p (8 * v) Unreached k (omega arith)
     ∙ beyond bytes links v work k (omega arith)
 

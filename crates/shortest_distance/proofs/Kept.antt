@@ -23,11 +23,15 @@ use Rattle.distance.specs.declared.Distance.the-variants.{Reached}
 use Rattle.distance.specs.Held.{weightIn, withDistance}
 use Rattle.distance.specs.Offer.{improves, reaches}
 use Rattle.distance.proofs.Words.{put-word, put-length}
+use Rattle.shortest_distance.specs.declared.parent.Parent.{Parent}
+use Rattle.shortest_distance.specs.declared.parent.Parent.the-variants.{By}
+use Rattle.shortest_distance.specs.ParentWords.{parentStored}
 use Rattle.shortest_distance.specs.NodeSlots.{distanceAt, firstWord}
-use Rattle.shortest_distance.specs.Relaxation.{State, relaxLink, relaxLinks, relaxHead, relaxHeads}
+use Rattle.shortest_distance.specs.Relaxation.{State, takenWords, relaxLink, relaxLinks, relaxHead, relaxHeads}
 use Rattle.shortest_distance.specs.Sound.{Sound}
+use Rattle.shortest_distance.proofs.ParentWords.{stored-length, stored-first}
 
--- distances are stored at words 0 and 1 of slots, first links at words 4
+-- distances are stored at words 0 and 1 of slots, parents at words 2 and 3, first links at words 4
 first-kept : (work : List ℕ) (u v : ℕ) (d : Distance) → firstWord (withDistance work (8 * u) d) v ≡ firstWord work v
 first-kept work u v d = put-word work (8 * u) d (8 * v + 4) (λ e. omega arith) (λ e. omega arith)
 
@@ -69,36 +73,56 @@ module _ (bytes : List ℕ) (links nodes : ℕ) where
     held = h .held;
   }
 
-  pub link-kept : (k : Link) (distance : Float) (s : State) → k .nextstate < nodes → Kept s → Kept (relaxLink k distance s)
-  link-kept k distance s l h = store (improves (distanceAt (s .work) (k .nextstate)) distance (k .weight))
+  -- a parent stored
+  parent-kept : (work : List ℕ) (q : Queue) (v : ℕ) (p : Parent) → Sound bytes links nodes work q → Sound bytes links nodes (parentStored work v p) q
+  parent-kept work q v p h = record {
+    laid-out = h .laid-out;
+    slots = omega (arith, h .slots, stored-length work v p);
+    few = h .few;
+    counted = h .counted;
+    inside = h .inside;
+    firsts = λ u l. stored-first work v p u ∙ h .firsts u l;
+    full = h .full;
+    valid = h .valid;
+    held = h .held;
+  }
+
+  pub link-kept : (k : Link) (l v : ℕ) (distance : Float) (s : State) → k .nextstate < nodes → Kept s → Kept (relaxLink k l v distance s)
+  link-kept k l v distance s b h = store (improves (distanceAt (s .work) (k .nextstate)) distance (k .weight))
     where
-      new : Distance
-      new = Reached (add binary32 distance (k .weight))
+      offer : Float
+      offer = add binary32 distance (k .weight)
 
       first : Bool
       first = reaches (distanceAt (s .work) (k .nextstate)) distance (k .weight)
 
       put : (b : Bool) → Sound bytes links nodes (s .work) (cond b (enqueued (s .queue) (k .nextstate)) (s .queue))
-      put true = put-kept (s .work) (s .queue) (k .nextstate) l h
+      put true = put-kept (s .work) (s .queue) (k .nextstate) b h
       put false = h
 
-      store : (b : Bool) → Sound bytes links nodes (cond b (withDistance (s .work) (8 * k .nextstate) new) (s .work)) (cond first (enqueued (s .queue) (k .nextstate)) (s .queue))
-      store true = store-kept (s .work) (cond first (enqueued (s .queue) (k .nextstate)) (s .queue)) (k .nextstate) new (put first)
+      after : Queue
+      after = cond first (enqueued (s .queue) (k .nextstate)) (s .queue)
+
+      store : (b : Bool) → Sound bytes links nodes (cond b (takenWords (k .nextstate) offer l v (s .work)) (s .work)) after
+      store true =
+          parent-kept (withDistance (s .work) (8 * k .nextstate) (Reached offer)) after (k .nextstate) (By l v)
+          (store-kept (s .work) after (k .nextstate) (Reached offer) (put first))
       store false = put first
 
-  pub links-kept : (first : ℕ) (distance : Float) (n : ℕ) (s : State) → first + n ≤ links → Kept s → Kept (relaxLinks bytes first distance n s)
+  pub links-kept : (first v : ℕ) (distance : Float) (n : ℕ) (s : State) → first + n ≤ links → Kept s → Kept (relaxLinks bytes first v distance n s)
   unfolding relaxLinks
-  links-kept first distance zero s l h = h
-  links-kept first distance (suc n) s l h = link-kept (linkAt bytes (first + n)) distance (relaxLinks bytes first distance n s) (h .inside (first + n) (omega arith)) (links-kept first distance n s (omega arith) h)
+  links-kept first v distance zero s l h = h
+  links-kept first v distance (suc n) s l h =
+      link-kept (linkAt bytes (first + n)) (first + n) v distance (relaxLinks bytes first v distance n s) (h .inside (first + n) (omega arith)) (links-kept first v distance n s (omega arith) h)
 
   -- the loop's turn: one link more
-  pub link-again : (first : ℕ) (distance : Float) (i : ℕ) (s t : State) → first + i < links → Kept t → t ≡ relaxLinks bytes first distance i s
-      → (k : Link) → k ≡ linkAt bytes (first + i) → (u : State) → u ≡ relaxLink k distance t → Kept u × (u ≡ relaxLinks bytes first distance (i + 1) s)
+  pub link-again : (first v : ℕ) (distance : Float) (i : ℕ) (s t : State) → first + i < links → Kept t → t ≡ relaxLinks bytes first v distance i s
+      → (k : Link) → k ≡ linkAt bytes (first + i) → (u : State) → u ≡ relaxLink k (first + i) v distance t → Kept u × (u ≡ relaxLinks bytes first v distance (i + 1) s)
   unfolding relaxLinks
-  link-again first distance i s t l h e k r u m =
-      let made = m ∙ ap (λ (x : Link). relaxLink x distance t) r in (
-        subst Kept (sym made) (link-kept (linkAt bytes (first + i)) distance t (h .inside (first + i) l) h),
-        made ∙ ap (relaxLink (linkAt bytes (first + i)) distance) e ∙ sym (ap (λ (n : ℕ). relaxLinks bytes first distance n s) (add-one i)),
+  link-again first v distance i s t l h e k r u m =
+      let made = m ∙ ap (λ (x : Link). relaxLink x (first + i) v distance t) r in (
+        subst Kept (sym made) (link-kept (linkAt bytes (first + i)) (first + i) v distance t (h .inside (first + i) l) h),
+        made ∙ ap (relaxLink (linkAt bytes (first + i)) (first + i) v distance) e ∙ sym (ap (λ (n : ℕ). relaxLinks bytes first v distance n s) (add-one i)),
       )
 
   -- ---- a head
@@ -127,14 +151,14 @@ module _ (bytes : List ℕ) (links nodes : ℕ) where
         omega (arith, h .firsts v front-below, sum-mono (countAt bytes links) nodes (suc v) front-below, h .counted)
 
     pub head-kept : Kept (relaxHead bytes links s)
-    head-kept = links-kept (firstWord (s .work) (s .queue .front)) (weightIn (distanceAt (s .work) (s .queue .front))) (countAt bytes links (s .queue .front)) (record { work = s .work; queue = dequeued (s .queue) }) head-links head-taken
+    head-kept = links-kept (firstWord (s .work) (s .queue .front)) (s .queue .front) (weightIn (distanceAt (s .work) (s .queue .front))) (countAt bytes links (s .queue .front)) (record { work = s .work; queue = dequeued (s .queue) }) head-links head-taken
 
 -- ---- heads one after the other, as the loop takes them
 module _ (bytes : List ℕ) (links : ℕ) (s : State) where
   -- a head's links relaxed, by what the calls answer
   pub head-made : (distance : Float) (count : ℕ) (q : Queue) → distance ≡ weightIn (distanceAt (s .work) (s .queue .front)) → count ≡ countAt bytes links (s .queue .front) → q ≡ dequeued (s .queue)
-      → (t : State) → t ≡ relaxLinks bytes (firstWord (s .work) (s .queue .front)) distance count (record { work = s .work; queue = q }) → t ≡ relaxHead bytes links s
-  head-made distance count q d n e t h = h ∙ λ i. relaxLinks bytes (firstWord (s .work) (s .queue .front)) (d i) (n i) (record { work = s .work; queue = e i })
+      → (t : State) → t ≡ relaxLinks bytes (firstWord (s .work) (s .queue .front)) (s .queue .front) distance count (record { work = s .work; queue = q }) → t ≡ relaxHead bytes links s
+  head-made distance count q d n e t h = h ∙ λ i. relaxLinks bytes (firstWord (s .work) (s .queue .front)) (s .queue .front) (d i) (n i) (record { work = s .work; queue = e i })
 
   pub heads-none : relaxHeads bytes links 0 s ≡ s
   unfolding relaxHeads

@@ -1,3 +1,4 @@
+pub mod ParentWords
 pub mod Areas
 pub mod Turns
 pub mod Kept

@@ -1,4 +1,4 @@
--- Distances made from an accepted sheet, with a start and without. Assumes nothing.
+-- Distances and parents made from an accepted sheet, with a start and without. Assumes nothing.
 use mathlib.Core.Path.{_≡_, refl, sym, ap, _∙_, subst}
 use mathlib.Core.Bool.{Bool, true, false, _||_, cond}
 use mathlib.Core.Option.{none, some}
@@ -10,6 +10,7 @@ use lib.Dec.{eqb}
 use lib.ListN.{length, drop}
 use borrow.Author.Tests.{le-ltb, ne-eqb}
 use Rattle.tropical_weight.specs.Limits.{nodeLimit}
+use Rattle.tropical_weight.specs.Tropical.{inf}
 use Rattle.sheet.specs.Below.{sumBelow}
 use Rattle.sheet.specs.Words.{word}
 use Rattle.sheet.specs.declared.tr.Trailer.{Trailer}
@@ -18,14 +19,16 @@ use Rattle.sheet.specs.Sheet.{partsOf, noStart, nodeCount, trailerField, stated
 use Rattle.sheet.specs.Machine.{machineOf, machine}
 use Rattle.sheet.proofs.Fields.{read-fields}
 use Rattle.sheet.proofs.Sources.{machine-nodes}
-use Rattle.machine.specs.Distance.{distanceOf, isReached}
+use Rattle.machine.specs.Distance.{distanceOf, dist, isReached}
 use Rattle.machine.specs.Input.{inputNumber}
 use Rattle.machine.proofs.Accepted.{passes, input-read, next-at, few-nodes}
 use Rattle.machine.proofs.Testing.{in-sheet, counts-total}
 use Rattle.machine.proofs.Reached.{reached-none, unreached-inf}
+use Rattle.machine.proofs.Parents.{parent-none}
 use Rattle.state_order_queue.specs.declared.Queue.{Queue}
 use Rattle.state_order_queue.specs.Queues.{emptied, enqueued}
 use Rattle.distance.specs.Held.{held, withDistance}
+use Rattle.shortest_distance.specs.ParentWords.{parentFrom}
 use Rattle.shortest_distance.specs.NodeSlots.{prepared}
 use Rattle.shortest_distance.specs.Relaxation.{State, relaxHeads}
 use Rattle.shortest_distance.specs.Sound.{Sound, Made}
@@ -64,11 +67,17 @@ module _ (bytes old : List ℕ) (e : inputNumber bytes ≡ 0) (room : 8 * stated
         go true q = absurd (reached-none (machine bytes) (reads bytes e .climbs) v no-start q)
         go false q = refl
 
+    infinite : (v : ℕ) → dist (machine bytes) v ≡ inf
+    infinite v = unreached-inf (machine bytes) (reads bytes e .climbs) v (unreached v)
+
     made-none : Made bytes old (prepared bytes (statedLinks bytes) (statedNodes bytes) old)
     made-none = record {
       each = λ v b.
           prepared-words bytes (statedLinks bytes) (statedNodes bytes) old v (subst (λ (n : ℕ). v < n) (read-fields bytes .nodes-are) b) room .0
-          ∙ sym (ap (λ w. held (distanceOf w)) (unreached-inf (machine bytes) (reads bytes e .climbs) v (unreached v)));
+          ∙ sym (ap (λ w. held (distanceOf w)) (infinite v));
+      parents = λ v b.
+          prepared-words bytes (statedLinks bytes) (statedNodes bytes) old v (subst (λ (n : ℕ). v < n) (read-fields bytes .nodes-are) b) room .1
+          ∙ sym (ap (parentFrom (machine bytes)) (parent-none (machine bytes) v (infinite v)));
       size = length-prepared bytes (statedLinks bytes) (statedNodes bytes) old;
       beyond = ap (λ (n : ℕ). drop (8 * n) (prepared bytes (statedLinks bytes) (statedNodes bytes) old)) (read-fields bytes .nodes-are) ∙ prepared-beyond bytes (statedLinks bytes) (statedNodes bytes) old ∙ sym (ap (λ (n : ℕ). drop (8 * n) old) (read-fields bytes .nodes-are));
     }
@@ -99,7 +108,7 @@ module _ (bytes old : List ℕ) (e : inputNumber bytes ≡ 0) (room : 8 * stated
       few = few;
       counted = counted;
       inside = λ l b. subst (λ (n : ℕ). word bytes (16 * l + 12) < n) (read-fields bytes .nodes-are) (subst (λ (n : ℕ). n < nodeCount (partsOf bytes)) (read-fields bytes .next-is l b) (next-at (partsOf bytes) (passes bytes e) l (subst (λ (n : ℕ). l < n) (sym (read-fields bytes .links-are)) b)));
-      firsts = λ v b. prepared-words bytes (statedLinks bytes) (statedNodes bytes) old v b room .1;
+      firsts = λ v b. prepared-words bytes (statedLinks bytes) (statedNodes bytes) old v b room .2;
       full = emptied-full;
       valid = emptied-valid;
       held = λ v q. absurd (not-both q (empty-exactly emptied emptied-full emptied-valid .0 emptied-empty v));
@@ -125,6 +134,7 @@ module _ (bytes old : List ℕ) (e : inputNumber bytes ≡ 0) (room : 8 * stated
         heads bytes (statedLinks bytes) (machine bytes) (reads bytes e) old (statedNodes bytes) 0 first-state (omega arith) (omega (arith, nodes-are bytes e)) (subst (λ (l : ℕ). Holds bytes (statedLinks bytes) (machine bytes) (reads bytes e) old l 0 first-state) (sym none-before) begun) in
         record {
           each = λ v b. all .distances v (subst (λ (n : ℕ). v < n) (sym (machine-nodes (partsOf bytes))) b);
+          parents = λ v b. all .parents v (subst (λ (n : ℕ). v < n) (sym (machine-nodes (partsOf bytes))) b);
           size = all .size;
           beyond = ap (λ (n : ℕ). drop (8 * n) (relaxHeads bytes (statedLinks bytes) (statedNodes bytes) first-state .work)) (sym (machine-nodes (partsOf bytes))) ∙ all .beyond ∙ ap (λ (n : ℕ). drop (8 * n) old) (machine-nodes (partsOf bytes));
         }

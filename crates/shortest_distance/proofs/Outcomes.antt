@@ -23,7 +23,6 @@ use Rattle.machine.specs.Distance.{distance, distances, height}
 use Rattle.machine.specs.Input.{inputNumber}
 use Rattle.machine.proofs.Accepted.{passes, finite-machine}
 use Rattle.machine.proofs.Reached.{height-le}
-use Rattle.state_order_queue.specs.Queues.{emptied}
 use Rattle.distance.specs.Written.{written}
 use Rattle.distance.specs.Held.{held, reachedIn, wordsIn}
 use Rattle.distance.proofs.Words.{words-written}
@@ -37,7 +36,6 @@ use Rattle.shortest_distance.specs.Outcome.{answerOf, slotsNeeded, dista
 use Rattle.shortest_distance.specs.Sound.{Made}
 use Rattle.slots.proofs.Clearing.{cleared-same}
 use Rattle.shortest_distance.proofs.Areas.{length-words}
-use Rattle.shortest_distance.proofs.Rows.{Final}
 use Rattle.shortest_distance.proofs.Accepted.{reads}
 use Rattle.shortest_distance.proofs.Starts.{height-is}
 
@@ -102,17 +100,10 @@ module _ (bytes work result : List ℕ) where
     nodes : length (machine bytes .finals) ≡ slotsNeeded bytes
     nodes = machine-nodes (partsOf bytes)
 
-    final : Final bytes (statedLinks bytes) (machine bytes) (reads bytes e) work (record { work = made; queue = emptied })
-    final = record {
-      distances = λ v b. h .each v (subst (λ (k : ℕ). v < k) nodes b);
-      size = h .size;
-      beyond = ap (λ (k : ℕ). drop (8 * k) made) nodes ∙ h .beyond ∙ sym (ap (λ (k : ℕ). drop (8 * k) work) nodes);
-    }
-
     height-same : heightIn made (slotsNeeded bytes) ≡ height (machine bytes)
     height-same =
         ap (heightIn made) (sym nodes)
-        ∙ height-is bytes (statedLinks bytes) (machine bytes) (reads bytes e) work (finite-machine (partsOf bytes) (passes bytes e)) (record { work = made; queue = emptied }) final (length (machine bytes .finals)) (le-refl (length (machine bytes .finals)))
+        ∙ height-is bytes (statedLinks bytes) (machine bytes) (reads bytes e) work (finite-machine (partsOf bytes) (passes bytes e)) made (λ v b. h .each v (subst (λ (k : ℕ). v < k) nodes b)) (length (machine bytes .finals)) (le-refl (length (machine bytes .finals)))
 
     count-same : heightIn made (slotsNeeded bytes) ≡ length (distances (machine bytes))
     unfolding distances

@@ -1,8 +1,9 @@
--- Relaxation through the queue makes the distances: after each head the slots hold the row of the fold over the links, and the queue the nodes that
--- are reached and still to come. Assumes nothing.
+-- Relaxation through the queue makes the distances and the parents: after each head the slots hold the row of the fold over the links, with the link that last
+-- improved each value, and the queue the nodes that are reached and still to come. Assumes nothing.
 use mathlib.Core.Path.{_≡_, refl, sym, ap, _∙_, subst}
 use mathlib.Core.Logic.{_⊎_, inl, inr}
 use mathlib.Core.Bool.{Bool, true, false, not, _&&_, _||_, cond, and-false}
+use mathlib.Core.Option.{Option, none, some}
 use mathlib.Core.List.{List}
 use Prim.Native.Nat.{ℕ, zero, suc, _+_, _-_, _*_, _≤_, _<_}
 use native.Mathlib.Nat.{add-zero}
@@ -14,8 +15,8 @@ use lib.ListN.{length, getD, set, drop}
 use lib.Seq.{getD-set-same, getD-set-other, set-getD}
 use lib.Ieee.{Float, binary32, add}
 use borrow.Author.Tests.{le-leb, lt-leb, lt-ltb, eq-eqb, ne-eqb}
-use Rattle.tropical_weight.specs.Limits.{unit, weightLimit, nodeLimit, sumLimit}
-use Rattle.tropical_weight.specs.Tropical.{Tropical, _⊗_, Within}
+use Rattle.tropical_weight.specs.Limits.{unit, weightLimit, nodeLimit, linkLimit, sumLimit}
+use Rattle.tropical_weight.specs.Tropical.{Tropical, ltT, _⊗_, Within}
 use Rattle.tropical_weight.specs.Grid.{ofT}
 use Rattle.tropical_weight.proofs.Semiring.{isFinite, finite-⊕, not-finite}
 use Rattle.tropical_weight.proofs.Sums.{within-mono, terms-within, limits}
@@ -26,18 +27,26 @@ use Rattle.sheet.proofs.Below.{sum-mono, split-at}
 use Rattle.machine.specs.Readings.{link}
 use Rattle.machine.specs.Climbs.{Climbs, Small}
 use Rattle.machine.specs.Distance.{Distance, unreached, asWeight, nearer, onward, dist, distance, relax}
+use Rattle.machine.specs.Parents.{parent}
 use Rattle.machine.proofs.Named.{weight-of, of-weight, same-weight, step-weight}
+use Rattle.machine.proofs.Fold as Fold
 use Rattle.machine.proofs.Relax.{rowAt, row-size, relax-is}
 use Rattle.machine.proofs.Bounds.{row-within, step-within}
 use Rattle.state_order_queue.specs.Queues.{holds, isEmpty, enqueued, dequeued}
 use Rattle.state_order_queue.proofs.Sets.{enqueued-holds, empty-exactly, front-held, front-least, dequeued-holds}
+use Rattle.distance.specs.declared.Distance as Single
 use Rattle.distance.specs.declared.Distance.the-variants.{Reached}
-use Rattle.distance.specs.Held.{held, weightIn, withDistance}
+use Rattle.distance.specs.Held.{held, weightIn}
 use Rattle.distance.specs.Offer.{improves, reaches}
-use Rattle.distance.proofs.Offers.{weight-held, relaxed-is, reaches-is, taken-here, taken-other, taken-length, taken-drop}
+use Rattle.distance.proofs.Offers.{weight-held, improves-is, relaxed-is, reaches-is}
+use Rattle.slots.specs.Slots.{nothing}
+use Rattle.shortest_distance.specs.declared.parent.Parent.{Parent}
+use Rattle.shortest_distance.specs.declared.parent.Parent.the-variants.{By}
+use Rattle.shortest_distance.specs.ParentWords.{parentAt, parentFrom}
 use Rattle.shortest_distance.specs.NodeSlots.{distanceAt, firstWord}
-use Rattle.shortest_distance.specs.Relaxation.{State, relaxLink, relaxLinks, relaxHead, relaxHeads}
+use Rattle.shortest_distance.specs.Relaxation.{State, takenWords, relaxLink, relaxLinks, relaxHead, relaxHeads}
 use Rattle.shortest_distance.specs.Sound.{Sound}
+use Rattle.shortest_distance.proofs.ParentWords.{taken-here, taken-other, parent-here, parent-other, taken-length, taken-drop}
 use Rattle.shortest_distance.proofs.Kept.{link-kept, head-taken}
 
 -- A sheet's records as the code reads them, and the machine that they are of.
@@ -45,6 +54,7 @@ pub record Reads (bytes : List ℕ) (links : ℕ) (m : Machine) : Type 0 where
   pub climbs : Climbs m
   pub small : Small weightLimit m
   pub few : length (m .finals) ≤ nodeLimit
+  pub few-links : length (m .links) ≤ linkLimit
   pub total : sumBelow (length (m .finals)) (countAt bytes links) ≡ length (m .links)
   pub source-at : (v l : ℕ) → v < length (m .finals) → sumBelow v (countAt bytes links) ≤ l → l < sumBelow (suc v) (countAt bytes links) → link m l .source ≡ v
   pub next-at : (l : ℕ) → l < length (m .links) → linkAt bytes l .nextstate ≡ link m l .next
@@ -78,7 +88,32 @@ module _ (bytes : List ℕ) (links : ℕ) (m : Machine) (r : Reads bytes links m
   unfolding relax
   row-other l v n = getD-set-other (relax m l) (link m l .next) v (left l) unreached n
 
-  -- an unreached source leaves the row
+  -- ---- parents: of what the first l links offer node v, the first that attains the least
+  abbrev chosen : ℕ → ℕ → Option ℕ
+  chosen l v = Fold.chosen (Fold.offer m v) l
+
+  -- link l is chosen where it improves the value of its next node
+  chosen-next : (l v : ℕ) → l < length (m .links) → v < length (m .finals)
+      → chosen (suc l) v ≡ cond (eqb (link m l .next) v && ltT (rowAt m l (link m l .source) ⊗ link m l .weight) (rowAt m l v)) (some l) (chosen l v)
+  chosen-next l v h b = Fold.parent-step m (r .climbs) l v h b
+
+  chosen-other : (l v : ℕ) → l < length (m .links) → v < length (m .finals) → (v ≡ link m l .next → ⊥) → chosen (suc l) v ≡ chosen l v
+  chosen-other l v h b n =
+      chosen-next l v h b
+      ∙ ap (λ (t : Bool). cond (t && ltT (rowAt m l (link m l .source) ⊗ link m l .weight) (rowAt m l v)) (some l) (chosen l v)) (ne-eqb (link m l .next) v (λ e. n (sym e)))
+
+  -- after l links all is as it was after k
+  record Same (l k : ℕ) : Type 0 where
+    row : relax m l ≡ relax m k
+    parents : (v : ℕ) → v < length (m .finals) → chosen l v ≡ chosen k v
+
+  same-trans : {l k j : ℕ} → Same l k → Same k j → Same l j
+  same-trans p q = record { row = p .row ∙ q .row; parents = λ v b. p .parents v b ∙ q .parents v b }
+
+  same-at : {l k : ℕ} → l ≡ k → Same l k
+  same-at e = record { row = ap (relax m) e; parents = λ v b. ap (λ (j : ℕ). chosen j v) e }
+
+  -- an unreached source leaves the row, and changes no parent
   row-same : (l : ℕ) → l < length (m .links) → getD (relax m l) (link m l .source) unreached ≡ unreached → relax m (suc l) ≡ relax m l
   unfolding relax
   row-same l h e =
@@ -87,29 +122,37 @@ module _ (bytes : List ℕ) (links : ℕ) (m : Machine) (r : Reads bytes links m
       ∙ ap (set (relax m l) (link m l .next)) (of-weight x)
       ∙ set-getD (relax m l) (link m l .next) unreached
 
+  chosen-same : (l : ℕ) → l < length (m .links) → getD (relax m l) (link m l .source) unreached ≡ unreached → (v : ℕ) → v < length (m .finals) → chosen (suc l) v ≡ chosen l v
+  chosen-same l h e v b =
+      chosen-next l v h b
+      ∙ ap (λ (d : Distance). cond (eqb (link m l .next) v && ltT (asWeight d ⊗ link m l .weight) (rowAt m l v)) (some l) (chosen l v)) e
+      ∙ ap (λ (t : Bool). cond t (some l) (chosen l v)) (and-false (eqb (link m l .next) v))
+
   -- ---- the links of a node that is not reached change nothing, nor those of such nodes in a row
-  skip-links : (v n : ℕ) → v < length (m .finals) → n ≤ countAt bytes links v → getD (relax m (first v)) v unreached ≡ unreached → relax m (first v + n) ≡ relax m (first v)
-  skip-links v zero h k e = ap (relax m) (add-zero (first v))
+  skip-links : (v n : ℕ) → v < length (m .finals) → n ≤ countAt bytes links v → getD (relax m (first v)) v unreached ≡ unreached → Same (first v + n) (first v)
+  skip-links v zero h k e = same-at (add-zero (first v))
   skip-links v (suc n) h k e =
       let l = first v + n in
       let same = skip-links v n h (omega arith) e in
       let in-links : l < length (m .links) = omega (arith, next-first bytes links v, first-in bytes links m r (suc v) h) in
       let source : link m l .source ≡ v = r .source-at v l h (omega arith) (omega (arith, next-first bytes links v)) in
-      ap (relax m) (let z : first v + suc n ≡ suc l = omega arith in z) ∙ row-same l in-links (ap (λ (x : List Distance). getD x (link m l .source) unreached) same ∙ ap (λ (x : ℕ). getD (relax m (first v)) x unreached) source ∙ e) ∙ same
+      let unreached-source = ap (λ (x : List Distance). getD x (link m l .source) unreached) (same .row) ∙ ap (λ (x : ℕ). getD (relax m (first v)) x unreached) source ∙ e in
+      same-trans (same-at (let z : first v + suc n ≡ suc l = omega arith in z)) (same-trans (record { row = row-same l in-links unreached-source; parents = chosen-same l in-links unreached-source }) same)
 
-  skip-nodes : (n k : ℕ) → k + n ≤ length (m .finals) → ((v : ℕ) → k ≤ v → v < k + n → getD (relax m (first k)) v unreached ≡ unreached) → relax m (first (k + n)) ≡ relax m (first k)
-  skip-nodes zero k h e = ap (λ (x : ℕ). relax m (first x)) (add-zero k)
+  skip-nodes : (n k : ℕ) → k + n ≤ length (m .finals) → ((v : ℕ) → k ≤ v → v < k + n → getD (relax m (first k)) v unreached ≡ unreached) → Same (first (k + n)) (first k)
+  skip-nodes zero k h e = same-at (ap first (add-zero k))
   skip-nodes (suc n) k h e =
       let v = k + n in
       let same = skip-nodes n k (omega arith) (λ u a b. e u a (omega arith)) in
-      ap (λ (x : ℕ). relax m (first x)) (let z : k + suc n ≡ suc v = omega arith in z)
-      ∙ ap (relax m) (next-first bytes links v)
-      ∙ skip-links v (countAt bytes links v) (omega arith) (omega arith) (ap (λ (x : List Distance). getD x v unreached) same ∙ e v (omega arith) (omega arith)) ∙ same
+      let at : first (k + suc n) ≡ first v + countAt bytes links v = ap first (let z : k + suc n ≡ suc v = omega arith in z) ∙ next-first bytes links v in
+      let skipped = skip-links v (countAt bytes links v) (omega arith) (omega arith) (ap (λ (x : List Distance). getD x v unreached) (same .row) ∙ e v (omega arith) (omega arith)) in
+      same-trans (same-at at) (same-trans skipped same)
 
-  -- ---- what the slots and the queue hold beside what `Sound` says: the row after l links, and the nodes from k on that it reaches; beyond the slots the
-  -- area is as it was
+  -- ---- what the slots and the queue hold beside what `Sound` says: the row after l links with its parents, and the nodes from k on that it reaches; beyond the
+  -- slots the area is as it was
   pub record Holds (l k : ℕ) (s : State) : Type 0 where
     pub distances : (v : ℕ) → v < length (m .finals) → distanceAt (s .work) v ≡ held (getD (relax m l) v unreached)
+    pub parents : (v : ℕ) → v < length (m .finals) → parentAt (s .work) v ≡ parentFrom m (chosen l v)
     pub sound : Sound bytes links (length (m .finals)) (s .work) (s .queue)
     pub size : length (s .work) ≡ length old
     pub beyond : drop (8 * length (m .finals)) (s .work) ≡ drop (8 * length (m .finals)) old
@@ -163,12 +206,12 @@ module _ (bytes : List ℕ) (links : ℕ) (m : Machine) (r : Reads bytes links m
     -- what the code's link makes of a state that holds the row
     abbrev after : State → State
     after s = record {
-      work = cond (improves (distanceAt (s .work) nx) (ofT unit (asWeight d)) (ofT unit w)) (withDistance (s .work) (8 * nx) (Reached offer)) (s .work);
+      work = cond (improves (distanceAt (s .work) nx) (ofT unit (asWeight d)) (ofT unit w)) (takenWords nx offer l u (s .work)) (s .work);
       queue = cond (not (isFinite (asWeight x)) && isFinite (asWeight d ⊗ w)) (enqueued (s .queue) nx) (s .queue);
     }
 
     module _ (s : State) (h : Holds l (suc u) s) where
-      state-is : relaxLink (linkAt bytes l) (ofT unit (asWeight d)) s ≡ after s
+      state-is : relaxLink (linkAt bytes l) l u (ofT unit (asWeight d)) s ≡ after s
       state-is =
           let reach-is : reaches (distanceAt (s .work) (linkAt bytes l .nextstate)) (ofT unit (asWeight d)) (linkAt bytes l .weight) ≡ not (isFinite (asWeight x)) && isFinite (asWeight d ⊗ w) =
           (λ i. reaches ((ap (distanceAt (s .work)) (r .next-at l in-links) ∙ h .distances nx nx-in) i) (ofT unit (asWeight d)) (r .weight-at l in-links i)) ∙ reaches-is x d w x-limit d-limit weight-limit offer-limit in
@@ -176,7 +219,7 @@ module _ (bytes : List ℕ) (links : ℕ) (m : Machine) (r : Reads bytes links m
             work =
                 cond
                 (improves (distanceAt (s .work) (r .next-at l in-links i)) (ofT unit (asWeight d)) (r .weight-at l in-links i))
-                (withDistance (s .work) (8 * r .next-at l in-links i) (Reached (add binary32 (ofT unit (asWeight d)) (r .weight-at l in-links i))))
+                (takenWords (r .next-at l in-links i) (add binary32 (ofT unit (asWeight d)) (r .weight-at l in-links i)) l u (s .work))
                 (s .work);
             queue = cond (reach-is i) (enqueued (s .queue) (r .next-at l in-links i)) (s .queue);
           }
@@ -227,25 +270,47 @@ module _ (bytes : List ℕ) (links : ℕ) (m : Machine) (r : Reads bytes links m
       distance-after v k = elim (ℕ-discrete v nx) [
         | yes e ↦
             ap (distanceAt (after s .work)) e
-            ∙ taken-here (s .work) (8 * nx) x (nearer x (onward d w)) offer better becomes (omega (arith, h .sound .slots, nx-in)) (h .distances nx nx-in)
+            ∙ taken-here (s .work) nx offer l u better x (nearer x (onward d w)) becomes (omega (arith, h .sound .slots, nx-in)) (h .distances nx nx-in)
             ∙ ap held (sym (ap (λ (j : ℕ). getD (relax m (suc l)) j unreached) e ∙ row-new))
         | no n ↦
-            taken-other (s .work) (8 * nx) x (nearer x (onward d w)) offer better becomes (8 * v) (λ e. n (omega arith)) (λ e. omega arith) (λ e. omega arith)
-            ∙ h .distances v k ∙ ap held (sym (row-other l v n))
+            taken-other (s .work) nx offer l u better v n ∙ h .distances v k ∙ ap held (sym (row-other l v n))
       ]
 
-      pub link-step : Holds (suc l) (suc u) (relaxLink (linkAt bytes l) (ofT unit (asWeight d)) s)
+      -- the test by which the next node takes the offer is that by which link l is chosen
+      better-is : better ≡ eqb nx nx && ltT (rowAt m l (link m l .source) ⊗ w) (rowAt m l nx)
+      better-is =
+          ap (λ (y : Single.Distance). improves y (ofT unit (asWeight d)) (ofT unit w)) (h .distances nx nx-in)
+          ∙ improves-is x d w x-limit d-limit weight-limit offer-limit
+          ∙ sym (λ i. eq-eqb nx nx refl i && ltT (rowAt m l (source i) ⊗ w) (rowAt m l nx))
+
+      by-test : (t : Bool) → cond t (By l u) (parentFrom m (chosen l nx)) ≡ parentFrom m (cond t (some l) (chosen l nx))
+      by-test true = ap (By l) (sym source)
+      by-test false = refl
+
+      parent-after : (v : ℕ) → v < length (m .finals) → parentAt (after s .work) v ≡ parentFrom m (chosen (suc l) v)
+      parent-after v k = elim (ℕ-discrete v nx) [
+        | yes e ↦
+            ap (parentAt (after s .work)) e
+            ∙ parent-here (s .work) nx offer l u better (omega (arith, in-links, r .few-links)) (omega (arith, h .sound .slots, nx-in))
+            ∙ (λ i. cond (better-is i) (By l u) (h .parents nx nx-in i))
+            ∙ by-test (eqb nx nx && ltT (rowAt m l (link m l .source) ⊗ w) (rowAt m l nx))
+            ∙ ap (parentFrom m) (sym (ap (chosen (suc l)) e ∙ chosen-next l nx in-links nx-in))
+        | no n ↦ parent-other (s .work) nx offer l u better v n ∙ h .parents v k ∙ ap (parentFrom m) (sym (chosen-other l v in-links k n))
+      ]
+
+      pub link-step : Holds (suc l) (suc u) (relaxLink (linkAt bytes l) l u (ofT unit (asWeight d)) s)
       link-step = subst (λ (y : State). Holds (suc l) (suc u) y) (sym state-is) (record {
         distances = distance-after;
-        sound = subst (λ (y : State). Sound bytes links (length (m .finals)) (y .work) (y .queue)) state-is (link-kept bytes links (length (m .finals)) (linkAt bytes l) (ofT unit (asWeight d)) s (subst (λ (n : ℕ). n < length (m .finals)) (sym (r .next-at l in-links)) nx-in) (h .sound));
-        size = taken-length (s .work) (8 * nx) x (nearer x (onward d w)) offer better becomes ∙ h .size;
-        beyond = taken-drop (s .work) (8 * nx) x (nearer x (onward d w)) offer better becomes (8 * length (m .finals)) (omega (arith, nx-in)) ∙ h .beyond;
+        parents = parent-after;
+        sound = subst (λ (y : State). Sound bytes links (length (m .finals)) (y .work) (y .queue)) state-is (link-kept bytes links (length (m .finals)) (linkAt bytes l) l u (ofT unit (asWeight d)) s (subst (λ (n : ℕ). n < length (m .finals)) (sym (r .next-at l in-links)) nx-in) (h .sound));
+        size = taken-length (s .work) nx offer l u better ∙ h .size;
+        beyond = taken-drop (s .work) nx offer l u better (8 * length (m .finals)) (omega (arith, nx-in)) ∙ h .beyond;
         flags = flag-after;
       })
 
   -- ---- the links of node u, so many of them
   links-step : (u : ℕ) → u < length (m .finals) → (n : ℕ) → n ≤ countAt bytes links u → (s : State) → Holds (first u) (suc u) s
-      → Holds (first u + n) (suc u) (relaxLinks bytes (first u) (ofT unit (rowAt m (first u) u)) n s) × (getD (relax m (first u + n)) u unreached ≡ getD (relax m (first u)) u unreached)
+      → Holds (first u + n) (suc u) (relaxLinks bytes (first u) u (ofT unit (rowAt m (first u) u)) n s) × (getD (relax m (first u + n)) u unreached ≡ getD (relax m (first u)) u unreached)
   unfolding relaxLinks
   links-step u hu zero k s h = (subst (λ (l : ℕ). Holds l (suc u) s) (sym (add-zero (first u))) h, ap (λ (l : ℕ). getD (relax m l) u unreached) (add-zero (first u)))
   links-step u hu (suc n) k s h =
@@ -254,11 +319,11 @@ module _ (bytes : List ℕ) (links : ℕ) (m : Machine) (r : Reads bytes links m
       let lo : first u ≤ l = omega arith in
       let hi : l < first (suc u) = omega (arith, next-first bytes links u) in
       let at : suc l ≡ first u + suc n = omega arith in
-      let step = link-step u l hu lo hi (relaxLinks bytes (first u) (ofT unit (rowAt m (first u) u)) n s) (before .0) in
+      let step = link-step u l hu lo hi (relaxLinks bytes (first u) u (ofT unit (rowAt m (first u) u)) n s) (before .0) in
       let same : ofT unit (rowAt m l u) ≡ ofT unit (rowAt m (first u) u) = ap (λ (y : Distance). ofT unit (asWeight y)) (before .1) in
       let apart : u ≡ link m l .next → ⊥ = λ e. omega (arith, nx-up u l hu lo hi) in (
-        subst (λ (j : ℕ). Holds j (suc u) (relaxLink (linkAt bytes l) (ofT unit (rowAt m (first u) u)) (relaxLinks bytes (first u) (ofT unit (rowAt m (first u) u)) n s))) at
-            (subst (λ (y : Float). Holds (suc l) (suc u) (relaxLink (linkAt bytes l) y (relaxLinks bytes (first u) (ofT unit (rowAt m (first u) u)) n s))) same step),
+        subst (λ (j : ℕ). Holds j (suc u) (relaxLink (linkAt bytes l) l u (ofT unit (rowAt m (first u) u)) (relaxLinks bytes (first u) u (ofT unit (rowAt m (first u) u)) n s))) at
+            (subst (λ (y : Float). Holds (suc l) (suc u) (relaxLink (linkAt bytes l) l u y (relaxLinks bytes (first u) u (ofT unit (rowAt m (first u) u)) n s))) same step),
         ap (λ (j : ℕ). getD (relax m j) u unreached) (sym at) ∙ row-other l u apart ∙ before .1,
       )
 
@@ -287,11 +352,11 @@ module _ (bytes : List ℕ) (links : ℕ) (m : Machine) (r : Reads bytes links m
           go true e = absurd (omega (arith, front-least (s .queue) (h .sound .full) (h .sound .valid) filled v e))
           go false e = refl
 
-      rows : relax m (first u) ≡ relax m (first k)
+      rows : Same (first u) (first k)
       rows =
           let at : k + (u - k) ≡ u = omega (arith, head .0) in
-          ap (λ (j : ℕ). relax m (first j)) (sym at)
-          ∙ skip-nodes (u - k) k (omega (arith, head .0, head .1)) (λ v a b. blank v a (omega (arith, head .0, head .1)) (below-clear v (omega (arith, head .0))))
+          same-trans (same-at (ap first (sym at)))
+          (skip-nodes (u - k) k (omega (arith, head .0, head .1)) (λ v a b. blank v a (omega (arith, head .0, head .1)) (below-clear v (omega (arith, head .0)))))
 
       flag-taken : (v : ℕ) → holds (dequeued (s .queue)) v ≡ leb (suc u) v && (ltb v (length (m .finals)) && isFinite (rowAt m (first u) v))
       flag-taken v = dequeued-holds (s .queue) (h .sound .full) (h .sound .valid) filled v ∙ cases (split-at u v)
@@ -302,7 +367,7 @@ module _ (bytes : List ℕ) (links : ℕ) (m : Machine) (r : Reads bytes links m
           cases : (u < v) ⊎ (v ≤ u) → not (eqb v u) && holds (s .queue) v ≡ leb (suc u) v && (ltb v (length (m .finals)) && isFinite (rowAt m (first u) v))
           cases (inl a) =
               (λ i. not (ne-eqb v u (λ e. omega arith) i) && h .flags v i)
-              ∙ (λ i. le-leb k v (omega (arith, head .0)) i && (ltb v (length (m .finals)) && isFinite (asWeight (getD (sym rows i) v unreached))))
+              ∙ (λ i. le-leb k v (omega (arith, head .0)) i && (ltb v (length (m .finals)) && isFinite (asWeight (getD (sym (rows .row) i) v unreached))))
               ∙ sym (ap (λ (t : Bool). t && (ltb v (length (m .finals)) && isFinite (rowAt m (first u) v))) (le-leb (suc u) v a))
           cases (inr a) = elim (ℕ-discrete v u) [
             | yes e ↦ ap (λ (t : Bool). not t && holds (s .queue) v) (eq-eqb v u e) ∙ sym (low a)
@@ -311,7 +376,8 @@ module _ (bytes : List ℕ) (links : ℕ) (m : Machine) (r : Reads bytes links m
 
       taken : Holds (first u) (suc u) (record { work = s .work; queue = dequeued (s .queue) })
       taken = record {
-        distances = λ v b. h .distances v b ∙ ap (λ (y : List Distance). held (getD y v unreached)) (sym rows);
+        distances = λ v b. h .distances v b ∙ ap (λ (y : List Distance). held (getD y v unreached)) (sym (rows .row));
+        parents = λ v b. h .parents v b ∙ ap (parentFrom m) (sym (rows .parents v b));
         sound = head-taken bytes links (length (m .finals)) s (h .sound) filled;
         size = h .size;
         beyond = h .beyond;
@@ -322,34 +388,36 @@ module _ (bytes : List ℕ) (links : ℕ) (m : Machine) (r : Reads bytes links m
       head-step =
           let distance : weightIn (distanceAt (s .work) u) ≡ ofT unit (rowAt m (first u) u) = ap weightIn (taken .distances u (head .1)) ∙ weight-held (getD (relax m (first u)) u unreached) in
           let all = links-step u (head .1) (countAt bytes links u) (omega arith) (record { work = s .work; queue = dequeued (s .queue) }) taken .0 in
-          subst (λ (y : Float). Holds (first (suc u)) (suc u) (relaxLinks bytes (firstWord (s .work) u) y (countAt bytes links u) (record { work = s .work; queue = dequeued (s .queue) }))) (sym distance)
-          (subst (λ (j : ℕ). Holds (first (suc u)) (suc u) (relaxLinks bytes j (ofT unit (rowAt m (first u) u)) (countAt bytes links u) (record { work = s .work; queue = dequeued (s .queue) }))) (sym (h .sound .firsts u (head .1)))
-          (subst (λ (j : ℕ). Holds j (suc u) (relaxLinks bytes (first u) (ofT unit (rowAt m (first u) u)) (countAt bytes links u) (record { work = s .work; queue = dequeued (s .queue) }))) (sym (next-first bytes links u)) all))
+          subst (λ (y : Float). Holds (first (suc u)) (suc u) (relaxLinks bytes (firstWord (s .work) u) u y (countAt bytes links u) (record { work = s .work; queue = dequeued (s .queue) }))) (sym distance)
+          (subst (λ (j : ℕ). Holds (first (suc u)) (suc u) (relaxLinks bytes j u (ofT unit (rowAt m (first u) u)) (countAt bytes links u) (record { work = s .work; queue = dequeued (s .queue) }))) (sym (h .sound .firsts u (head .1)))
+          (subst (λ (j : ℕ). Holds j (suc u) (relaxLinks bytes (first u) u (ofT unit (rowAt m (first u) u)) (countAt bytes links u) (record { work = s .work; queue = dequeued (s .queue) }))) (sym (next-first bytes links u)) all))
 
-  -- ---- all heads: the slots hold Mohri's distances
+  -- ---- all heads: the slots hold Mohri's distances and the parents
   pub record Final (s : State) : Type 0 where
     pub distances : (v : ℕ) → v < length (m .finals) → distanceAt (s .work) v ≡ held (distance m v)
+    pub parents : (v : ℕ) → v < length (m .finals) → parentAt (s .work) v ≡ parentFrom m (parent m v)
     pub size : length (s .work) ≡ length old
     pub beyond : drop (8 * length (m .finals)) (s .work) ≡ drop (8 * length (m .finals)) old
 
-  final-of : (k : ℕ) (s : State) → Holds (first k) k s → relax m (first (length (m .finals))) ≡ relax m (first k) → Final s
+  final-of : (k : ℕ) (s : State) → Holds (first k) k s → Same (first (length (m .finals))) (first k) → Final s
   final-of k s h e = record {
     distances = λ v b.
         let last : getD (relax m (length (m .links))) v unreached ≡ distance m v = same-weight (relax-is m (r .climbs) v b ∙ sym (weight-of (dist m v))) in
-        h .distances v b ∙ ap (λ (y : List Distance). held (getD y v unreached)) (sym e ∙ ap (relax m) (r .total)) ∙ ap held last;
+        h .distances v b ∙ ap (λ (y : List Distance). held (getD y v unreached)) (sym (e .row) ∙ ap (relax m) (r .total)) ∙ ap held last;
+    parents = λ v b. h .parents v b ∙ ap (parentFrom m) (sym (e .parents v b) ∙ ap (λ (l : ℕ). chosen l v) (r .total) ∙ sym (Fold.parent-chosen m (r .climbs) v));
     size = h .size;
     beyond = h .beyond;
   }
 
   pub heads : (n k : ℕ) (s : State) → k ≤ length (m .finals) → length (m .finals) ≤ k + n → Holds (first k) k s → Final (relaxHeads bytes links n s)
   unfolding relaxHeads
-  heads zero k s a b h = final-of k s h (ap (λ (j : ℕ). relax m (first j)) (let z : length (m .finals) ≡ k = omega arith in z))
+  heads zero k s a b h = final-of k s h (same-at (ap first (let z : length (m .finals) ≡ k = omega arith in z)))
   heads (suc n) k s a b h = go (isEmpty (s .queue)) refl (λ filled. heads n (suc (s .queue .front)) (relaxHead bytes links s) (omega (arith, head k s a h filled .1)) (omega (arith, head k s a h filled .0)) (head-step k s a h filled))
     where
       go : (t : Bool) → isEmpty (s .queue) ≡ t → (isEmpty (s .queue) ≡ false → Final (relaxHeads bytes links n (relaxHead bytes links s))) → Final (cond t s (relaxHeads bytes links n (relaxHead bytes links s)))
       go true e f =
           let at : k + (length (m .finals) - k) ≡ length (m .finals) = omega arith in
           final-of k s h
-          (ap (λ (j : ℕ). relax m (first j)) (sym at)
-          ∙ skip-nodes (length (m .finals) - k) k (omega arith) (λ v c d. blank k s a h v c (omega arith) (empty-exactly (s .queue) (h .sound .full) (h .sound .valid) .0 e v)))
+          (same-trans (same-at (ap first (sym at)))
+          (skip-nodes (length (m .finals) - k) k (omega arith) (λ v c d. blank k s a h v c (omega arith) (empty-exactly (s .queue) (h .sound .full) (h .sound .valid) .0 e v))))
       go false e f = f e

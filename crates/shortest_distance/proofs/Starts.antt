@@ -17,7 +17,9 @@ use Rattle.sheet.specs.Machine.{Machine}
 use Rattle.sheet.proofs.Below.{split-at}
 use Rattle.machine.specs.Climbs.{Finite}
 use Rattle.machine.specs.Distance.{Distance, reached, unreached, asWeight, startRow, relax, dist, distance, isReached, heightBelow}
+use Rattle.machine.specs.Parents.{lowest}
 use Rattle.machine.proofs.Named.{weight-of}
+use Rattle.machine.proofs.Fold.{chosen, offer}
 use Rattle.machine.proofs.Relax.{rowAt}
 use Rattle.machine.proofs.Reached.{reached-finite, unreached-inf}
 use Rattle.state_order_queue.specs.Queues.{holds, emptied, enqueued}
@@ -25,12 +27,14 @@ use Rattle.state_order_queue.proofs.Sets.{emptied-full, emptied-valid, emptied-
 use Rattle.distance.specs.Held.{held, reachedIn, withDistance}
 use Rattle.distance.proofs.Words.{put-back, put-other, put-drop, put-length}
 use Rattle.distance.proofs.Offers.{reached-held}
+use Rattle.shortest_distance.specs.ParentWords.{parentAt, parentFrom}
 use Rattle.shortest_distance.specs.NodeSlots.{distanceAt, prepared, heightIn}
 use Rattle.shortest_distance.specs.Relaxation.{State}
 use Rattle.shortest_distance.specs.Sound.{Sound}
+use Rattle.shortest_distance.proofs.ParentWords.{put-parent}
 use Rattle.shortest_distance.proofs.Areas.{length-prepared, prepared-words, prepared-beyond}
 use Rattle.tropical_weight.proofs.Semiring.{isFinite}
-use Rattle.shortest_distance.proofs.Rows.{Reads, Holds, Final}
+use Rattle.shortest_distance.proofs.Rows.{Reads, Holds}
 
 -- the start's distance
 abbrev pub zero-cost : Distance
@@ -67,6 +71,11 @@ module _ (bytes : List ℕ) (links : ℕ) (m : Machine) (r : Reads bytes links m
           ∙ ap held (sym (row-blank v n b))
     ]
 
+    -- no link, no parent
+    parent-begun : (v : ℕ) → v < length (m .finals) → parentAt (begun .work) v ≡ parentFrom m (chosen (offer m v) 0)
+    unfolding lowest
+    parent-begun v b = put-parent (prepared bytes links (length (m .finals)) old) s (held zero-cost) v ∙ prepared-words bytes links (length (m .finals)) old v b room .1
+
     no-flags : (v : ℕ) → holds emptied v ≡ false
     no-flags = empty-exactly emptied emptied-full emptied-valid .0 emptied-empty
 
@@ -88,14 +97,15 @@ module _ (bytes : List ℕ) (links : ℕ) (m : Machine) (r : Reads bytes links m
     pub begun-holds : Sound bytes links (length (m .finals)) (begun .work) (begun .queue) → Holds bytes links m r old 0 0 begun
     begun-holds sound = record {
       distances = distance-begun;
+      parents = parent-begun;
       sound = sound;
       size = put-length (prepared bytes links (length (m .finals)) old) (8 * s) (held zero-cost) ∙ length-prepared bytes links (length (m .finals)) old;
       beyond = put-drop (prepared bytes links (length (m .finals)) old) (8 * s) (held zero-cost) (8 * length (m .finals)) (omega arith) ∙ prepared-beyond bytes links (length (m .finals)) old;
       flags = flag-begun;
     }
 
-  -- ---- distances made: how many are written, and which words
-  module _ (f : Finite m) (s : State) (done : Final bytes links m r old s) where
+  -- ---- distances made: how many are written
+  module _ (f : Finite m) (work : List ℕ) (made : (v : ℕ) → v < length (m .finals) → distanceAt work v ≡ held (distance m v)) where
     reached-is : (v : ℕ) → v < length (m .finals) → isReached m v ≡ isFinite (dist m v)
     reached-is v b = go (isReached m v) refl
       where
@@ -103,10 +113,10 @@ module _ (bytes : List ℕ) (links : ℕ) (m : Machine) (r : Reads bytes links m
         go true e = sym (ap isFinite (reached-finite m (r .climbs) f v e .1))
         go false e = sym (ap isFinite (unreached-inf m (r .climbs) v e))
 
-    pub height-is : (n : ℕ) → n ≤ length (m .finals) → heightIn (s .work) n ≡ heightBelow m n
+    pub height-is : (n : ℕ) → n ≤ length (m .finals) → heightIn work n ≡ heightBelow m n
     unfolding heightIn heightBelow
     height-is zero h = refl
     height-is (suc v) h =
         let b : v < length (m .finals) = h in
-        let found : reachedIn (distanceAt (s .work) v) ≡ isReached m v = ap reachedIn (done .distances v b) ∙ reached-held (distance m v) ∙ ap isFinite (weight-of (dist m v)) ∙ sym (reached-is v b) in
+        let found : reachedIn (distanceAt work v) ≡ isReached m v = ap reachedIn (made v b) ∙ reached-held (distance m v) ∙ ap isFinite (weight-of (dist m v)) ∙ sym (reached-is v b) in
         λ i. cond (found i) (suc v) (height-is v (omega arith) i)

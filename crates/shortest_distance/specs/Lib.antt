@@ -1,3 +1,4 @@
+pub mod ParentWords
 pub mod NodeSlots
 pub mod Relaxation
 pub mod Handed

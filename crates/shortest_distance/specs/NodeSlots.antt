@@ -1,5 +1,5 @@
 -- Mirrors the code: the work area while distances are made. A reader need not believe it: laws tie it to Distance of crate machine (proofs/Rows).
--- A slot of eight words a node. Words 0 and 1 hold its distance, word 4 the number of its first link. Definitions only.
+-- A slot of eight words a node. Words 0 and 1 hold its distance, words 2 and 3 its parent, word 4 the number of its first link. Definitions only.
 use Prim.Native.Nat.{ℕ, zero, suc, _+_, _*_}
 use mathlib.Core.Bool.{cond}
 use mathlib.Core.List.{List, [], _++_}
@@ -8,6 +8,8 @@ use Rattle.sheet.specs.Records.{firstLink}
 use Rattle.distance.specs.declared.Distance.{Distance}
 use Rattle.distance.specs.declared.Distance.the-variants.{Unreached}
 use Rattle.distance.specs.Held.{reachedIn, wordsIn, distanceIn, withDistance}
+use Rattle.shortest_distance.specs.declared.parent.Parent.the-variants.{None}
+use Rattle.shortest_distance.specs.ParentWords.{parentStored}
 
 -- what slot v holds
 abbrev pub distanceAt : List ℕ → ℕ → Distance
@@ -19,7 +21,7 @@ firstWord work v = getD work (8 * v + 4) 0
 -- the area with the first n slots set up
 unfoldable pub prepared : List ℕ → ℕ → ℕ → List ℕ → List ℕ
 prepared bytes links zero work = work
-prepared bytes links (suc v) work = set (withDistance (prepared bytes links v work) (8 * v) Unreached) (8 * v + 4) (firstLink bytes links v)
+prepared bytes links (suc v) work = set (parentStored (withDistance (prepared bytes links v work) (8 * v) Unreached) v None) (8 * v + 4) (firstLink bytes links v)
 
 -- one more than the highest of n nodes that is reached, or 0
 unfoldable pub heightIn : List ℕ → ℕ → ℕ

@@ -11,12 +11,18 @@ use Rattle.state_order_queue.specs.Queues.{isEmpty, enqueued, dequeued}
 use Rattle.distance.specs.declared.Distance.the-variants.{Reached}
 use Rattle.distance.specs.Held.{weightIn, withDistance}
 use Rattle.distance.specs.Offer.{improves, reaches}
+use Rattle.shortest_distance.specs.declared.parent.Parent.the-variants.{By}
+use Rattle.shortest_distance.specs.ParentWords.{parentStored}
 use Rattle.shortest_distance.specs.NodeSlots.{distanceAt, firstWord}
 
--- the area after a link is relaxed whose source has a distance
-abbrev pub relaxedWords : Link → Float → List ℕ → List ℕ
-relaxedWords k distance work =
-    cond (improves (distanceAt work (k .nextstate)) distance (k .weight)) (withDistance work (8 * k .nextstate) (Reached (add binary32 distance (k .weight)))) work
+-- the area after an offer is taken: the distance of its node, and link l of node v as its parent
+abbrev pub takenWords : ℕ → Float → ℕ → ℕ → List ℕ → List ℕ
+takenWords next offer l v work = parentStored (withDistance work (8 * next) (Reached offer)) next (By l v)
+
+-- the area after link l of node v, which has a distance, is relaxed
+abbrev pub relaxedWords : Link → ℕ → ℕ → Float → List ℕ → List ℕ
+relaxedWords k l v distance work =
+    cond (improves (distanceAt work (k .nextstate)) distance (k .weight)) (takenWords (k .nextstate) (add binary32 distance (k .weight)) l v work) work
 
 -- the area and the queue
 pub record State : Type 0 where
@@ -24,20 +30,20 @@ pub record State : Type 0 where
   pub queue : Queue
 
 -- a link relaxed, and its next node put in where the offer is the first
-abbrev pub relaxLink : Link → Float → State → State
-relaxLink k distance s = record {
-  work = relaxedWords k distance (s .work);
+abbrev pub relaxLink : Link → ℕ → ℕ → Float → State → State
+relaxLink k l v distance s = record {
+  work = relaxedWords k l v distance (s .work);
   queue = cond (reaches (distanceAt (s .work) (k .nextstate)) distance (k .weight)) (enqueued (s .queue) (k .nextstate)) (s .queue);
 }
 
--- n links from a number on
-unfoldable pub relaxLinks : List ℕ → ℕ → Float → ℕ → State → State
-relaxLinks bytes first distance zero s = s
-relaxLinks bytes first distance (suc n) s = relaxLink (linkAt bytes (first + n)) distance (relaxLinks bytes first distance n s)
+-- n links of node v from a number on
+unfoldable pub relaxLinks : List ℕ → ℕ → ℕ → Float → ℕ → State → State
+relaxLinks bytes first v distance zero s = s
+relaxLinks bytes first v distance (suc n) s = relaxLink (linkAt bytes (first + n)) (first + n) v distance (relaxLinks bytes first v distance n s)
 
 -- the links of a node
 abbrev pub relaxNode : List ℕ → ℕ → ℕ → State → State
-relaxNode bytes links v s = relaxLinks bytes (firstWord (s .work) v) (weightIn (distanceAt (s .work) v)) (countAt bytes links v) s
+relaxNode bytes links v s = relaxLinks bytes (firstWord (s .work) v) v (weightIn (distanceAt (s .work) v)) (countAt bytes links v) s
 
 -- the queue's head taken, and its links relaxed
 abbrev pub relaxHead : List ℕ → ℕ → State → State

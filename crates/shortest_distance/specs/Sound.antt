@@ -1,4 +1,4 @@
--- Mirrors the code: what holds while heads are relaxed, and afterwards. A reader need not believe it: laws tie it to Distance of crate machine (proofs/Making).
+-- Mirrors the code: what holds while heads are relaxed, and afterwards. A reader need not believe it: laws tie it to Distance and Parents of crate machine (proofs/Making).
 -- Definitions only.
 use Prim.Native.Nat.{ℕ, _+_, _*_, _≤_, _<_}
 use mathlib.Core.Path.{_≡_}
@@ -9,11 +9,13 @@ use Rattle.tropical_weight.specs.Limits.{nodeLimit}
 use Rattle.sheet.specs.Below.{sumBelow}
 use Rattle.sheet.specs.Words.{word}
 use Rattle.machine.specs.Distance.{distance}
+use Rattle.machine.specs.Parents.{parent}
 use Rattle.state_order_queue.specs.declared.Queue.{Queue}
 use Rattle.state_order_queue.specs.Queues.{holds, isValid}
 use Rattle.sheet.specs.Records.{countAt}
 use Rattle.sheet.specs.Machine.{machine}
 use Rattle.distance.specs.Held.{held}
+use Rattle.shortest_distance.specs.ParentWords.{parentAt, parentFrom}
 use Rattle.shortest_distance.specs.NodeSlots.{distanceAt, firstWord}
 use Rattle.shortest_distance.specs.Outcome.{slotsNeeded}
 
@@ -32,8 +34,9 @@ pub record Sound (bytes : List ℕ) (links nodes : ℕ) (work : List ℕ) (queue
   pub valid : isValid queue ≡ true
   pub held : (v : ℕ) → holds queue v ≡ true → v < nodes
 
--- the slots hold the distances of a sheet's nodes, and beyond them the area is as it was
+-- the slots hold the distances and the parents of a sheet's nodes, and beyond them the area is as it was
 pub record Made (bytes old work : List ℕ) : Type 0 where
   pub each : (v : ℕ) → v < slotsNeeded bytes → distanceAt work v ≡ held (distance (machine bytes) v)
+  pub parents : (v : ℕ) → v < slotsNeeded bytes → parentAt work v ≡ parentFrom (machine bytes) (parent (machine bytes) v)
   pub size : length work ≡ length old
   pub beyond : drop (8 * slotsNeeded bytes) work ≡ drop (8 * slotsNeeded bytes) old

@@ -18,6 +18,7 @@ use sheet::tr::Trailer;
 use slots::SLOT;
 
 mod node_slots;
+pub mod parent;
 mod relax;
 
 // What the call for distances answers: how many distances it wrote, or the number of the refusal.
@@ -39,7 +40,7 @@ fn hand_over(work: &[u32], count: u32, result: &mut [u8]) -> Distances
     Distances::Count(count)
 }
 
-// Makes the distances of an accepted sheet in the slots of its nodes.
+// Makes the distances and the parents of an accepted sheet in the slots of its nodes.
 pub fn make(sheet: &[u8], t: Trailer, work: &mut [u32])
     requires { ⌜ (inputNumber (now sheet) ≡ 0) × (t ≡ trailerAt (now sheet)) × (8 * t .nodes ≤ length (now work)) ⌝ }
     ensures { λ _. ⌜ Made (now (sheet .entry)) (now (work .entry)) (now (work .exit)) ⌝ }

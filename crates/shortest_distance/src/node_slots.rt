@@ -7,6 +7,8 @@ ghost use Rattle.sheet.specs.Below.{sumBelow};
 ghost use Rattle.sheet.specs.Words.{bytesOfAll};
 ghost use Rattle.sheet.specs.Records.{countAt};
 ghost use Rattle.shortest_distance.specs.NodeSlots.{prepared, heightIn, distanceWords};
+use crate::parent;
+use crate::parent::Parent;
 use distance::Distance;
 use distance::WRITTEN;
 use sheet::words::word;
@@ -15,7 +17,7 @@ use slots::SLOT;
 // The word of a slot that holds the number of its node's first link.
 pub const FIRST: usize = 4;
 
-// Sets up the slots: each node is unreached, its first link the links counted before it.
+// Sets up the slots: each node is unreached and has no parent, its first link the links counted before it.
 pub fn prepare(sheet: &[u8], links: u32, nodes: u32, work: &mut [u32])
     requires { ⌜ (16 * links + 12 * nodes ≤ length (now sheet)) × (8 * nodes ≤ length (now work)) × (sumBelow nodes (countAt (now sheet) links) ≤ links) ⌝ }
     ensures { λ _. ⌜ now (work .exit) ≡ prepared (now (sheet .entry)) links nodes (now (work .entry)) ⌝ }
@@ -25,6 +27,7 @@ pub fn prepare(sheet: &[u8], links: u32, nodes: u32, work: &mut [u32])
     while v < nodes {
         let at = SLOT * (v as usize);
         distance::put_distance(work, at, Distance::Unreached);
+        parent::store_parent(work, v, Parent::None);
         work[at + FIRST] = first;
         first += word(sheet, 16 * (links as usize) + 12 * (v as usize));
         v += 1;

@@ -1,25 +1,29 @@
 // Relaxation, link by link through the queue.
 ghost use mathlib.Core.Path.{_≡_};
-ghost use Prim.Native.Nat.{_+_, _*_, _<_};
+ghost use Prim.Native.Nat.{_+_, _*_, _≤_};
 ghost use lib.ListN.{length};
 ghost use Rattle.distance.specs.Offer.{reaches};
 ghost use Rattle.shortest_distance.specs.NodeSlots.{distanceAt};
 ghost use Rattle.shortest_distance.specs.Relaxation.{relaxedWords, relaxHeads};
 ghost use Rattle.shortest_distance.specs.Sound.{Sound};
 use crate::node_slots::FIRST;
+use crate::parent;
+use crate::parent::Parent;
 use distance::Distance;
 use sheet::tr::Link;
 use sheet::words::word;
 use slots::SLOT;
+use state_order_queue::Back;
 use state_order_queue::Queue;
 
-// Offers a link's next node the distance by that link, from a source at d, which it takes where it is
-// strictly less. A strict comparison of exact sums is right in every rounding mode, and an offer that
-// is not finite reaches nothing. Answers whether it is its first.
-fn relax_link(k: Link, d: f32, work: &mut [u32]) -> bool
-    requires { ⌜ 8 * k .nextstate + 1 < length (now work) ⌝ }
+// Offers a link's next node the distance by that link, number l, from its source v at d. Where it is
+// strictly less the node takes it, and the link becomes its parent: of equal offers the first stays.
+// A strict comparison of exact sums is right in every rounding mode, and an offer that is not finite
+// reaches nothing. Answers whether it is the node's first.
+fn relax_link(k: Link, l: u32, v: u32, d: f32, work: &mut [u32]) -> bool
+    requires { ⌜ 8 * k .nextstate + 8 ≤ length (now work) ⌝ }
     ensures { λ r. ⌜ r ≡ reaches (distanceAt (now (work .entry)) (k .nextstate)) d (k .weight) ⌝ }
-    ensures { λ _. ⌜ now (work .exit) ≡ relaxedWords k d (now (work .entry)) ⌝ }
+    ensures { λ _. ⌜ now (work .exit) ≡ relaxedWords k l v d (now (work .entry)) ⌝ }
 {
     let at = SLOT * (k.nextstate as usize);
     let old = distance::distance_at(work, at);
@@ -29,6 +33,7 @@ fn relax_link(k: Link, d: f32, work: &mut [u32]) -> bool
         return false;
     }
     distance::put_distance(work, at, Distance::Reached(offer));
+    parent::store_parent(work, k.nextstate, Parent::By(l, v));
     !distance::is_reached(old)
 }
 
@@ -43,8 +48,11 @@ pub fn relax_heads(sheet: &[u8], links: u32, nodes: u32, work: &mut [u32], q: Qu
     let mut turn = 0u32;
     while turn < nodes {
         let front = queue.front;
-        let back = queue.back;
-        if state_order_queue::holds_none(front, back) {
+        let end = queue.back;
+        let Back::At(back) = end else {
+            return;
+        };
+        if back < front {
             return;
         }
         let v = front as usize;
@@ -56,8 +64,9 @@ pub fn relax_heads(sheet: &[u8], links: u32, nodes: u32, work: &mut [u32], q: Qu
         queue = state_order_queue::dequeue_cleared(queue, next);
         let mut i = 0u32;
         while i < count {
-            let k = sheet::tr::link_at(sheet, (first as usize) + (i as usize));
-            if relax_link(k, d, work) {
+            let l = first + i;
+            let k = sheet::tr::link_at(sheet, l as usize);
+            if relax_link(k, l, front, d, work) {
                 let w = k.nextstate;
                 queue.flags[w as usize] = true;
                 queue = state_order_queue::enqueue_flagged(queue, w);

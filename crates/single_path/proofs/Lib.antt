@@ -1,6 +1,4 @@
-pub mod ParentTurns
 pub mod WayTurns
-pub mod ParentLaws
 pub mod EndLaws
 pub mod WayLaws
 pub mod WriteTurns

@@ -24,40 +24,38 @@ use Rattle.machine.proofs.Parents.{Lowest, lowest-is, best-is}
 use Rattle.machine.proofs.SheetFields.{SheetFields, sheet-fields, fields-own, marked-final, unmarked-final}
 use Rattle.search.specs.ListMachine.{Result, empty, bestResult, resultBy, resultFor}
 use Rattle.shortest_distance.specs.Handed.{handedOver}
+use Rattle.shortest_distance.specs.Outcome.{slotsNeeded}
+use Rattle.shortest_distance.specs.ParentWords.{parentAt, parentFrom}
 use Rattle.shortest_distance.specs.Sound.{Made}
 use Rattle.list_answer.specs.declared.Listed.{Listed}
 use Rattle.list_answer.specs.ListAnswer.{listedBy, listedIn, listedOver}
 use Rattle.single_path.specs.declared.single.End.{End}
 use Rattle.single_path.specs.declared.single.End.the-variants.{None, At}
-use Rattle.single_path.specs.SingleWords.{parentAt, orphaned, parentNodes, bestBelow, Traced, wayBack, wayWords, wayListed}
-use Rattle.single_path.proofs.ParentLaws.{parentFrom, Held, all-held, parents-are}
+use Rattle.single_path.specs.SingleWords.{bestBelow, Traced, wayBack, wayWords, wayListed}
 use Rattle.single_path.proofs.EndLaws.{endAt, end-is}
 use Rattle.single_path.proofs.WayLaws.{way-is, traced-from}
 use Rattle.single_path.proofs.WayBytes.{length-wayWords, links-count, nodes-count, way-bytes, listed-as}
 
--- the area with the parents of all nodes, and the best end in it
-abbrev pub areaOf : List ℕ → List ℕ → ℕ → ℕ → List ℕ
-areaOf bytes made links nodes = parentNodes bytes links nodes (orphaned nodes made)
-
+-- the best end by the distances that are made
 abbrev pub endOf : List ℕ → List ℕ → ℕ → ℕ → End
-endOf bytes made links nodes = bestBelow bytes links (areaOf bytes made links nodes) nodes .end
+endOf bytes made links nodes = bestBelow bytes links made nodes .end
 
 abbrev pub oneOf : List ℕ → Result
 oneOf bytes = resultFor (machine bytes) 1
 
--- What the code goes by, from distances that are made.
+-- What the code goes by, from distances and parents that are made.
 pub record Run (bytes old made : List ℕ) (links nodes : ℕ) : Type 0 where
   pub in-sheet : 16 * links + 12 * nodes ≤ length bytes
   pub few : nodes ≤ nodeLimit
-  pub size : length (areaOf bytes made links nodes) ≡ length old
-  pub beyond : drop (8 * nodes) (areaOf bytes made links nodes) ≡ drop (8 * nodes) old
+  pub size : length made ≡ length old
+  pub beyond : drop (8 * nodes) made ≡ drop (8 * nodes) old
   -- no end
   pub none-listed : endOf bytes made links nodes ≡ None → (result : List ℕ)
       → (listedIn empty (length result) ≡ listedIn (oneOf bytes) (length result)) × (listedOver empty result ≡ listedOver (oneOf bytes) result)
   -- an end
-  pub traced : (end : ℕ) → endOf bytes made links nodes ≡ At end → Traced bytes (areaOf bytes made links nodes) end × (end < nodes)
+  pub traced : (end : ℕ) → endOf bytes made links nodes ≡ At end → Traced bytes made end × (end < nodes)
   pub way-listed : (end : ℕ) → endOf bytes made links nodes ≡ At end → Below 256 bytes → (result : List ℕ)
-      → let way = wayBack (areaOf bytes made links nodes) end end in
+      → let way = wayBack made end end in
       (wayListed way (length result) ≡ listedIn (oneOf bytes) (length result)) × (handedOver (wayWords bytes (finalAt bytes links end) way) result ≡ listedOver (oneOf bytes) result)
 
 -- ---- the result for n = 1, by the best end
@@ -81,7 +79,7 @@ module _ (m : Machine) where
   unfolding bestEnd
   end-below v e = subst (Lowest (length (m .finals)) (λ v. attains (total m) (totalAt m v))) e (lowest-is (length (m .finals)) (λ v. attains (total m) (totalAt m v))) .0
 
-module _ (bytes old made : List ℕ) (accepted : inputNumber bytes ≡ 0) (slots : 8 * statedNodes bytes ≤ length old) (distances-made : Made bytes old made) where
+module _ (bytes old made : List ℕ) (accepted : inputNumber bytes ≡ 0) (slots : 8 * statedNodes bytes ≤ length old) (both-made : Made bytes old made) where
   abbrev m : Machine
   m = machine bytes
 
@@ -94,25 +92,17 @@ module _ (bytes old made : List ℕ) (accepted : inputNumber bytes ≡ 0) (slots
   f : SheetFields bytes (length (machine bytes .links)) (length (machine bytes .finals)) (machine bytes)
   f = fields-own bytes accepted
 
-  abbrev area : List ℕ
-  area = areaOf bytes made links nodes
+  room : 8 * nodes ≤ length made
+  room = omega (arith, slots, sheet-fields bytes accepted .nodes-are, both-made .size)
 
-  room : 8 * nodes ≤ length old
-  room = omega (arith, slots, sheet-fields bytes accepted .nodes-are)
+  in-slots : (v : ℕ) → v < nodes → v < slotsNeeded bytes
+  in-slots v h = subst (λ (n : ℕ). v < n) (machine-nodes (partsOf bytes)) h
 
-  held : Held bytes m f old 0 area
-  held =
-      all-held bytes m f old made
-      (λ v h. distances-made .each v (subst (λ (n : ℕ). v < n) (machine-nodes (partsOf bytes)) h))
-      (omega (arith, room, distances-made .size))
-      (distances-made .size)
-      (subst (λ (n : ℕ). drop (8 * n) made ≡ drop (8 * n) old) (sym (machine-nodes (partsOf bytes))) (distances-made .beyond))
-
-  parents : (v : ℕ) → v < nodes → parentAt area v ≡ parentFrom m (parent m v)
-  parents = parents-are bytes m f old area held
+  parents : (v : ℕ) → v < nodes → parentAt made v ≡ parentFrom m (parent m v)
+  parents v h = both-made .parents v (in-slots v h)
 
   end-same : endOf bytes made links nodes ≡ endAt (bestEnd m)
-  end-same = end-is bytes m f area (held .distances)
+  end-same = end-is bytes m f made (λ v h. both-made .each v (in-slots v h))
 
   no-end : endOf bytes made links nodes ≡ None → bestEnd m ≡ none
   no-end e = go (bestEnd m) (sym end-same ∙ e)
@@ -149,16 +139,16 @@ module _ (bytes old made : List ℕ) (accepted : inputNumber bytes ≡ 0) (slots
         let z : _≡_ {A = ℕ} 0 1 = cc in
         omega arith
 
-    way-back : wayBack area end end ≡ reverse (x .run)
-    way-back = way-is m (f .climbs) area parents end end end-in
+    way-back : wayBack made end end ≡ reverse (x .run)
+    way-back = way-is m (f .climbs) made parents end end end-in
 
     among : (l : ℕ) → l ∈ reverse (x .run) → l < length (m .links)
     among l h = run-in m (x .run) (reading .from) end (reading .runs) l (mem-reverse (x .run) h)
 
     answered : Below 256 bytes → (result : List ℕ)
-        → (wayListed (wayBack area end end) (length result) ≡ listedIn (oneOf bytes) (length result)) × (handedOver (wayWords bytes bits (wayBack area end end)) result ≡ listedOver (oneOf bytes) result)
+        → (wayListed (wayBack made end end) (length result) ≡ listedIn (oneOf bytes) (length result)) × (handedOver (wayWords bytes bits (wayBack made end end)) result ≡ listedOver (oneOf bytes) result)
     answered whole result =
-        let way = wayBack area end end in
+        let way = wayBack made end end in
         let ends = marked-final f end end-in marked in
         let same = f .final-bits whole end end-in marked in
         let made-of = result-some m end (some-end end found) in
@@ -175,12 +165,12 @@ module _ (bytes old made : List ℕ) (accepted : inputNumber bytes ≡ 0) (slots
   run = record {
     in-sheet = f .laid-out;
     few = f .few-nodes;
-    size = held .size;
-    beyond = held .beyond;
+    size = both-made .size;
+    beyond = subst (λ (n : ℕ). drop (8 * n) made ≡ drop (8 * n) old) (sym (machine-nodes (partsOf bytes))) (both-made .beyond);
     none-listed = λ e result.
         let made-of = sym (result-none m (no-end e)) in
         (ap (λ (y : Result). listedIn y (length result)) made-of, ap (λ (y : Result). listedOver y result) made-of);
-    traced = λ end e. (traced-from m (f .climbs) area parents bytes end (end-in end e) (held .room) (omega (arith, f .laid-out)), end-in end e);
+    traced = λ end e. (traced-from m (f .climbs) made parents bytes end (end-in end e) room (omega (arith, f .laid-out)), end-in end e);
     way-listed = answered;
   }
 
@@ -194,37 +184,21 @@ run-for bytes old made accepted t same room h =
     subst (λ (n : ℕ). Run bytes old made n (length (machine bytes .finals))) (f .links-are) (run bytes old made accepted fits h)
     )) room
 
--- ---- by what the calls leave: the area without parents, the area with them, and the end
-module _ (bytes old made : List ℕ) (links nodes : ℕ) (run : Run bytes old made links nodes) (blank : List ℕ) (cleared : blank ≡ orphaned nodes made) (area : List ℕ) (stored : area ≡ parentNodes bytes links nodes blank) where
-  area-is : area ≡ areaOf bytes made links nodes
-  area-is = stored ∙ ap (parentNodes bytes links nodes) cleared
+-- ---- by the end that the code finds
+module _ (bytes old made : List ℕ) (links nodes : ℕ) (run : Run bytes old made links nodes) (end : End) (found : end ≡ endOf bytes made links nodes) where
+  pub none-for : end ≡ None → (result new : List ℕ) (r : Listed) → (r ≡ listedIn empty (length result)) × (new ≡ listedOver empty result) → (r ≡ listedIn (oneOf bytes) (length result)) × (new ≡ listedOver (oneOf bytes) result)
+  none-for n result new r h = let a = run .none-listed (sym found ∙ n) result in (h .0 ∙ a .0, h .1 ∙ a .1)
 
-  pub area-size : length area ≡ length old
-  area-size = ap length area-is ∙ run .size
+  module _ (v : ℕ) (at : end ≡ At v) where
+    there : endOf bytes made links nodes ≡ At v
+    there = sym found ∙ at
 
-  pub area-beyond : drop (8 * nodes) area ≡ drop (8 * nodes) old
-  area-beyond = ap (drop (8 * nodes)) area-is ∙ run .beyond
+    pub traced-for : Traced bytes made v × (16 * links + 12 * v + 12 ≤ length bytes) × (v < nodeLimit)
+    traced-for =
+        let r = run .traced v there in
+        (r .0, omega (arith, r .1, run .in-sheet), omega (arith, r .1, run .few))
 
-  module _ (end : End) (found : end ≡ bestBelow bytes links area nodes .end) where
-    end-of : end ≡ endOf bytes made links nodes
-    end-of = found ∙ ap (λ (w : List ℕ). bestBelow bytes links w nodes .end) area-is
-
-    pub none-for : end ≡ None → (result new : List ℕ) (r : Listed) → (r ≡ listedIn empty (length result)) × (new ≡ listedOver empty result) → (r ≡ listedIn (oneOf bytes) (length result)) × (new ≡ listedOver (oneOf bytes) result)
-    none-for n result new r h = let a = run .none-listed (sym end-of ∙ n) result in (h .0 ∙ a .0, h .1 ∙ a .1)
-
-    module _ (v : ℕ) (at : end ≡ At v) where
-      there : endOf bytes made links nodes ≡ At v
-      there = sym end-of ∙ at
-
-      pub traced-for : Traced bytes area v × (16 * links + 12 * v + 12 ≤ length bytes) × (v < nodeLimit)
-      traced-for =
-          let r = run .traced v there in
-          (subst (λ (w : List ℕ). Traced bytes w v) (sym area-is) (r .0), omega (arith, r .1, run .in-sheet), omega (arith, r .1, run .few))
-
-      pub way-for : Below 256 bytes → (result new : List ℕ) (r : Listed) → (r ≡ wayListed (wayBack area v v) (length result)) × (new ≡ handedOver (wayWords bytes (finalAt bytes links v) (wayBack area v v)) result)
-          → (r ≡ listedIn (oneOf bytes) (length result)) × (new ≡ listedOver (oneOf bytes) result)
-      way-for whole result new r h =
-          let a = run .way-listed v there whole result in (
-            h .0 ∙ (λ i. wayListed (wayBack (area-is i) v v) (length result)) ∙ a .0,
-            h .1 ∙ (λ i. handedOver (wayWords bytes (finalAt bytes links v) (wayBack (area-is i) v v)) result) ∙ a .1,
-          )
+    pub way-for : Below 256 bytes → (result new : List ℕ) (r : Listed) → (r ≡ wayListed (wayBack made v v) (length result)) × (new ≡ handedOver (wayWords bytes (finalAt bytes links v) (wayBack made v v)) result)
+        → (r ≡ listedIn (oneOf bytes) (length result)) × (new ≡ listedOver (oneOf bytes) result)
+    way-for whole result new r h =
+        let a = run .way-listed v there whole result in (h .0 ∙ a .0, h .1 ∙ a .1)

@@ -5,46 +5,34 @@ use mathlib.Core.Option.{Option, none, some}
 use mathlib.Core.List.{List, [], _∷_, reverse, reverse-append}
 use Prim.Native.Nat.{ℕ, zero, suc, _+_, _*_, _≤_, _<_}
 use native.Mathlib.Omega.{arith}
-use lib.Dec.{eqb}
-use lib.IntN.{ℤ}
 use lib.ListN.{length}
-use borrow.Author.Tests.{eqb-true}
-use Rattle.tropical_weight.specs.Tropical.{Tropical, fin, inf, ltT, eqT}
 use Rattle.sheet.specs.Machine.{Machine}
-use Rattle.sheet.proofs.Apart.{both, not-both}
 use Rattle.machine.specs.Readings.{link, isAt}
 use Rattle.machine.specs.Climbs.{Climbs}
-use Rattle.machine.specs.Distance.{dist, via}
-use Rattle.machine.specs.Parents.{attains, parent, stepBack, follow}
-use Rattle.machine.proofs.Parents.{attains-eq, term}
+use Rattle.machine.specs.Distance.{dist}
+use Rattle.machine.specs.Parents.{parent, stepBack, follow}
+use Rattle.machine.proofs.Parents.{parent-is, term}
 use Rattle.machine.proofs.Reached.{finite-reached, reached-above}
 use Rattle.machine.proofs.Runs.{at-some}
-use Rattle.single_path.specs.declared.single.Parent.{Parent}
-use Rattle.single_path.specs.declared.single.Parent.the-variants.{By}
-use Rattle.single_path.specs.SingleWords.{parentAt, onFrom, wayBack, Traced}
-use Rattle.single_path.proofs.ParentLaws.{parentFrom, parent-in}
+use Rattle.shortest_distance.specs.declared.parent.Parent.{Parent}
+use Rattle.shortest_distance.specs.declared.parent.Parent.the-variants.{By}
+use Rattle.shortest_distance.specs.ParentWords.{parentAt, parentFrom}
+use Rattle.single_path.specs.SingleWords.{onFrom, wayBack, Traced}
 
 module _ (m : Machine) (c : Climbs m) where
   -- a parent leads up to its node
   pub parent-up : (v l : ℕ) → parent m v ≡ some l → (l < length (m .links)) × (link m l .source < v)
   parent-up v l e =
-      let x = parent-in m v l e in
-      let into = eqb-true (link m l .next) v (both (eqb (link m l .next) v) (attains (dist m v) (via m l)) (x .1) .0) in
-      (x .0, omega (arith, into, c .rises l (x .0)))
+      let p = parent-is m v l e .0 in
+      (p .inside, omega (arith, p .into, c .rises l (p .inside)))
 
   -- the start has none: its sources are not reached
   start-none : (v l : ℕ) → m .start ≡ some v → parent m v ≡ some l → ⊥
   start-none v l s e =
-      let x = parent-in m v l e in
-      let y = both (eqb (link m l .next) v) (attains (dist m v) (via m l)) (x .1) in
-      let d = some-units (dist m v) (both (ltT (dist m v) inf) (eqT (via m l) (dist m v)) (y .1) .0) in
-      let u = term (dist m (link m l .source)) (link m l .weight) (d .0) (attains-eq (dist m v) (via m l) (y .1) ∙ d .1) in
+      let p = parent-is m v l e in
+      let u = term (dist m (link m l .source)) (link m l .weight) (p .1 .0) (p .0 .sum ∙ p .1 .1) in
       let up = reached-above m c v (link m l .source) s (finite-reached m c (link m l .source) (u .0) (u .1)) in
       omega (arith, parent-up v l e .1)
-    where
-      some-units : (a : Tropical) → ltT a inf ≡ true → (k : ℤ) × (a ≡ fin k)
-      some-units (fin k) e = (k, refl)
-      some-units inf e = absurd (not-both e refl)
 
   module _ (work : List ℕ) (parents : (v : ℕ) → v < length (m .finals) → parentAt work v ≡ parentFrom m (parent m v)) where
     -- ---- following the slots is following the parents

@@ -11,10 +11,11 @@ use lib.Ieee as Ieee
 use Rattle.distance.specs.Held.{weightIn}
 use Rattle.shortest_distance.specs.NodeSlots.{distanceAt}
 use Rattle.sheet.specs.Records.{markAt, finalAt}
-use Rattle.single_path.specs.declared.single.Parent.{Parent}
-use Rattle.single_path.specs.declared.single.Parent.the-variants.{None, By}
+use Rattle.shortest_distance.specs.declared.parent.Parent.{Parent}
+use Rattle.shortest_distance.specs.declared.parent.Parent.the-variants.{None, By}
+use Rattle.shortest_distance.specs.ParentWords.{parentAt}
 use Rattle.single_path.specs.declared.single.End.the-variants.{At}
-use Rattle.single_path.specs.SingleWords.{parentAt, totalValue, Best, bestBelow, Falls, onFrom, wayBack}
+use Rattle.single_path.specs.SingleWords.{totalValue, Best, bestBelow, Falls, onFrom, wayBack}
 
 -- ---- the best end
 module _ (bytes : List ℕ) (links : ℕ) (work : List ℕ) where

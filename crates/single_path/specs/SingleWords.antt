@@ -1,71 +1,24 @@
 -- Mirrors the code: the one best reading in the slots of the nodes, word by word. A reader need not believe it: laws tie it to Parents of crate machine (proofs/WayBytes).
--- Words 2 and 3 of a node's slot hold its parent, a link's number, and that link's source. Definitions only.
+-- Definitions only.
 use mathlib.Core.Path.{_≡_}
-use mathlib.Core.Bool.{Bool, true, false, cond}
+use mathlib.Core.Bool.{false, cond}
 use mathlib.Core.List.{List, [], _∷_, _++_}
 use Prim.Native.Nat.{ℕ, zero, suc, _+_, _*_, _≤_, _<_}
 use lib.Dec.{eqb, ltb}
-use lib.ListN.{length, getD, set}
+use lib.ListN.{length}
 use lib.Ieee.{Float, binary32, add, lt, ofBits}
 use lib.Ieee as Ieee
-use Rattle.sheet.specs.Below.{sumBelow}
 use Rattle.sheet.specs.Words.{word}
-use Rattle.sheet.specs.declared.tr.Link.{Link}
-use Rattle.sheet.specs.Records.{linkAt, countAt, markAt, finalAt, firstLink}
-use Rattle.slots.specs.Slots.{nothing}
-use Rattle.distance.specs.declared.Distance.{Distance}
-use Rattle.distance.specs.declared.Distance.the-variants.{Reached, Unreached}
-use Rattle.distance.specs.Held.{weightIn, attainedBy}
+use Rattle.sheet.specs.Records.{markAt, finalAt}
+use Rattle.distance.specs.Held.{weightIn}
+use Rattle.shortest_distance.specs.declared.parent.Parent.{Parent}
+use Rattle.shortest_distance.specs.declared.parent.Parent.the-variants.{None, By}
+use Rattle.shortest_distance.specs.ParentWords.{parentAt}
 use Rattle.shortest_distance.specs.NodeSlots.{distanceAt}
 use Rattle.list_answer.specs.declared.Listed.{Listed}
-use Rattle.single_path.specs.declared.single.Parent.{Parent}
-use Rattle.single_path.specs.declared.single.Parent.the-variants.{None, By}
 use Rattle.single_path.specs.declared.single.End.{End}
 use Rattle.single_path.specs.declared.single.End.the-variants as End
 use Rattle.list_answer.specs.ListAnswer.{listedBy}
-
--- ---- parents
--- the parent in node v's slot: a link and its source, or none where the link's word names none
-abbrev pub parentIn : Bool → ℕ → ℕ → Parent
-parentIn true l u = None
-parentIn false l u = By l u
-
-abbrev pub parentAt : List ℕ → ℕ → Parent
-parentAt work v = parentIn (eqb (getD work (8 * v + 2) 0) nothing) (getD work (8 * v + 2) 0) (getD work (8 * v + 3) 0)
-
--- stored there
-abbrev pub parentStored : List ℕ → ℕ → Parent → List ℕ
-parentStored work v None = set work (8 * v + 2) nothing
-parentStored work v (By l u) = set (set work (8 * v + 2) l) (8 * v + 3) u
-
--- no parents in the first n slots
-unfoldable pub orphaned : ℕ → List ℕ → List ℕ
-orphaned zero work = work
-orphaned (suc v) work = parentStored (orphaned v work) v None
-
--- link number l of node v, which is at a distance, made the parent of its next node, where that is reached just by its offer
-abbrev pub parentLink : Link → ℕ → ℕ → Float → List ℕ → List ℕ
-parentLink k l v distance work =
-    cond (attainedBy (distanceAt work (k .nextstate)) (add binary32 distance (k .weight))) (parentStored work (k .nextstate) (By l v)) work
-
--- n links of node v from a number on, the last first
-unfoldable pub parentLinks : List ℕ → ℕ → ℕ → Float → ℕ → List ℕ → List ℕ
-parentLinks bytes first v distance zero work = work
-parentLinks bytes first v distance (suc i) work = parentLinks bytes first v distance i (parentLink (linkAt bytes (first + i)) (first + i) v distance work)
-
--- so many links of node v, where it is reached
-abbrev pub parentBy : Distance → List ℕ → ℕ → ℕ → ℕ → List ℕ → List ℕ
-parentBy (Reached cost) bytes first count v work = parentLinks bytes first v cost count work
-parentBy Unreached bytes first count v work = work
-
-abbrev pub parentNode : List ℕ → ℕ → ℕ → ℕ → List ℕ → List ℕ
-parentNode bytes first count v work = parentBy (distanceAt work v) bytes first count v work
-
--- the first n nodes, the last first
-unfoldable pub parentNodes : List ℕ → ℕ → ℕ → List ℕ → List ℕ
-unfolding parentLinks sumBelow
-parentNodes bytes links zero work = work
-parentNodes bytes links (suc v) work = parentNodes bytes links v (parentNode bytes (firstLink bytes links v) (countAt bytes links v) v work)
 
 -- ---- the best end
 -- the total of node v, infinite where its mark is 0

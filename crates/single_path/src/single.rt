@@ -1,37 +1,29 @@
-// The best reading (single_shortest_path and its backtrace in shortest_path.rs of rustfst), in a slot
-// of eight words a node: words 0 and 1 are its distance, words 2 and 3 its parent.
+// The best reading (single_shortest_path and its backtrace in shortest_path.rs of rustfst), from the
+// distances and parents that relaxation leaves in a slot a node.
 ghost use mathlib.Core.Path.{_≡_};
-ghost use Prim.Native.Nat.{ℕ, _+_, _*_, _≤_, _<_};
+ghost use Prim.Native.Nat.{_+_, _*_, _≤_, _<_};
 ghost use lib.ListN.{length, drop};
 ghost use lib.Seq.{sets};
 ghost use Rattle.tropical_weight.specs.Limits.{nodeLimit};
-ghost use Rattle.sheet.specs.Words.{word as wordAt, bytesOfAll};
+ghost use Rattle.sheet.specs.Words.{bytesOfAll};
 ghost use Rattle.sheet.specs.Records.{trailerAt};
 ghost use Rattle.machine.specs.Input.{inputNumber};
 ghost use Rattle.search.specs.ListMachine.{resultFor};
 ghost use Rattle.shortest_distance.specs.Handed.{handedOver};
 ghost use Rattle.sheet.specs.Machine.{machine};
-ghost use Rattle.single_path.specs.SingleWords.{parentAt, parentStored, orphaned};
-ghost use Rattle.single_path.specs.SingleWords.{parentLink, parentLinks, parentNode, parentNodes};
 ghost use Rattle.single_path.specs.SingleWords.{totalValue, bestBelow, Falls, Traced, wayBack};
 ghost use Rattle.single_path.specs.SingleWords.{linkTo, wayLinks, wayNodes, wayFrom, wayListed};
 ghost use Rattle.list_answer.specs.ListAnswer.{listedIn, listedOver};
-use distance::Distance;
 use list_answer::Listed;
 use sheet::refusal;
-use sheet::tr::Link;
 use sheet::tr::TRAILER;
 use sheet::tr::Trailer;
 use sheet::words::put_word;
 use sheet::words::put_words;
 use sheet::words::word;
-use slots::NOTHING;
+use shortest_distance::parent::Parent;
+use shortest_distance::parent::parent_at;
 use slots::SLOT;
-
-// The words of a node's parent: the link, and its source.
-const PARENT: usize = 2;
-
-const SOURCE: usize = 3;
 
 // The bytes of an answer: for each link its record, a state and its number, and besides the final
 // state and the trailer.
@@ -39,113 +31,10 @@ const PER_LINK: usize = 16 + 12 + 4;
 
 const BESIDES: usize = 12 + TRAILER;
 
-// The link by which the best way enters a node, and the link's source.
-enum Parent {
-    None,
-    By(u32, u32),
-}
-
 // The node at which the best reading ends.
 enum End {
     None,
     At(u32),
-}
-
-// The parent in a node's slot. How none is stored is known here and where it is stored alone.
-fn parent_at(work: &[u32], v: u32) -> Parent
-    requires { ⌜ 8 * v + 8 ≤ length (now work) ⌝ }
-    ensures { λ r. ⌜ r ≡ parentAt (now (work .entry)) v ⌝ }
-{
-    let at = SLOT * (v as usize);
-    let link = work[at + PARENT];
-    if link == NOTHING {
-        return Parent::None;
-    }
-    Parent::By(link, work[at + SOURCE])
-}
-
-fn store_parent(work: &mut [u32], v: u32, parent: Parent)
-    requires { ⌜ 8 * v + 8 ≤ length (now work) ⌝ }
-    ensures { λ _. ⌜ now (work .exit) ≡ parentStored (now (work .entry)) v parent ⌝ }
-{
-    let at = SLOT * (v as usize);
-    let Parent::By(link, source) = parent else {
-        work[at + PARENT] = NOTHING;
-        return;
-    };
-    work[at + PARENT] = link;
-    work[at + SOURCE] = source;
-}
-
-// Leaves no node a parent.
-fn clear_parents(work: &mut [u32], nodes: u32)
-    requires { ⌜ 8 * nodes ≤ length (now work) ⌝ }
-    ensures { λ _. ⌜ now (work .exit) ≡ orphaned nodes (now (work .entry)) ⌝ }
-{
-    let mut v = 0u32;
-    while v < nodes {
-        store_parent(work, v, Parent::None);
-        v += 1;
-    }
-}
-
-// Makes a link the parent of its next node where that is reached just by its offer.
-fn parent_link(k: Link, l: u32, v: u32, cost: f32, work: &mut [u32])
-    requires { ⌜ 8 * k .nextstate + 8 ≤ length (now work) ⌝ }
-    ensures { λ _. ⌜ now (work .exit) ≡ parentLink k l v cost (now (work .entry)) ⌝ }
-{
-    let offer = tropical_weight::times(cost, k.weight);
-    let next = distance::distance_at(work, SLOT * (k.nextstate as usize));
-    if distance::attained_by(next, offer) {
-        store_parent(work, k.nextstate, Parent::By(l, v));
-    }
-}
-
-// The links of a node that is reached at a cost, the last first, so that the first that attains stays.
-fn parent_links(sheet: &[u8], first: u32, count: u32, v: u32, cost: f32, work: &mut [u32])
-    requires { ⌜ (16 * (first + count) ≤ length (now sheet)) × (first + count < 4294967296) ⌝ }
-    requires { ⌜ ((l : ℕ) → l < first + count
-        → 8 * wordAt (now sheet) (16 * l + 12) + 8 ≤ length (now work)) ⌝ }
-    ensures { λ _. ⌜ now (work .exit) ≡ parentLinks (now (sheet .entry)) first v cost count (now (work .entry)) ⌝ }
-{
-    let mut i = count;
-    while 0 < i {
-        i -= 1;
-        let l = first + i;
-        let k = sheet::tr::link_at(sheet, l as usize);
-        parent_link(k, l, v, cost, work);
-    }
-}
-
-// The links of a node where it is reached.
-fn parent_node(sheet: &[u8], first: u32, count: u32, v: u32, work: &mut [u32])
-    requires { ⌜ (16 * (first + count) ≤ length (now sheet)) × (8 * v + 1 < length (now work)) ⌝ }
-    requires { ⌜ first + count < 4294967296 ⌝ }
-    requires { ⌜ ((l : ℕ) → l < first + count
-        → 8 * wordAt (now sheet) (16 * l + 12) + 8 ≤ length (now work)) ⌝ }
-    ensures { λ _. ⌜ now (work .exit) ≡ parentNode (now (sheet .entry)) first count v (now (work .entry)) ⌝ }
-{
-    if let Distance::Reached(cost) = distance::distance_at(work, SLOT * (v as usize)) {
-        parent_links(sheet, first, count, v, cost, work);
-    }
-}
-
-// The parents of all nodes: every link, from the last to the first.
-fn parents(sheet: &[u8], t: Trailer, work: &mut [u32])
-    requires { ⌜ (inputNumber (now sheet) ≡ 0) × (t ≡ trailerAt (now sheet)) ⌝ }
-    requires { ⌜ 8 * t .nodes ≤ length (now work) ⌝ }
-    ensures { λ _. ⌜ now (work .exit)
-        ≡ parentNodes (now (sheet .entry)) (t .links) (t .nodes) (now (work .entry)) ⌝ }
-{
-    let links = t.links;
-    let mut l = links;
-    let mut v = t.nodes;
-    while 0 < v {
-        v -= 1;
-        let count = word(sheet, 16 * (links as usize) + 12 * (v as usize));
-        l -= count;
-        parent_node(sheet, l, count, v, work);
-    }
 }
 
 // The total of a node, its distance and its final weight, or infinite where its mark is 0.
@@ -294,7 +183,7 @@ fn single_shortest_path_backtrace(
     Listed::Made(count + 1, count, 0)
 }
 
-// The best reading of an accepted sheet, in the slots of its nodes: distances, parents, the best
+// The best reading of an accepted sheet, in the slots of its nodes: distances and parents, the best
 // end, and the way back from it.
 pub fn single_shortest_path(sheet: &[u8], t: Trailer, work: &mut [u32], result: &mut [u8]) -> Listed
     requires { ⌜ (inputNumber (now sheet) ≡ 0) × (t ≡ trailerAt (now sheet)) ⌝ }
@@ -309,8 +198,6 @@ pub fn single_shortest_path(sheet: &[u8], t: Trailer, work: &mut [u32], result: 
     let nodes = t.nodes;
     let links = t.links;
     shortest_distance::make(sheet, t, work);
-    clear_parents(work, nodes);
-    parents(sheet, t, work);
     let End::At(end) = best_end(sheet, links, nodes, work) else {
         return list_answer::put_none(result);
     };

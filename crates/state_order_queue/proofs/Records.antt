@@ -46,8 +46,13 @@ flag-same q v t h = ap (set (q .flags) v) (sym h) ∙ set-getD (q .flags) v fals
 
 module _ (q : Queue) (v : ℕ) where
   -- a node with its flag set is put in by its ends
-  pub enqueued-flagged : holds q v ≡ true → record { front = frontWith (q .front) (q .back) v; back = At (backWith (q .front) (q .back) v); flags = q .flags } ≡ enqueued q v
-  enqueued-flagged h = λ i. record { front = frontWith (q .front) (q .back) v; back = At (backWith (q .front) (q .back) v); flags = sym (flag-same q v true h) i }
+  pub enqueued-flagged : holds q v ≡ true → (back : Back) → q .back ≡ back → (f b : ℕ) → f ≡ frontWith (q .front) back v → b ≡ backWith (q .front) back v
+      → record { front = f; back = At b; flags = q .flags } ≡ enqueued q v
+  enqueued-flagged h back e f b m n = λ i. record {
+    front = (m ∙ ap (λ (x : Back). frontWith (q .front) x v) (sym e)) i;
+    back = At ((n ∙ ap (λ (x : Back). backWith (q .front) x v) (sym e)) i);
+    flags = sym (flag-same q v true h) i;
+  }
 
   -- its flag set before is the queue with it put in
   pub flagged-enqueued : enqueued (withFlag q v true) v ≡ enqueued q v

@@ -4,12 +4,14 @@
 // The functions without a test are for a caller that keeps the record valid. Relaxation stores a
 // flag in its own record first, and the record then goes by value through `enqueue_flagged` and
 // `dequeue_cleared`, which move its ends alone: that compiles to no copy of the flags. `enqueue` and
-// `dequeue` go through the same two.
+// `dequeue` go through the same two. There back is matched first and handed on as a number: handed on
+// as an enum it is read whole, and a read of what was just stored in parts has to wait for them.
 ghost use mathlib.Core.Path.{_≡_};
 ghost use mathlib.Core.Bool.{true, false};
 ghost use Prim.Native.Nat.{_-_, _≤_, _<_};
 ghost use Rattle.tropical_weight.specs.Limits.{nodeLimit};
 ghost use Rattle.state_order_queue.specs.Queues.{firstSet, nextFront, holds, emptyFrom, isEmpty, endsFit, endsSet, isInside, flagsInside, isValid, emptied, frontWith, backWith, enqueued, dequeued};
+ghost use Rattle.state_order_queue.specs.declared.Back.the-variants.{At};
 ghost use Rattle.state_order_queue.specs.Answers.{enqueueAnswer, updateAnswer, clearAnswer, dequeueAnswer, headAnswer, isEmptyAnswer};
 use sheet::refusal;
 
@@ -148,7 +150,7 @@ pub fn new() -> Queue
 }
 
 // Whether a queue with these ends is empty.
-pub fn holds_none(front: u32, back: Back) -> bool
+fn holds_none(front: u32, back: Back) -> bool
     ensures { λ r. ⌜ r ≡ emptyFrom front back ⌝ }
 {
     match back {
@@ -158,33 +160,23 @@ pub fn holds_none(front: u32, back: Back) -> bool
 }
 
 // A node below front, or the first of an empty queue, is the new front.
-fn front_with(front: u32, back: Back, v: u32) -> u32
-    ensures { λ r. ⌜ r ≡ frontWith front back v ⌝ }
+fn front_with(front: u32, back: u32, v: u32) -> u32
+    ensures { λ r. ⌜ r ≡ frontWith front (At back) v ⌝ }
 {
-    match back {
-        Back::None => v,
-        Back::At(b) => {
-            if b < front {
-                return v;
-            }
-            if v < front { v } else { front }
-        }
+    if back < front {
+        return v;
     }
+    if v < front { v } else { front }
 }
 
 // A node above back, or the first of an empty queue, is the new back.
-fn back_with(front: u32, back: Back, v: u32) -> u32
-    ensures { λ r. ⌜ r ≡ backWith front back v ⌝ }
+fn back_with(front: u32, back: u32, v: u32) -> u32
+    ensures { λ r. ⌜ r ≡ backWith front (At back) v ⌝ }
 {
-    match back {
-        Back::None => v,
-        Back::At(b) => {
-            if b < front {
-                return v;
-            }
-            if b < v { v } else { b }
-        }
+    if back < front {
+        return v;
     }
+    if back < v { v } else { back }
 }
 
 // The queue with a node put in whose flag is set already: only the ends move.
@@ -193,8 +185,15 @@ pub fn enqueue_flagged(q: Queue, state: u32) -> Queue
     ensures { λ r. ⌜ r ≡ enqueued q state ⌝ }
 {
     let front = q.front;
-    let back = q.back;
     let flags = q.flags;
+    let end = q.back;
+    let Back::At(back) = end else {
+        return Queue {
+            front: state,
+            back: Back::At(state),
+            flags,
+        };
+    };
     Queue {
         front: front_with(front, back, state),
         back: Back::At(back_with(front, back, state)),
@@ -228,14 +227,11 @@ fn first_set(flags: &[bool; FLAGS], from: u32, end: u32) -> u32
 }
 
 // The first node with a flag from front to back, or the one past back.
-pub fn next_front(front: u32, back: Back, flags: &[bool; FLAGS]) -> u32
-    requires { ⌜ (endsFit front back ≡ true) × (emptyFrom front back ≡ false) ⌝ }
-    ensures { λ r. ⌜ r ≡ nextFront front back (now (flags .entry)) ⌝ }
+pub fn next_front(front: u32, back: u32, flags: &[bool; FLAGS]) -> u32
+    requires { ⌜ (front ≤ back) × (back < nodeLimit) ⌝ }
+    ensures { λ r. ⌜ r ≡ nextFront front (At back) (now (flags .entry)) ⌝ }
 {
-    match back {
-        Back::None => front,
-        Back::At(b) => first_set(flags, front, b + 1),
-    }
+    first_set(flags, front, back + 1)
 }
 
 // The queue without its front, whose flag is cleared already: only front moves.
@@ -258,7 +254,10 @@ fn dequeue_untested(q: Queue) -> Queue
     ensures { λ r. ⌜ r ≡ dequeued q ⌝ }
 {
     let front = q.front;
-    let back = q.back;
+    let end = q.back;
+    let Back::At(back) = end else {
+        return q;
+    };
     let mut queue = q;
     queue.flags[front as usize] = false;
     let next = next_front(front, back, &queue.flags);

@@ -11,6 +11,8 @@ use Rattle.sheet.proofs.Below.{sum-mono}
 use Rattle.sheet.specs.Records.{countAt}
 use Rattle.distance.specs.declared.Distance.the-variants.{Unreached}
 use Rattle.distance.specs.Held.{withDistance}
+use Rattle.shortest_distance.specs.declared.parent.Parent.the-variants.{None}
+use Rattle.shortest_distance.specs.ParentWords.{parentStored}
 use Rattle.shortest_distance.specs.NodeSlots.{prepared}
 use Rattle.shortest_distance.proofs.Areas.{prepared-next}
 use Rattle.shortest_distance.proofs.node_slots.prepare.Statement.{statement}
@@ -28,12 +30,12 @@ abbrev μ-loop : tie.MeasureT-loop
 μ-loop sheet links nodes work₀ first₀ v₀ work first v = nodes - v
 
 -- the links of the nodes up to this one are among those stated
-within : (c : tie.After-word Inv-loop μ-loop) → c .before .before .before .before .before .before .loop .first + c .word .result ≤ c .before .before .before .before .before .before .before .before .before .args .links
+within : (c : tie.After-word Inv-loop μ-loop) → c .before .before .before .before .before .before .before .before .before .before .loop .first + c .word .result ≤ c .before .before .before .before .before .before .before .before .before .before .before .before .before .args .links
 within c =
-    let args = c .before .before .before .before .before .before .before .before .before .args in
+    let args = c .before .before .before .before .before .before .before .before .before .before .before .before .before .args in
     let bytes = now (args .sheet) in
-    let turn = c .before .before .before .before .before .before .loop in
-    omega (arith, turn .inv .2, c .word .ensures, next-sum bytes (args .links) (turn .v), sum-mono (countAt bytes (args .links)) (args .nodes) (turn .v + 1) (omega arith), c .before .before .before .before .before .before .before .before .before .pre .2)
+    let turn = c .before .before .before .before .before .before .before .before .before .before .loop in
+    omega (arith, turn .inv .2, c .word .ensures, next-sum bytes (args .links) (turn .v), sum-mono (countAt bytes (args .links)) (args .nodes) (turn .v + 1) (omega arith), c .before .before .before .before .before .before .before .before .before .before .before .before .before .pre .2)
 
 loop-holds : tie.Need-loop-holds Inv-loop μ-loop
 unfolding sumBelow prepared
@@ -47,6 +49,9 @@ mul-at c = search needs
 
 put-distance-requires : tie.Need-put-distance-requires Inv-loop μ-loop
 put-distance-requires c κs = search needs
+
+store-parent-requires : tie.Need-store-parent-requires Inv-loop μ-loop
+store-parent-requires c κs = search needs
 
 add-work : tie.Need-add-work Inv-loop μ-loop
 add-work c = search needs
@@ -83,14 +88,16 @@ loop-less c = search needs
 
 loop-again : tie.Need-loop-again Inv-loop μ-loop
 loop-again c =
-    let turn = c .before .before .before .before .before .before .loop in
-    let args = c .before .before .before .before .before .before .before .before .before .args in
+    let turn = c .before .before .before .before .before .before .before .before .before .before .loop in
+    let args = c .before .before .before .before .before .before .before .before .before .before .before .before .before .args in
     let bytes = now (args .sheet) in
-    let at = 8 * turn .v in (
+    let at = 8 * turn .v in
+    let put = c .before .before .before .before .before .before .before .put-distance .ensures ∙ ap (λ (x : List ℕ). withDistance x at Unreached) (turn .inv .3) in
+    let stored = c .before .before .before .store-parent .ensures ∙ ap (λ (x : List ℕ). parentStored x (turn .v) None) put in (
       search needs,
-      simp length-set (c .before .before .before .put-distance .kept .0 ∙ turn .inv .1),
+      simp length-set (c .before .before .before .store-parent .kept .0 ∙ c .before .before .before .before .before .before .before .put-distance .kept .0 ∙ turn .inv .1),
       (λ i. turn .inv .2 i + c .word .ensures i) ∙ sym (next-sum bytes (args .links) (turn .v)),
-      (λ i. set ((c .before .before .before .put-distance .ensures ∙ ap (λ (x : List ℕ). withDistance x at Unreached) (turn .inv .3)) i) (at + 4) (turn .inv .2 i)) ∙ sym (prepared-next bytes (args .links) (turn .v) (now (args .work))),
+      (λ i. set (stored i) (at + 4) (turn .inv .2 i)) ∙ sym (prepared-next bytes (args .links) (turn .v) (now (args .work))),
     )
 
 same-length : tie.Need-same-length Inv-loop μ-loop
@@ -112,6 +119,7 @@ prepare-spec =
     cast-at
     mul-at
     put-distance-requires
+    store-parent-requires
     add-work
     mul-work
     slice-write-work

@@ -6,8 +6,9 @@ use lib.ListN.{length}
 use lib.Seq.{sets}
 use denote.Ref.{now}
 use Rattle.sheet.specs.Words.{bytesOfAll}
-use Rattle.single_path.specs.declared.single.Parent.the-variants.{By}
-use Rattle.single_path.specs.SingleWords.{parentAt, wayBack, wayLinks}
+use Rattle.shortest_distance.specs.declared.parent.Parent.the-variants.{By}
+use Rattle.shortest_distance.specs.ParentWords.{parentAt}
+use Rattle.single_path.specs.SingleWords.{wayBack, wayLinks}
 use Rattle.single_path.proofs.WayTurns.{way-end, way-step}
 use Rattle.single_path.proofs.WriteTurns.{links-again, links-end}
 use borrow.Author.Needs.{needs}

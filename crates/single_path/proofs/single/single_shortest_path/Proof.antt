@@ -3,40 +3,24 @@ use Prim.Native.Nat.{_*_}
 use native.Mathlib.Omega.{arith}
 use lib.ListN.{length, drop}
 use denote.Ref.{now}
-use Rattle.single_path.proofs.SingleLaws.{Run, run-for, area-size, area-beyond, none-for, traced-for, way-for}
+use Rattle.single_path.proofs.SingleLaws.{Run, run-for, none-for, traced-for, way-for}
 use borrow.Author.Needs.{needs}
 use Rattle.single_path.proofs.single.single_shortest_path.Statement.{statement}
 use Rattle.single_path.proofs.single.single_shortest_path.Tie as tie
 
--- what the code goes by, once the distances are made
+-- what the code goes by, once distances and parents are made
 run : (c : tie.After-make) → let args = c .before .before .before .before .before .args in Run (now (args .sheet)) (now (args .work)) (c .make .last .1 .1 .0) (args .t .links) (args .t .nodes)
 run c =
     let root = c .before .before .before .before .before in
     run-for (now (root .args .sheet)) (now (root .args .work)) (c .make .last .1 .1 .0) (root .pre .0 .0) (root .args .t) (root .pre .0 .1) (root .pre .1) (c .make .ensures)
 
--- the area keeps its length, and what lies beyond the slots
-kept : (c : tie.After-parents) → let args = c .before .before .before .before .before .before .before .before .before .before .before .before .before .args in let area = c .parents .last .1 .1 .0 in
-    (length area ≡ length (now (args .work))) × (drop (8 * args .t .nodes) area ≡ drop (8 * args .t .nodes) (now (args .work)))
-kept c =
-    let args = c .before .before .before .before .before .before .before .before .before .before .before .before .before .args in
-    let r = run (c .before .before .before .before .before .before .before .before) in (
-      area-size (now (args .sheet)) (now (args .work)) _ (args .t .links) (args .t .nodes) r _ (c .before .before .before .before .clear-parents .ensures) _ (c .parents .ensures),
-      area-beyond (now (args .sheet)) (now (args .work)) _ (args .t .links) (args .t .nodes) r _ (c .before .before .before .before .clear-parents .ensures) _ (c .parents .ensures),
-    )
-
 make-requires : tie.Need-make-requires
 make-requires c κs = search needs
 
-clear-parents-requires : tie.Need-clear-parents-requires
-clear-parents-requires c κs = search needs
-
-parents-requires : tie.Need-parents-requires
-parents-requires c κs = search needs
-
 best-end-requires : tie.Need-best-end-requires
 best-end-requires c κs =
-    let root = c .before .before .before .before .before .before .before .before .before .before .before .before .before .before .before .before in
-    (run (c .before .before .before .before .before .before .before .before .before .before .before) .in-sheet, omega (arith, kept (c .before .before .before) .0, root .pre .1))
+    let r = run (c .before .before .before) in
+    (r .in-sheet, omega (arith, r .size, c .before .before .before .before .before .before .before .before .pre .1))
 
 enum-known-end : tie.Need-enum-known-end
 enum-known-end c = search needs
@@ -55,17 +39,18 @@ same-length-2 c = search needs
 
 returns : tie.Need-returns
 returns c =
-    let args = c .before .before .before .before .before .before .before .before .before .before .before .before .before .before .before .before .before .before .before .before .before .before .before .args in
+    let args = c .before .before .before .before .before .before .before .before .before .before .before .before .before .before .before .args in
+    let r = run (c .before .before .before .before .before .before .before .before .before .before) in
     let found = c .before .before .before .before .before .before .best-end in
-    let k = kept (c .before .before .before .before .before .before .before .before .before .before) in
-    let listed = none-for (now (args .sheet)) (now (args .work)) _ (args .t .links) (args .t .nodes) (run (c .before .before .before .before .before .before .before .before .before .before .before .before .before .before .before .before .before .before)) _ (c .before .before .before .before .before .before .before .before .before .before .before .before .before .before .clear-parents .ensures) _ (c .before .before .before .before .before .before .before .before .before .before .parents .ensures) (found .result) (found .ensures) (c .before .before .before .before .enum-told .given .1) (now (args .result)) _ _ (c .before .before .put-none .ensures) in
-    (listed .0, (listed .1, (k .0, k .1)))
+    let listed = none-for (now (args .sheet)) (now (args .work)) _ (args .t .links) (args .t .nodes) r (found .result) (found .ensures) (c .before .before .before .before .enum-told .given .1) (now (args .result)) _ _ (c .before .before .put-none .ensures) in
+    (listed .0, (listed .1, (r .size, r .beyond)))
 
 single-shortest-path-backtrace-requires : tie.Need-single-shortest-path-backtrace-requires
 single-shortest-path-backtrace-requires c κs =
-    let args = c .before .before .before .before .before .before .before .before .before .before .before .before .before .before .before .before .before .before .before .before .before .before .args in
+    let args = c .before .before .before .before .before .before .before .before .before .before .before .before .before .before .args in
     let found = c .before .before .before .before .before .best-end in
-    let r = traced-for (now (args .sheet)) (now (args .work)) _ (args .t .links) (args .t .nodes) (run (c .before .before .before .before .before .before .before .before .before .before .before .before .before .before .before .before .before)) _ (c .before .before .before .before .before .before .before .before .before .before .before .before .before .clear-parents .ensures) _ (c .before .before .before .before .before .before .before .before .before .parents .ensures) (found .result) (found .ensures) (c .before .before .before .end .given .0 .0) (c .before .before .before .end .given .1) in
+    let end = c .before .before .before .end .given in
+    let r = traced-for (now (args .sheet)) (now (args .work)) _ (args .t .links) (args .t .nodes) (run (c .before .before .before .before .before .before .before .before .before)) (found .result) (found .ensures) (end .0 .0) (end .1) in
     ((r .0, r .1), r .2)
 
 same-length-3 : tie.Need-same-length-3
@@ -76,20 +61,19 @@ same-length-4 c = search needs
 
 returns-2 : tie.Need-returns-2
 returns-2 c =
-    let args = c .before .before .before .before .before .before .before .before .before .before .before .before .before .before .before .before .before .before .before .before .before .before .before .before .before .args in
+    let args = c .before .before .before .before .before .before .before .before .before .before .before .before .before .before .before .before .before .args in
+    let r = run (c .before .before .before .before .before .before .before .before .before .before .before .before) in
     let found = c .before .before .before .before .before .before .before .before .best-end in
-    let k = kept (c .before .before .before .before .before .before .before .before .before .before .before .before) in
-    let whole = c .before .before .before .before .before .before .before .before .before .before .before .before .before .before .before .before .before .before .before .before .before .before .before .before .shared-slice-known .given in
-    let listed = way-for (now (args .sheet)) (now (args .work)) _ (args .t .links) (args .t .nodes) (run (c .before .before .before .before .before .before .before .before .before .before .before .before .before .before .before .before .before .before .before .before)) _ (c .before .before .before .before .before .before .before .before .before .before .before .before .before .before .before .before .clear-parents .ensures) _ (c .before .before .before .before .before .before .before .before .before .before .before .before .parents .ensures) (found .result) (found .ensures) (c .before .before .before .before .before .before .end .given .0 .0) (c .before .before .before .before .before .before .end .given .1) (λ i. omega (arith, whole i)) (now (args .result)) _ _ (c .before .before .single-shortest-path-backtrace .ensures) in
-    (listed .0, (listed .1, (k .0, k .1)))
+    let end = c .before .before .before .before .before .before .end .given in
+    let whole = c .before .before .before .before .before .before .before .before .before .before .before .before .before .before .before .before .shared-slice-known .given in
+    let listed = way-for (now (args .sheet)) (now (args .work)) _ (args .t .links) (args .t .nodes) r (found .result) (found .ensures) (end .0 .0) (end .1) (λ i. omega (arith, whole i)) (now (args .result)) _ _ (c .before .before .single-shortest-path-backtrace .ensures) in
+    (listed .0, (listed .1, (r .size, r .beyond)))
 
 pub single-shortest-path-spec : {M : Type 1} → statement M
 single-shortest-path-spec =
     tie.close
     (tie.spec
     make-requires
-    clear-parents-requires
-    parents-requires
     best-end-requires
     enum-known-end
     enum-told

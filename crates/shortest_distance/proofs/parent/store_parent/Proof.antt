@@ -3,10 +3,10 @@ use native.Mathlib.Omega.{arith}
 use lib.ListN.{length-set}
 use denote.Ref.{now}
 use borrow.Author.Needs.{needs}
-use Rattle.single_path.specs.declared.single.Parent.{Parent}
-use Rattle.single_path.specs.SingleWords.{parentStored}
-use Rattle.single_path.proofs.single.store_parent.Statement.{statement}
-use Rattle.single_path.proofs.single.store_parent.Tie as tie
+use Rattle.shortest_distance.specs.declared.parent.Parent.{Parent}
+use Rattle.shortest_distance.specs.ParentWords.{parentStored}
+use Rattle.shortest_distance.proofs.parent.store_parent.Statement.{statement}
+use Rattle.shortest_distance.proofs.parent.store_parent.Tie as tie
 
 mul-at : tie.Need-mul-at
 mul-at c = search needs

@@ -5,9 +5,9 @@ use lib.ListN.{getD}
 use denote.Ref.{now}
 use borrow.Author.Tests.{eq-eqb, ne-eqb}
 use borrow.Author.Needs.{needs}
-use Rattle.single_path.specs.SingleWords.{parentIn}
-use Rattle.single_path.proofs.single.parent_at.Statement.{statement}
-use Rattle.single_path.proofs.single.parent_at.Tie as tie
+use Rattle.shortest_distance.specs.ParentWords.{parentIn}
+use Rattle.shortest_distance.proofs.parent.parent_at.Statement.{statement}
+use Rattle.shortest_distance.proofs.parent.parent_at.Tie as tie
 
 mul-at : tie.Need-mul-at
 mul-at c = search needs
