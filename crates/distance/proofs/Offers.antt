@@ -2,7 +2,7 @@
 use mathlib.Core.Path.{_≡_, refl, sym, ap, _∙_}
 use mathlib.Core.Bool.{Bool, true, false, not, _&&_, cond}
 use lib.IntN.{ℤ}
-use lib.Ieee.{Float, binary32, add, lt}
+use lib.Ieee.{binary32, add, lt}
 use Rattle.tropical_weight.specs.Limits.{unit, sumLimit}
 use Rattle.tropical_weight.specs.Tropical.{Tropical, fin, inf, ltT, _⊕_, _⊗_, Within}
 use Rattle.tropical_weight.specs.Grid.{ofT}

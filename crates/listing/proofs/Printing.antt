@@ -16,7 +16,7 @@ use Rattle.sheet.proofs.Fields.{length-read, read-fits}
 use Rattle.sheet.proofs.Round.{Below}
 use Rattle.machine.specs.Input.{inputNumber}
 use Rattle.machine.proofs.Accepted.{input-read}
-use Rattle.shortest_distance.proofs.Accepted as Stated
+use Rattle.machine.proofs.SheetFields.{sheet-fields}
 use Rattle.machine.specs.Readings.{marked}
 use Rattle.search.specs.ListMachine.{resultFor}
 use Rattle.search.proofs.Lists.{Accepted, accepted, marked-few}
@@ -78,7 +78,7 @@ module _ (sheet : List ℕ) (below : Below 256 sheet) (n : ℕ) (short : length 
     a = accepted sheet below e
 
     layout : 16 * length (m .links) + 12 * length (m .finals) + 20 ≤ sheetMost
-    layout = omega (arith, short, length-read sheet (read-fits sheet (input-read sheet e .0)), Stated.links-are sheet e, Stated.nodes-are sheet e)
+    layout = omega (arith, short, length-read sheet (read-fits sheet (input-read sheet e .0)), sheet-fields sheet e .links-are, sheet-fields sheet e .nodes-are)
 
     product : n * (length (m .links) + 1) ≤ listMost * (length (m .links) + 1)
     product = mul-le-mul-right (length (m .links) + 1) few

@@ -30,9 +30,7 @@ use Rattle.machine.proofs.Readings.{final-in}
 use Rattle.machine.proofs.Distance.{reading-finite}
 use Rattle.machine.proofs.Bounds.{reading-limit}
 use Rattle.machine.proofs.Accepted.{passes, input-read, finite-machine}
-use Rattle.machine.proofs.SheetFields.{sheet-fields, final-word}
-use Rattle.shortest_distance.proofs.Rows.{Reads}
-use Rattle.shortest_distance.proofs.Accepted.{reads, links-are, nodes-are}
+use Rattle.machine.proofs.SheetFields.{SheetFields, sheet-fields, fields-own, final-word}
 use Rattle.listing.specs.Ways.{weightAt, runSum, runEnd}
 
 -- the sum of a run's weights from its front
@@ -48,8 +46,8 @@ module _ (bytes : List ℕ) (below : Below 256 bytes) (accepted : inputNumber by
   abbrev end : ℕ
   end = readingOf m run .end
 
-  r : Reads bytes (statedLinks bytes) (machineOf (partsOf bytes))
-  r = reads bytes accepted
+  f : SheetFields bytes (length (machineOf (partsOf bytes) .links)) (length (machineOf (partsOf bytes) .finals)) (machineOf (partsOf bytes))
+  f = fields-own bytes accepted
 
   long : length bytes ≡ 16 * statedLinks bytes + 12 * statedNodes bytes + 20
   long = length-read bytes (read-fits bytes (input-read bytes accepted .0))
@@ -59,13 +57,13 @@ module _ (bytes : List ℕ) (below : Below 256 bytes) (accepted : inputNumber by
   in-links = run-in m run (reading .from) end (reading .runs)
 
   pub link-in-sheet : (i : ℕ) → i < length run → 16 * getD run i 0 + 16 ≤ length bytes
-  link-in-sheet i h = omega (arith, long, links-are bytes accepted, in-links (getD run i 0) (getD-mem run i 0 h))
+  link-in-sheet i h = omega (arith, long, sheet-fields bytes accepted .links-are, in-links (getD run i 0) (getD-mem run i 0 h))
 
   in-nodes : end < length (m .finals)
   in-nodes = final-in m end (reading .weight) (reading .marked)
 
   pub end-in-sheet : 16 * statedLinks bytes + 12 * readingOf (machineOf (partsOf bytes)) run .end + 12 ≤ length bytes
-  end-in-sheet = omega (arith, long, nodes-are bytes accepted, in-nodes)
+  end-in-sheet = omega (arith, long, sheet-fields bytes accepted .nodes-are, in-nodes)
 
   -- ---- where it ends
   -- the start
@@ -80,7 +78,7 @@ module _ (bytes : List ℕ) (below : Below 256 bytes) (accepted : inputNumber by
   -- the last link's next node
   last-next : (u : ℕ) (ls : List ℕ) → ((l : ℕ) → l ∈ ls → l < length (m .links)) → endFrom m u ls ≡ runEnd bytes u ls
   last-next u [] h = refl
-  last-next u (l ∷ []) h = sym (r .next-at l (h l (here l [])))
+  last-next u (l ∷ []) h = sym (f .next-at l (h l (here l [])))
   last-next u (l ∷ k ∷ ls) h = last-next (link m l .next) (k ∷ ls) (λ a q. h a (List·Memᴰ·tail q))
 
   pub run-end-is : runEnd bytes (trailerField bytes 4) run ≡ readingOf (machineOf (partsOf bytes)) run .end
@@ -91,12 +89,12 @@ module _ (bytes : List ℕ) (below : Below 256 bytes) (accepted : inputNumber by
   weights = map (λ l. link m l .weight) run
 
   few : length (weights ++ []) ≤ nodeLimit
-  few = omega (arith, ap length (append-nil weights), length-map run (λ l. link m l .weight), run-length m (r .climbs) run (reading .from) end (reading .runs), in-nodes, r .few)
+  few = omega (arith, ap length (append-nil weights), length-map run (λ l. link m l .weight), run-length m (f .climbs) run (reading .from) end (reading .runs), in-nodes, f .few-nodes)
 
   each : (w : Tropical) → w ∈ (weights ++ []) → Within weightLimit w
   each w q =
       let x = mem-map (λ l. link m l .weight) run (subst (λ (l : List Tropical). w ∈ l) (append-nil weights) q) in
-      subst (Within weightLimit) (sym (x .2)) (r .small .onLink (x .0) (in-links (x .0) (x .1)))
+      subst (Within weightLimit) (sym (x .2)) (f .small .onLink (x .0) (in-links (x .0) (x .1)))
 
   exact : (addAll (ofT unit one) (map (ofT unit) weights) ≡ ofT unit (timesAll one weights)) × Within sumLimit (timesAll one weights)
   exact = sums-exact nodeLimit weightLimit limits unit (omega arith) weights [] few each
@@ -106,7 +104,7 @@ module _ (bytes : List ℕ) (below : Below 256 bytes) (accepted : inputNumber by
 
   sum-is : runSum bytes run ≡ ofT unit (runCost m run)
   sum-is =
-      ap (addAll (ofT unit one)) (map-same (weightAt bytes) (λ l. ofT unit (link m l .weight)) run (λ l q. r .weight-at l (in-links l q)) ∙ sym (map-map (ofT unit) (λ l. link m l .weight) run))
+      ap (addAll (ofT unit one)) (map-same (weightAt bytes) (λ l. ofT unit (link m l .weight)) run (λ l q. f .link-value l (in-links l q)) ∙ sym (map-map (ofT unit) (λ l. link m l .weight) run))
       ∙ exact .0 ∙ ap (ofT unit) cost-is
 
   -- the final weight
@@ -117,14 +115,14 @@ module _ (bytes : List ℕ) (below : Below 256 bytes) (accepted : inputNumber by
 
   final-within : Within sumLimit (finalWeight (final m end))
   final-within =
-      subst (λ (o : Option Tropical). Within sumLimit (finalWeight o)) (sym (reading .marked)) (within-mono weightLimit sumLimit (reading .weight) (omega arith) (r .small .onFinal end (reading .weight) (reading .marked)))
+      subst (λ (o : Option Tropical). Within sumLimit (finalWeight o)) (sym (reading .marked)) (within-mono weightLimit sumLimit (reading .weight) (omega arith) (f .small .onFinal end (reading .weight) (reading .marked)))
 
   -- what the code adds up and answers
   pub cost-answers : (sum weight total : Float) (k : ℤ) → sum ≡ runSum bytes run → weight ≡ ofBits binary32 (word bytes (16 * statedLinks bytes + 12 * readingOf (machineOf (partsOf bytes)) run .end + 8)) → Computes (add binary32) _⊗_ sum weight total → Costs unit total k
       → fin k ≡ readingCost (machineOf (partsOf bytes)) (readingOf (machineOf (partsOf bytes)) run)
   cost-answers sum weight total k s w t c =
       let x = reading-finite m (finite-machine (partsOf bytes) (passes bytes accepted)) (readingOf m run) reading in
-      let few : Within sumLimit (fin (x .0)) = subst (Within sumLimit) (x .1) (reading-limit m (r .climbs) weightLimit (r .small) nodeLimit limits (r .few) (readingOf m run) reading) in
+      let few : Within sumLimit (fin (x .0)) = subst (Within sumLimit) (x .1) (reading-limit m (f .climbs) weightLimit (f .small) nodeLimit limits (f .few-nodes) (readingOf m run) reading) in
       let is : total ≡ ofT unit (readingCost m (readingOf m run)) =
       t .exact unit (omega arith) (runCost m run) (finalWeight (final m end)) (subst (Within sumLimit) cost-is (exact .1)) final-within (s ∙ sum-is) (w ∙ final-is) in
       ap fin (c .exact (x .0) few (is ∙ ap (ofT unit) (x .1))) ∙ sym (x .1)

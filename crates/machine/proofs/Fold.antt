@@ -7,7 +7,6 @@ use mathlib.Core.List.{[], _∷_, map}
 use Prim.Native.Nat.{ℕ, zero, suc, _≤_, _<_}
 use native.Mathlib.Omega.{arith}
 use lib.Dec.{eqb}
-use lib.IntN.{ℤ}
 use lib.ListN.{length}
 use lib.Ieee.Bits.{is-true}
 use borrow.Author.Tests.{eqb-true, eq-eqb}
@@ -21,7 +20,7 @@ use Rattle.machine.specs.Distance.{plusAll, dist, via, total, totalAt}
 use Rattle.machine.specs.Parents.{orElse, lowest, attains, parent, bestEnd}
 use Rattle.sheet.proofs.Apart.{both, not-both}
 use Rattle.machine.proofs.Lists.{below-mem, mem-below}
-use Rattle.machine.proofs.Sums.{plusAll-le, plusAll-in, plusAll-append}
+use Rattle.machine.proofs.Sums.{plusAll-le, plusAll-in, plusAll-next}
 use Rattle.machine.proofs.Runs.{at-some}
 use Rattle.machine.proofs.Relax.{rowAt, distOver, more-runs, same-runs, row-is, source-settled}
 use Rattle.machine.proofs.Reached.{finite-reached, reached-above}
@@ -48,7 +47,7 @@ or-some : (o : Option ℕ) (i n : ℕ) → o ≡ some i → orElse o (some n) �
 or-some o i n e = ap (λ o. orElse o (some n)) e ∙ sym e
 
 -- infinity attains nothing
-pub attains-inf : (d : Tropical) → attains d inf ≡ false
+attains-inf : (d : Tropical) → attains d inf ≡ false
 attains-inf (fin k) = refl
 attains-inf inf = refl
 
@@ -69,8 +68,7 @@ module _ (y : ℕ → Tropical) where
   chosen n = lowest n (λ j. attains (least n) (y j))
 
   pub least-suc : (n : ℕ) → least (suc n) ≡ least n ⊕ y n
-  unfolding listBelow plusAll
-  least-suc n = plusAll-append (listBelow n y) (y n ∷ []) ∙ ap (λ a. least n ⊕ a) (⊕-comm (y n) inf ∙ zero-⊕ (y n))
+  least-suc n = plusAll-next n y
 
   pub chosen-suc : (n : ℕ) → chosen (suc n) ≡ cond (ltT (y n) (least n)) (some n) (chosen n)
   unfolding lowest

@@ -169,12 +169,15 @@ module _ (bytes : List ℕ) (accepted : inputNumber bytes ≡ 0) where
     final-bits = λ whole v h n. bits-again (finalAt bytes T v) (word-lt bytes (16 * T + 12 * v + 8) whole) (grid v h n);
   }
 
-  -- by the trailer that reading found, and by the machine's own numbers
+  -- by the trailer that reading found, by the machine's own number of nodes, and by both of its numbers
   pub fields-for : (t : Trailer) → t ≡ trailerAt bytes → SheetFields bytes (t .links) (t .nodes) (machine bytes)
   fields-for t same = subst (λ (t : Trailer). SheetFields bytes (t .links) (t .nodes) (machine bytes)) (sym same) sheet-fields
 
+  pub fields-nodes : SheetFields bytes (statedLinks bytes) (length (machine bytes .finals)) (machine bytes)
+  fields-nodes = subst (λ (N : ℕ). SheetFields bytes T N m) (sym nodes) sheet-fields
+
   pub fields-own : SheetFields bytes (length (machine bytes .links)) (length (machine bytes .finals)) (machine bytes)
-  fields-own = subst (λ (T : ℕ). SheetFields bytes T (length (m .finals)) m) (sym links) (subst (λ (N : ℕ). SheetFields bytes T N m) (sym nodes) sheet-fields)
+  fields-own = subst (λ (T : ℕ). SheetFields bytes T (length (m .finals)) m) (sym links) fields-nodes
 
 -- ---- what follows
 module _ {bytes : List ℕ} {T N : ℕ} {m : Machine} (f : SheetFields bytes T N m) where

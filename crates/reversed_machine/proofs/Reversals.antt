@@ -19,14 +19,13 @@ use Rattle.distance.proofs.Words.{same-words, put-back, put-word, put-other, pu
 use Rattle.machine.specs.Input.{inputNumber}
 use Rattle.search.specs.Reversed.{outOf, distanceTo}
 use Rattle.machine.specs.Readings.{marked}
-use Rattle.shortest_distance.proofs.Accepted.{reads, nodes-are, links-are}
 use Rattle.slots.specs.Slots.{nothing}
 use Rattle.search_slots.specs.Slots.{headWord, visitsWord, chainWord}
 use Rattle.machine.specs.Finals.{finalsAt, finalCount}
 use Rattle.reversed_machine.specs.ReverseWords.{headsCleared, linksReversed, finalsReversed, leastDistance, chainsPut, reversedWords, chainOf, backOf}
 use Rattle.reversed_machine.specs.Laid.{backCount, Measured, Laid, Reversal}
 use Rattle.machine.proofs.FinalCount.{count-none, count-most}
-use Rattle.machine.proofs.SheetFields.{SheetFields, fields-own}
+use Rattle.machine.proofs.SheetFields.{SheetFields, sheet-fields, fields-own}
 use Rattle.reversed_machine.proofs.Fronts.{Lists, Same, lists-lower, lists-kept, lists-length, lists-read, lists-first, Filled, filled-kept}
 use Rattle.reversed_machine.proofs.Chains.{Passed, Ended, links-reversed, finals-reversed}
 use Rattle.reversed_machine.proofs.Untouched.{cleared-size, cleared-spared, cleared-words, Free, reversed-size, finals-size, reversed-free, finals-free}
@@ -105,8 +104,7 @@ module _ (bytes : List ℕ) (e : inputNumber bytes ≡ 0) (nodes links : ℕ) (p
 
     least-is : least ≡ held (distanceTo m 0)
     least-is =
-        let r = reads bytes e in
-        least-held m (r .climbs) (r .small) (r .few) bytes T N s nodes put put-measured
+        least-held m (s .climbs) (s .small) (s .few-nodes) bytes T N s nodes put put-measured
 
     distances : (q : ℕ) → q ≤ N → distanceIn new (nodes + 8 * q) ≡ held (distanceTo m q)
     distances zero h =
@@ -222,8 +220,8 @@ pub reversal : (bytes : List ℕ) → inputNumber bytes ≡ 0 → (t : Trailer) 
 unfolding reversedWords chainsPut
 reversal bytes e t same finals nodes links part f apart room measured =
     let m = machineOf (partsOf bytes) in
-    let N : t .nodes ≡ length (m .finals) = ap (λ (t : Trailer). t .nodes) same ∙ sym (nodes-are bytes e) in
-    let T : t .links ≡ length (m .links) = ap (λ (t : Trailer). t .links) same ∙ sym (links-are bytes e) in
+    let N : t .nodes ≡ length (m .finals) = ap (λ (t : Trailer). t .nodes) same ∙ sym (sheet-fields bytes e .nodes-are) in
+    let T : t .links ≡ length (m .links) = ap (λ (t : Trailer). t .links) same ∙ sym (sheet-fields bytes e .links-are) in
     let all : t .links + finals ≡ backCount m = (λ i. T i + (f ∙ λ j. finalCount bytes (T j) (N j)) i) ∙ whole bytes e nodes links part in
     subst (λ (n : ℕ). Reversal m nodes links part (reversedWords bytes nodes links n (t .links) part)) (sym N)
     (subst (λ (n : ℕ). Reversal m nodes links part (reversedWords bytes nodes links (length (m .finals)) n part)) (sym T)

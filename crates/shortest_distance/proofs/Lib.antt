@@ -3,7 +3,6 @@ pub mod Areas
 pub mod Turns
 pub mod Kept
 pub mod Rows
-pub mod Accepted
 pub mod Starts
 pub mod Outcomes
 pub mod Promises

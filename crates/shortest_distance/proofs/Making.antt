@@ -23,6 +23,7 @@ use Rattle.machine.specs.Distance.{distanceOf, dist, isReached}
 use Rattle.machine.specs.Input.{inputNumber}
 use Rattle.machine.proofs.Accepted.{passes, input-read, next-at, few-nodes}
 use Rattle.machine.proofs.Testing.{in-sheet, counts-total}
+use Rattle.machine.proofs.SheetFields.{sheet-fields, fields-nodes}
 use Rattle.machine.proofs.Reached.{reached-none, unreached-inf}
 use Rattle.machine.proofs.Parents.{parent-none}
 use Rattle.state_order_queue.specs.declared.Queue.{Queue}
@@ -34,7 +35,6 @@ use Rattle.shortest_distance.specs.Relaxation.{State, relaxHeads}
 use Rattle.shortest_distance.specs.Sound.{Sound, Made}
 use Rattle.shortest_distance.proofs.Areas.{length-prepared, prepared-words, prepared-beyond}
 use Rattle.shortest_distance.proofs.Rows.{Holds, Final, heads}
-use Rattle.shortest_distance.proofs.Accepted.{reads, nodes-are}
 use Rattle.shortest_distance.proofs.Starts.{zero-cost, begun-holds}
 use Rattle.shortest_distance.proofs.Kept.{put-kept, store-kept}
 use Rattle.state_order_queue.proofs.Sets.{emptied-full, emptied-valid, emptied-empty, empty-exactly}
@@ -64,11 +64,11 @@ module _ (bytes old : List ℕ) (e : inputNumber bytes ≡ 0) (room : 8 * stated
     unreached v = go (isReached (machine bytes) v) refl
       where
         go : (b : Bool) → isReached (machine bytes) v ≡ b → b ≡ false
-        go true q = absurd (reached-none (machine bytes) (reads bytes e .climbs) v no-start q)
+        go true q = absurd (reached-none (machine bytes) (fields-nodes bytes e .climbs) v no-start q)
         go false q = refl
 
     infinite : (v : ℕ) → dist (machine bytes) v ≡ inf
-    infinite v = unreached-inf (machine bytes) (reads bytes e .climbs) v (unreached v)
+    infinite v = unreached-inf (machine bytes) (fields-nodes bytes e .climbs) v (unreached v)
 
     made-none : Made bytes old (prepared bytes (statedLinks bytes) (statedNodes bytes) old)
     made-none = record {
@@ -89,10 +89,10 @@ module _ (bytes old : List ℕ) (e : inputNumber bytes ≡ 0) (room : 8 * stated
     a-start = ap (λ (k : ℕ). cond (eqb k noStart) none (some k)) same ∙ ap (λ (b : Bool). cond b none (some s)) (ne-eqb s noStart (λ q. omega (arith, few)))
 
     in-nodes : s < length (machine bytes .finals)
-    in-nodes = subst (λ (n : ℕ). s < n) (sym (nodes-are bytes e)) h
+    in-nodes = subst (λ (n : ℕ). s < n) (sym (sheet-fields bytes e .nodes-are)) h
 
     slots : 8 * length (machine bytes .finals) ≤ length old
-    slots = subst (λ (n : ℕ). 8 * n ≤ length old) (sym (nodes-are bytes e)) room
+    slots = subst (λ (n : ℕ). 8 * n ≤ length old) (sym (sheet-fields bytes e .nodes-are)) room
 
     abbrev first-state : State
     first-state = record { work = withDistance (prepared bytes (statedLinks bytes) (statedNodes bytes) old) (8 * s) (held zero-cost); queue = enqueued emptied s }
@@ -122,16 +122,16 @@ module _ (bytes old : List ℕ) (e : inputNumber bytes ≡ 0) (room : 8 * stated
     abbrev begun-at : ℕ → State
     begun-at n = record { work = withDistance (prepared bytes (statedLinks bytes) n old) (8 * s) (held zero-cost); queue = enqueued emptied s }
 
-    begun : Holds bytes (statedLinks bytes) (machine bytes) (reads bytes e) old 0 0 first-state
+    begun : Holds bytes (statedLinks bytes) (machine bytes) (fields-nodes bytes e) old 0 0 first-state
     begun =
-        subst (λ (n : ℕ). Holds bytes (statedLinks bytes) (machine bytes) (reads bytes e) old 0 0 (begun-at n)) (nodes-are bytes e)
-        (begun-holds bytes (statedLinks bytes) (machine bytes) (reads bytes e) old s a-start in-nodes slots
-        (subst (λ (n : ℕ). Sound bytes (statedLinks bytes) n (begun-at n .work) (begun-at n .queue)) (sym (nodes-are bytes e)) sound))
+        subst (λ (n : ℕ). Holds bytes (statedLinks bytes) (machine bytes) (fields-nodes bytes e) old 0 0 (begun-at n)) (sheet-fields bytes e .nodes-are)
+        (begun-holds bytes (statedLinks bytes) (machine bytes) (fields-nodes bytes e) old s a-start in-nodes slots
+        (subst (λ (n : ℕ). Sound bytes (statedLinks bytes) n (begun-at n .work) (begun-at n .queue)) (sym (sheet-fields bytes e .nodes-are)) sound))
 
     made-some : Made bytes old (relaxHeads bytes (statedLinks bytes) (statedNodes bytes) first-state .work)
     made-some =
-        let all : Final bytes (statedLinks bytes) (machine bytes) (reads bytes e) old (relaxHeads bytes (statedLinks bytes) (statedNodes bytes) first-state) =
-        heads bytes (statedLinks bytes) (machine bytes) (reads bytes e) old (statedNodes bytes) 0 first-state (omega arith) (omega (arith, nodes-are bytes e)) (subst (λ (l : ℕ). Holds bytes (statedLinks bytes) (machine bytes) (reads bytes e) old l 0 first-state) (sym none-before) begun) in
+        let all : Final bytes (statedLinks bytes) (machine bytes) (fields-nodes bytes e) old (relaxHeads bytes (statedLinks bytes) (statedNodes bytes) first-state) =
+        heads bytes (statedLinks bytes) (machine bytes) (fields-nodes bytes e) old (statedNodes bytes) 0 first-state (omega arith) (omega (arith, sheet-fields bytes e .nodes-are)) (subst (λ (l : ℕ). Holds bytes (statedLinks bytes) (machine bytes) (fields-nodes bytes e) old l 0 first-state) (sym none-before) begun) in
         record {
           each = λ v b. all .distances v (subst (λ (n : ℕ). v < n) (sym (machine-nodes (partsOf bytes))) b);
           parents = λ v b. all .parents v (subst (λ (n : ℕ). v < n) (sym (machine-nodes (partsOf bytes))) b);

@@ -21,6 +21,7 @@ use Rattle.sheet.specs.Machine.{machine}
 use Rattle.machine.specs.Distance as Named
 use Rattle.machine.specs.Distance.{distance, distances, height}
 use Rattle.machine.specs.Input.{inputNumber}
+use Rattle.machine.proofs.SheetFields.{fields-nodes}
 use Rattle.machine.proofs.Accepted.{passes, finite-machine}
 use Rattle.machine.proofs.Reached.{height-le}
 use Rattle.distance.specs.Written.{written}
@@ -35,8 +36,6 @@ use Rattle.shortest_distance.specs.Handed.{handed, handedBy, handedOver}
 use Rattle.shortest_distance.specs.Outcome.{answerOf, slotsNeeded, distanceNumber, distancesBy, distanceAnswer, workAfter, resultAfter}
 use Rattle.shortest_distance.specs.Sound.{Made}
 use Rattle.slots.proofs.Clearing.{cleared-same}
-use Rattle.shortest_distance.proofs.Areas.{length-words}
-use Rattle.shortest_distance.proofs.Accepted.{reads}
 use Rattle.shortest_distance.proofs.Starts.{height-is}
 
 -- ---- the words of slots that hold these distances are those they are written in
@@ -103,7 +102,7 @@ module _ (bytes work result : List ℕ) where
     height-same : heightIn made (slotsNeeded bytes) ≡ height (machine bytes)
     height-same =
         ap (heightIn made) (sym nodes)
-        ∙ height-is bytes (statedLinks bytes) (machine bytes) (reads bytes e) work (finite-machine (partsOf bytes) (passes bytes e)) made (λ v b. h .each v (subst (λ (k : ℕ). v < k) nodes b)) (length (machine bytes .finals)) (le-refl (length (machine bytes .finals)))
+        ∙ height-is bytes (statedLinks bytes) (machine bytes) (fields-nodes bytes e) work (finite-machine (partsOf bytes) (passes bytes e)) made (λ v b. h .each v (subst (λ (k : ℕ). v < k) nodes b)) (length (machine bytes .finals)) (le-refl (length (machine bytes .finals)))
 
     count-same : heightIn made (slotsNeeded bytes) ≡ length (distances (machine bytes))
     unfolding distances

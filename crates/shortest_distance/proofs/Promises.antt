@@ -3,25 +3,21 @@ use mathlib.Core.Path.{_≡_, refl, sym, ap, _∙_, subst}
 use mathlib.Core.Logic.{_⊎_, inl, inr}
 use mathlib.Core.Bool.{Bool, true, false, cond}
 use mathlib.Core.Option.{some}
-use mathlib.Core.List.{List, [], _∷_, _++_, flatMap}
-use Prim.Native.Nat.{ℕ, zero, suc, _+_, _*_, _<_}
+use mathlib.Core.List.{List, _++_, flatMap}
+use Prim.Native.Nat.{ℕ, suc, _+_, _*_, _<_}
 use native.Mathlib.Decide.{ℕ-discrete}
 use native.Mathlib.Omega.{arith}
 use lib.Dec.{eqb}
-use lib.ListN.{length, drop, getD, length-append, List·getD-append}
-use lib.Seq.{getD-append-add}
+use lib.ListN.{length, drop, getD}
 use borrow.Author.Tests.{eqb-true}
 use Rattle.tropical_weight.specs.Tropical.{Tropical, fin, inf, _≼_}
 use Rattle.sheet.specs.Words.{word, words, bytesOfAll}
 use Rattle.sheet.specs.Sheet.{partsOf}
 use Rattle.sheet.specs.Machine.{Machine, machine}
 use Rattle.sheet.proofs.Below.{getD-listBelow, length-listBelow}
-use Rattle.sheet.proofs.Fields.{getD-words}
-use Rattle.sheet.proofs.Round.{Below, words-of}
-use Rattle.sheet.proofs.Encoding.{bits-lt}
 use Rattle.machine.specs.Readings.{runCost}
 use Rattle.machine.specs.Climbs.{Climbs, Finite}
-use Rattle.machine.specs.Distance.{Distance, reached, unreached, distanceOf, dist, distance, distances, height, isReached}
+use Rattle.machine.specs.Distance.{Distance, unreached, distanceOf, dist, distance, distances, height, isReached}
 use Rattle.machine.specs.Input.{inputNumber}
 use Rattle.machine.proofs.Runs.{FromStart}
 use Rattle.machine.proofs.Distance.{infinite, dist-le, dist-attained}

@@ -3,7 +3,7 @@
 use mathlib.Core.Path.{_≡_, refl, sym, ap, _∙_, subst}
 use mathlib.Core.Logic.{_⊎_, inl, inr}
 use mathlib.Core.Bool.{Bool, true, false, not, _&&_, _||_, cond, and-false}
-use mathlib.Core.Option.{Option, none, some}
+use mathlib.Core.Option.{Option, some}
 use mathlib.Core.List.{List}
 use Prim.Native.Nat.{ℕ, zero, suc, _+_, _-_, _*_, _≤_, _<_}
 use native.Mathlib.Nat.{add-zero}
@@ -15,7 +15,7 @@ use lib.ListN.{length, getD, set, drop}
 use lib.Seq.{getD-set-same, getD-set-other, set-getD}
 use lib.Ieee.{Float, binary32, add}
 use borrow.Author.Tests.{le-leb, lt-leb, lt-ltb, eq-eqb, ne-eqb}
-use Rattle.tropical_weight.specs.Limits.{unit, weightLimit, nodeLimit, linkLimit, sumLimit}
+use Rattle.tropical_weight.specs.Limits.{unit, weightLimit, nodeLimit, sumLimit}
 use Rattle.tropical_weight.specs.Tropical.{Tropical, ltT, _⊗_, Within}
 use Rattle.tropical_weight.specs.Grid.{ofT}
 use Rattle.tropical_weight.proofs.Semiring.{isFinite, finite-⊕, not-finite}
@@ -23,13 +23,13 @@ use Rattle.tropical_weight.proofs.Sums.{within-mono, terms-within, limits}
 use Rattle.sheet.specs.Below.{sumBelow}
 use Rattle.sheet.specs.Machine.{Machine}
 use Rattle.sheet.specs.Records.{linkAt, countAt}
-use Rattle.sheet.proofs.Below.{sum-mono, split-at}
+use Rattle.sheet.proofs.Below.{split-at}
 use Rattle.machine.specs.Readings.{link}
-use Rattle.machine.specs.Climbs.{Climbs, Small}
 use Rattle.machine.specs.Distance.{Distance, unreached, asWeight, nearer, onward, dist, distance, relax}
 use Rattle.machine.specs.Parents.{parent}
 use Rattle.machine.proofs.Named.{weight-of, of-weight, same-weight, step-weight}
 use Rattle.machine.proofs.Fold as Fold
+use Rattle.machine.proofs.SheetFields.{SheetFields, next-first, first-in}
 use Rattle.machine.proofs.Relax.{rowAt, row-size, relax-is}
 use Rattle.machine.proofs.Bounds.{row-within, step-within}
 use Rattle.state_order_queue.specs.Queues.{holds, isEmpty, enqueued, dequeued}
@@ -39,8 +39,6 @@ use Rattle.distance.specs.declared.Distance.the-variants.{Reached}
 use Rattle.distance.specs.Held.{held, weightIn}
 use Rattle.distance.specs.Offer.{improves, reaches}
 use Rattle.distance.proofs.Offers.{weight-held, improves-is, relaxed-is, reaches-is}
-use Rattle.slots.specs.Slots.{nothing}
-use Rattle.shortest_distance.specs.declared.parent.Parent.{Parent}
 use Rattle.shortest_distance.specs.declared.parent.Parent.the-variants.{By}
 use Rattle.shortest_distance.specs.ParentWords.{parentAt, parentFrom}
 use Rattle.shortest_distance.specs.NodeSlots.{distanceAt, firstWord}
@@ -49,32 +47,18 @@ use Rattle.shortest_distance.specs.Sound.{Sound}
 use Rattle.shortest_distance.proofs.ParentWords.{taken-here, taken-other, parent-here, parent-other, taken-length, taken-drop}
 use Rattle.shortest_distance.proofs.Kept.{link-kept, head-taken}
 
--- A sheet's records as the code reads them, and the machine that they are of.
-pub record Reads (bytes : List ℕ) (links : ℕ) (m : Machine) : Type 0 where
-  pub climbs : Climbs m
-  pub small : Small weightLimit m
-  pub few : length (m .finals) ≤ nodeLimit
-  pub few-links : length (m .links) ≤ linkLimit
-  pub total : sumBelow (length (m .finals)) (countAt bytes links) ≡ length (m .links)
-  pub source-at : (v l : ℕ) → v < length (m .finals) → sumBelow v (countAt bytes links) ≤ l → l < sumBelow (suc v) (countAt bytes links) → link m l .source ≡ v
-  pub next-at : (l : ℕ) → l < length (m .links) → linkAt bytes l .nextstate ≡ link m l .next
-  pub weight-at : (l : ℕ) → l < length (m .links) → linkAt bytes l .weight ≡ ofT unit (link m l .weight)
-
--- the first link of the next node, and those of all nodes among the machine's
-pub next-first : (bytes : List ℕ) (links v : ℕ) → sumBelow (suc v) (countAt bytes links) ≡ sumBelow v (countAt bytes links) + countAt bytes links v
-next-first bytes links v = unfold sumBelow in refl
-
-pub first-in : (bytes : List ℕ) (links : ℕ) (m : Machine) → Reads bytes links m → (v : ℕ) → v ≤ length (m .finals) → sumBelow v (countAt bytes links) ≤ length (m .links)
-first-in bytes links m r v h = omega (arith, sum-mono (countAt bytes links) (length (m .finals)) v h, r .total)
-
-module _ (bytes : List ℕ) (links : ℕ) (m : Machine) (r : Reads bytes links m) (old : List ℕ) where
+module _ (bytes : List ℕ) (links : ℕ) (m : Machine) (f : SheetFields bytes links (length (m .finals)) m) (old : List ℕ) where
   -- the first link of node v
   abbrev first : ℕ → ℕ
   first v = sumBelow v (countAt bytes links)
 
+  -- past the last node come no links
+  all-links : first (length (m .finals)) ≡ length (m .links)
+  all-links = f .counted ∙ sym (f .links-are)
+
   -- ---- rows
   row-limit : (l v : ℕ) → l ≤ length (m .links) → v < length (m .finals) → Within sumLimit (rowAt m l v)
-  row-limit l v k h = terms-within nodeLimit weightLimit limits v (omega (arith, r .few)) (rowAt m l v) (row-within m (r .climbs) weightLimit (r .small) l v k h)
+  row-limit l v k h = terms-within nodeLimit weightLimit limits v (omega (arith, f .few-nodes)) (rowAt m l v) (row-within m (f .climbs) weightLimit (f .small) l v k h)
 
   -- the distance that link l leaves at its next node, and at the others
   abbrev left : ℕ → Distance
@@ -82,7 +66,7 @@ module _ (bytes : List ℕ) (links : ℕ) (m : Machine) (r : Reads bytes links m
 
   row-next : (l : ℕ) → l < length (m .links) → getD (relax m (suc l)) (link m l .next) unreached ≡ left l
   unfolding relax
-  row-next l h = getD-set-same (relax m l) (link m l .next) (left l) unreached (omega (arith, row-size m l, r .climbs .inside l h))
+  row-next l h = getD-set-same (relax m l) (link m l .next) (left l) unreached (omega (arith, row-size m l, f .climbs .inside l h))
 
   row-other : (l v : ℕ) → (v ≡ link m l .next → ⊥) → getD (relax m (suc l)) v unreached ≡ getD (relax m l) v unreached
   unfolding relax
@@ -95,7 +79,7 @@ module _ (bytes : List ℕ) (links : ℕ) (m : Machine) (r : Reads bytes links m
   -- link l is chosen where it improves the value of its next node
   chosen-next : (l v : ℕ) → l < length (m .links) → v < length (m .finals)
       → chosen (suc l) v ≡ cond (eqb (link m l .next) v && ltT (rowAt m l (link m l .source) ⊗ link m l .weight) (rowAt m l v)) (some l) (chosen l v)
-  chosen-next l v h b = Fold.parent-step m (r .climbs) l v h b
+  chosen-next l v h b = Fold.parent-step m (f .climbs) l v h b
 
   chosen-other : (l v : ℕ) → l < length (m .links) → v < length (m .finals) → (v ≡ link m l .next → ⊥) → chosen (suc l) v ≡ chosen l v
   chosen-other l v h b n =
@@ -134,8 +118,8 @@ module _ (bytes : List ℕ) (links : ℕ) (m : Machine) (r : Reads bytes links m
   skip-links v (suc n) h k e =
       let l = first v + n in
       let same = skip-links v n h (omega arith) e in
-      let in-links : l < length (m .links) = omega (arith, next-first bytes links v, first-in bytes links m r (suc v) h) in
-      let source : link m l .source ≡ v = r .source-at v l h (omega arith) (omega (arith, next-first bytes links v)) in
+      let in-links : l < length (m .links) = omega (arith, next-first bytes links v, first-in f (suc v) h, f .links-are) in
+      let source : link m l .source ≡ v = f .source-at v l h (omega arith) (omega arith) in
       let unreached-source = ap (λ (x : List Distance). getD x (link m l .source) unreached) (same .row) ∙ ap (λ (x : ℕ). getD (relax m (first v)) x unreached) source ∙ e in
       same-trans (same-at (let z : first v + suc n ≡ suc l = omega arith in z)) (same-trans (record { row = row-same l in-links unreached-source; parents = chosen-same l in-links unreached-source }) same)
 
@@ -161,19 +145,22 @@ module _ (bytes : List ℕ) (links : ℕ) (m : Machine) (r : Reads bytes links m
   -- ---- one link of node u
   module _ (u l : ℕ) (hu : u < length (m .finals)) (lo : first u ≤ l) (hi : l < first (suc u)) where
     in-links : l < length (m .links)
-    in-links = omega (arith, first-in bytes links m r (suc u) hu)
+    in-links = omega (arith, first-in f (suc u) hu, f .links-are)
 
     source : link m l .source ≡ u
-    source = r .source-at u l hu lo hi
+    source = f .source-at u l hu lo (subst (λ (n : ℕ). l < n) (next-first bytes links u) hi)
+
+    in-sheet : l < links
+    in-sheet = subst (λ (n : ℕ). l < n) (f .links-are) in-links
 
     abbrev nx : ℕ
     nx = link m l .next
 
     nx-in : nx < length (m .finals)
-    nx-in = r .climbs .inside l in-links
+    nx-in = f .climbs .inside l in-links
 
     nx-up : u < nx
-    nx-up = subst (λ (x : ℕ). x < link m l .next) source (r .climbs .rises l in-links)
+    nx-up = subst (λ (x : ℕ). x < link m l .next) source (f .climbs .rises l in-links)
 
     -- the distance of u, of the next node, and the weight
     abbrev x : Distance
@@ -186,10 +173,10 @@ module _ (bytes : List ℕ) (links : ℕ) (m : Machine) (r : Reads bytes links m
     w = link m l .weight
 
     weight-limit : Within sumLimit w
-    weight-limit = within-mono weightLimit sumLimit w (let z : weightLimit ≤ sumLimit = omega arith in z) (r .small .onLink l in-links)
+    weight-limit = within-mono weightLimit sumLimit w (let z : weightLimit ≤ sumLimit = omega arith in z) (f .small .onLink l in-links)
 
     offer-limit : Within sumLimit (asWeight d ⊗ w)
-    offer-limit = step-within m (r .climbs) weightLimit (r .small) nodeLimit limits (r .few) l u (omega (arith, in-links)) hu l in-links
+    offer-limit = step-within m (f .climbs) weightLimit (f .small) nodeLimit limits (f .few-nodes) l u (omega (arith, in-links)) hu l in-links
 
     x-limit : Within sumLimit (asWeight x)
     x-limit = row-limit l nx (omega (arith, in-links)) nx-in
@@ -214,14 +201,14 @@ module _ (bytes : List ℕ) (links : ℕ) (m : Machine) (r : Reads bytes links m
       state-is : relaxLink (linkAt bytes l) l u (ofT unit (asWeight d)) s ≡ after s
       state-is =
           let reach-is : reaches (distanceAt (s .work) (linkAt bytes l .nextstate)) (ofT unit (asWeight d)) (linkAt bytes l .weight) ≡ not (isFinite (asWeight x)) && isFinite (asWeight d ⊗ w) =
-          (λ i. reaches ((ap (distanceAt (s .work)) (r .next-at l in-links) ∙ h .distances nx nx-in) i) (ofT unit (asWeight d)) (r .weight-at l in-links i)) ∙ reaches-is x d w x-limit d-limit weight-limit offer-limit in
+          (λ i. reaches ((ap (distanceAt (s .work)) (f .next-at l in-sheet) ∙ h .distances nx nx-in) i) (ofT unit (asWeight d)) (f .link-value l in-sheet i)) ∙ reaches-is x d w x-limit d-limit weight-limit offer-limit in
           λ i. record {
             work =
                 cond
-                (improves (distanceAt (s .work) (r .next-at l in-links i)) (ofT unit (asWeight d)) (r .weight-at l in-links i))
-                (takenWords (r .next-at l in-links i) (add binary32 (ofT unit (asWeight d)) (r .weight-at l in-links i)) l u (s .work))
+                (improves (distanceAt (s .work) (f .next-at l in-sheet i)) (ofT unit (asWeight d)) (f .link-value l in-sheet i))
+                (takenWords (f .next-at l in-sheet i) (add binary32 (ofT unit (asWeight d)) (f .link-value l in-sheet i)) l u (s .work))
                 (s .work);
-            queue = cond (reach-is i) (enqueued (s .queue) (r .next-at l in-links i)) (s .queue);
+            queue = cond (reach-is i) (enqueued (s .queue) (f .next-at l in-sheet i)) (s .queue);
           }
 
       -- the next node's distance after the offer
@@ -229,7 +216,7 @@ module _ (bytes : List ℕ) (links : ℕ) (m : Machine) (r : Reads bytes links m
       becomes = (λ i. cond (improves (h .distances nx nx-in i) (ofT unit (asWeight d)) (ofT unit w)) (Reached offer) (held x)) ∙ relaxed-is x d w x-limit d-limit weight-limit offer-limit
 
       small-next : nx < nodeLimit
-      small-next = omega (arith, nx-in, r .few)
+      small-next = omega (arith, nx-in, f .few-nodes)
 
       new-flag : (t : Bool) (v : ℕ) → holds (cond t (enqueued (s .queue) nx) (s .queue)) v ≡ (t && eqb v nx) || holds (s .queue) v
       new-flag true v = enqueued-holds (s .queue) nx (h .sound .full) small-next v
@@ -291,7 +278,7 @@ module _ (bytes : List ℕ) (links : ℕ) (m : Machine) (r : Reads bytes links m
       parent-after v k = elim (ℕ-discrete v nx) [
         | yes e ↦
             ap (parentAt (after s .work)) e
-            ∙ parent-here (s .work) nx offer l u better (omega (arith, in-links, r .few-links)) (omega (arith, h .sound .slots, nx-in))
+            ∙ parent-here (s .work) nx offer l u better (omega (arith, in-sheet, f .few-links)) (omega (arith, h .sound .slots, nx-in))
             ∙ (λ i. cond (better-is i) (By l u) (h .parents nx nx-in i))
             ∙ by-test (eqb nx nx && ltT (rowAt m l (link m l .source) ⊗ w) (rowAt m l nx))
             ∙ ap (parentFrom m) (sym (ap (chosen (suc l)) e ∙ chosen-next l nx in-links nx-in))
@@ -302,7 +289,7 @@ module _ (bytes : List ℕ) (links : ℕ) (m : Machine) (r : Reads bytes links m
       link-step = subst (λ (y : State). Holds (suc l) (suc u) y) (sym state-is) (record {
         distances = distance-after;
         parents = parent-after;
-        sound = subst (λ (y : State). Sound bytes links (length (m .finals)) (y .work) (y .queue)) state-is (link-kept bytes links (length (m .finals)) (linkAt bytes l) l u (ofT unit (asWeight d)) s (subst (λ (n : ℕ). n < length (m .finals)) (sym (r .next-at l in-links)) nx-in) (h .sound));
+        sound = subst (λ (y : State). Sound bytes links (length (m .finals)) (y .work) (y .queue)) state-is (link-kept bytes links (length (m .finals)) (linkAt bytes l) l u (ofT unit (asWeight d)) s (subst (λ (n : ℕ). n < length (m .finals)) (sym (f .next-at l in-sheet)) nx-in) (h .sound));
         size = taken-length (s .work) nx offer l u better ∙ h .size;
         beyond = taken-drop (s .work) nx offer l u better (8 * length (m .finals)) (omega (arith, nx-in)) ∙ h .beyond;
         flags = flag-after;
@@ -402,9 +389,9 @@ module _ (bytes : List ℕ) (links : ℕ) (m : Machine) (r : Reads bytes links m
   final-of : (k : ℕ) (s : State) → Holds (first k) k s → Same (first (length (m .finals))) (first k) → Final s
   final-of k s h e = record {
     distances = λ v b.
-        let last : getD (relax m (length (m .links))) v unreached ≡ distance m v = same-weight (relax-is m (r .climbs) v b ∙ sym (weight-of (dist m v))) in
-        h .distances v b ∙ ap (λ (y : List Distance). held (getD y v unreached)) (sym (e .row) ∙ ap (relax m) (r .total)) ∙ ap held last;
-    parents = λ v b. h .parents v b ∙ ap (parentFrom m) (sym (e .parents v b) ∙ ap (λ (l : ℕ). chosen l v) (r .total) ∙ sym (Fold.parent-chosen m (r .climbs) v));
+        let last : getD (relax m (length (m .links))) v unreached ≡ distance m v = same-weight (relax-is m (f .climbs) v b ∙ sym (weight-of (dist m v))) in
+        h .distances v b ∙ ap (λ (y : List Distance). held (getD y v unreached)) (sym (e .row) ∙ ap (relax m) all-links) ∙ ap held last;
+    parents = λ v b. h .parents v b ∙ ap (parentFrom m) (sym (e .parents v b) ∙ ap (λ (l : ℕ). chosen l v) all-links ∙ sym (Fold.parent-chosen m (f .climbs) v));
     size = h .size;
     beyond = h .beyond;
   }
@@ -415,9 +402,9 @@ module _ (bytes : List ℕ) (links : ℕ) (m : Machine) (r : Reads bytes links m
   heads (suc n) k s a b h = go (isEmpty (s .queue)) refl (λ filled. heads n (suc (s .queue .front)) (relaxHead bytes links s) (omega (arith, head k s a h filled .1)) (omega (arith, head k s a h filled .0)) (head-step k s a h filled))
     where
       go : (t : Bool) → isEmpty (s .queue) ≡ t → (isEmpty (s .queue) ≡ false → Final (relaxHeads bytes links n (relaxHead bytes links s))) → Final (cond t s (relaxHeads bytes links n (relaxHead bytes links s)))
-      go true e f =
+      go true e on =
           let at : k + (length (m .finals) - k) ≡ length (m .finals) = omega arith in
           final-of k s h
           (same-trans (same-at (ap first (sym at)))
           (skip-nodes (length (m .finals) - k) k (omega arith) (λ v c d. blank k s a h v c (omega arith) (empty-exactly (s .queue) (h .sound .full) (h .sound .valid) .0 e v))))
-      go false e f = f e
+      go false e on = on e

@@ -18,6 +18,7 @@ use Rattle.sheet.proofs.Below.{split-at}
 use Rattle.machine.specs.Climbs.{Finite}
 use Rattle.machine.specs.Distance.{Distance, reached, unreached, asWeight, startRow, relax, dist, distance, isReached, heightBelow}
 use Rattle.machine.specs.Parents.{lowest}
+use Rattle.machine.proofs.SheetFields.{SheetFields}
 use Rattle.machine.proofs.Named.{weight-of}
 use Rattle.machine.proofs.Fold.{chosen, offer}
 use Rattle.machine.proofs.Relax.{rowAt}
@@ -34,13 +35,13 @@ use Rattle.shortest_distance.specs.Sound.{Sound}
 use Rattle.shortest_distance.proofs.ParentWords.{put-parent}
 use Rattle.shortest_distance.proofs.Areas.{length-prepared, prepared-words, prepared-beyond}
 use Rattle.tropical_weight.proofs.Semiring.{isFinite}
-use Rattle.shortest_distance.proofs.Rows.{Reads, Holds}
+use Rattle.shortest_distance.proofs.Rows.{Holds}
 
 -- the start's distance
 abbrev pub zero-cost : Distance
 zero-cost = reached (pos 0)
 
-module _ (bytes : List ℕ) (links : ℕ) (m : Machine) (r : Reads bytes links m) (old : List ℕ) where
+module _ (bytes : List ℕ) (links : ℕ) (m : Machine) (f : SheetFields bytes links (length (m .finals)) m) (old : List ℕ) where
   -- ---- slots set up, the start reached at 0, and in the queue
   module _ (s : ℕ) (starts : m .start ≡ some s) (in-nodes : s < length (m .finals)) (room : 8 * length (m .finals) ≤ length old) where
     abbrev pub begun : State
@@ -57,7 +58,7 @@ module _ (bytes : List ℕ) (links : ℕ) (m : Machine) (r : Reads bytes links m
     row-blank v n b = ap (λ l. getD l v unreached) row-zero ∙ getD-set-other (replicate (length (m .finals)) unreached) s v zero-cost unreached n ∙ getD-replicate (length (m .finals)) v unreached unreached b
 
     small : s < nodeLimit
-    small = omega (arith, r .few)
+    small = omega (arith, f .few-nodes)
 
     distance-begun : (v : ℕ) → v < length (m .finals) → distanceAt (begun .work) v ≡ held (getD (relax m 0) v unreached)
     distance-begun v b = elim (ℕ-discrete v s) [
@@ -94,7 +95,7 @@ module _ (bytes : List ℕ) (links : ℕ) (m : Machine) (r : Reads bytes links m
         other v n (inl b) = ap (λ (y : Distance). ltb v (length (m .finals)) && isFinite (asWeight y)) (row-blank v n b) ∙ and-false (ltb v (length (m .finals)))
         other v n (inr b) = ap (λ (t : Bool). t && isFinite (rowAt m 0 v)) (le-ltb v (length (m .finals)) b)
 
-    pub begun-holds : Sound bytes links (length (m .finals)) (begun .work) (begun .queue) → Holds bytes links m r old 0 0 begun
+    pub begun-holds : Sound bytes links (length (m .finals)) (begun .work) (begun .queue) → Holds bytes links m f old 0 0 begun
     begun-holds sound = record {
       distances = distance-begun;
       parents = parent-begun;
@@ -105,13 +106,13 @@ module _ (bytes : List ℕ) (links : ℕ) (m : Machine) (r : Reads bytes links m
     }
 
   -- ---- distances made: how many are written
-  module _ (f : Finite m) (work : List ℕ) (made : (v : ℕ) → v < length (m .finals) → distanceAt work v ≡ held (distance m v)) where
+  module _ (finite : Finite m) (work : List ℕ) (made : (v : ℕ) → v < length (m .finals) → distanceAt work v ≡ held (distance m v)) where
     reached-is : (v : ℕ) → v < length (m .finals) → isReached m v ≡ isFinite (dist m v)
     reached-is v b = go (isReached m v) refl
       where
         go : (t : Bool) → isReached m v ≡ t → t ≡ isFinite (dist m v)
-        go true e = sym (ap isFinite (reached-finite m (r .climbs) f v e .1))
-        go false e = sym (ap isFinite (unreached-inf m (r .climbs) v e))
+        go true e = sym (ap isFinite (reached-finite m (f .climbs) finite v e .1))
+        go false e = sym (ap isFinite (unreached-inf m (f .climbs) v e))
 
     pub height-is : (n : ℕ) → n ≤ length (m .finals) → heightIn work n ≡ heightBelow m n
     unfolding heightIn heightBelow

@@ -45,8 +45,7 @@ use Rattle.list_answer.proofs.SlotsNeeded.{slots-many}
 use Rattle.list_answer.specs.ListAnswer.{slotsOf, slotsFor, listedIn, listedOver}
 use Rattle.machine.specs.Finals.{finalsAt, finalCount}
 use Rattle.reversed_machine.specs.Laid.{Reversal}
-use Rattle.shortest_distance.proofs.Accepted.{links-are, nodes-are}
-use Rattle.machine.proofs.SheetFields.{fields-own}
+use Rattle.machine.proofs.SheetFields.{sheet-fields, fields-own}
 use Rattle.n_shortest.specs.declared.n_best.Places.{Places}
 use Rattle.n_shortest.specs.SearchWords.{Words, afterW, begunW, noneW, stoppedW, Sized, Ready, Begins}
 use Rattle.n_shortest.proofs.Storing as Storing
@@ -78,10 +77,10 @@ module _ (bytes : List ℕ) (below : Below 256 bytes) (ok : inputNumber bytes �
   b = small-machine (partsOf bytes) (passes bytes ok)
 
   pub links-is : t .links ≡ length (m .links)
-  links-is = ap (λ (t : Trailer). t .links) same ∙ sym (links-are bytes ok)
+  links-is = ap (λ (t : Trailer). t .links) same ∙ sym (sheet-fields bytes ok .links-are)
 
   pub nodes-is : t .nodes ≡ length (m .finals)
-  nodes-is = ap (λ (t : Trailer). t .nodes) same ∙ sym (nodes-are bytes ok)
+  nodes-is = ap (λ (t : Trailer). t .nodes) same ∙ sym (sheet-fields bytes ok .nodes-are)
 
   pub finals-is : finals ≡ marked (m .finals)
   unfolding finalsAt

@@ -1,6 +1,4 @@
-use native.Mathlib.Omega.{arith}
 use borrow.Author.Needs.{needs}
-use Rattle.state_order_queue.proofs.Records.{filled-bound}
 use Rattle.state_order_queue.proofs.next_front.Statement.{statement}
 use Rattle.state_order_queue.proofs.next_front.Tie as tie
 

@@ -1,7 +1,4 @@
-use mathlib.Core.Path.{_≡_}
-use Prim.Native.Nat.{_*_}
 use native.Mathlib.Omega.{arith}
-use lib.ListN.{length, drop}
 use denote.Ref.{now}
 use Rattle.single_path.proofs.SingleLaws.{Run, run-for, none-for, traced-for, way-for}
 use borrow.Author.Needs.{needs}
