@@ -1,6 +1,7 @@
 -- One offer of a distance is exactly one step of relaxation, for infinite weights too; and what distances in single precision add to sums. Assumes nothing.
 use mathlib.Core.Path.{_≡_, refl, sym, ap, _∙_}
 use mathlib.Core.Bool.{Bool, true, false, not, _&&_, cond}
+use Prim.Native.Nat.{ℕ}
 use lib.IntN.{ℤ}
 use lib.Ieee.{binary32, add, lt}
 use Rattle.tropical_weight.specs.Limits.{unit, sumLimit}
@@ -8,8 +9,9 @@ use Rattle.tropical_weight.specs.Tropical.{Tropical, fin, inf, ltT, _⊕_, _⊗
 use Rattle.tropical_weight.specs.Grid.{ofT}
 use Rattle.tropical_weight.proofs.Semiring.{isFinite}
 use Rattle.tropical_weight.proofs.Exact.{covered, times-ofT, lt-ofT}
+use Rattle.sheet.specs.Machine.{Machine}
 use Rattle.machine.specs.Distance as Named
-use Rattle.machine.specs.Distance.{asWeight, distanceOf, nearer, onward}
+use Rattle.machine.specs.Distance.{asWeight, distanceOf, nearer, onward, dist, distance}
 use Rattle.machine.proofs.Named.{weight-of, of-weight}
 use Rattle.distance.specs.declared.Distance.{Distance}
 use Rattle.distance.specs.declared.Distance.the-variants.{Reached, Unreached}
@@ -20,6 +22,9 @@ use Rattle.distance.specs.Offer.{improves, relaxedBy, reaches}
 pub weight-held : (d : Named.Distance) → weightIn (held d) ≡ ofT unit (asWeight d)
 weight-held (Named.reached k) = refl
 weight-held Named.unreached = refl
+
+pub weight-dist : (m : Machine) (v : ℕ) → weightIn (held (distance m v)) ≡ ofT unit (dist m v)
+weight-dist m v = weight-held (distance m v) ∙ ap (ofT unit) (weight-of (dist m v))
 
 pub reached-held : (d : Named.Distance) → reachedIn (held d) ≡ isFinite (asWeight d)
 reached-held (Named.reached k) = refl

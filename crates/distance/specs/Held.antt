@@ -23,7 +23,7 @@ abbrev pub weightIn : Distance → Float
 weightIn (Reached cost) = cost
 weightIn Unreached = Ieee.inf false
 
--- reached at a weight that is finite, else unreached
+-- reached at a weight below infinity, else unreached
 abbrev pub distanceFrom : Float → Distance
 distanceFrom w = cond (lt w (Ieee.inf false)) (Reached w) Unreached
 

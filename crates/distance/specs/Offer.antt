@@ -6,7 +6,7 @@ use Rattle.distance.specs.declared.Distance.{Distance}
 use Rattle.distance.specs.declared.Distance.the-variants.{Reached}
 use Rattle.distance.specs.Held.{weightIn, reachedIn}
 
--- whether the offer from a node at a distance over a weight is less than the node's own; one that is not finite never is
+-- whether the offer from a node at a distance over a weight is less than the node's own; infinity never is
 abbrev pub improves : Distance → Float → Float → Bool
 improves old distance weight = lt (add binary32 distance weight) (weightIn old)
 

@@ -28,7 +28,7 @@ pub fn as_weight(d: Distance) -> f32
     }
 }
 
-// The distance of a weight: a finite one is reached.
+// The distance of a weight: one below infinity is reached.
 pub fn of_weight(weight: f32) -> Distance
     ensures { λ r. ⌜ r ≡ distanceFrom weight ⌝ }
 {

@@ -105,9 +105,6 @@ module _ (m : Machine) where
     pub reached-run : (v : ℕ) → (isReached m v ≡ true) ↔ ((r : List ℕ) × FromStart m r v)
     reached-run v = (λ e. let x = reach-ways (length (m .links)) v e in (x .0, ways-are m c v (x .0) .0 (x .1)), λ x. ways-reach (length (m .links)) v (x .0) (ways-are m c v (x .0) .1 (x .1)))
 
-    pub reached-start : (s : ℕ) → m .start ≡ some s → isReached m s ≡ true
-    reached-start s e = reached-run s .1 ([], (s, e, refl))
-
     -- nodes below the start are not reached, and no node without a start
     pub reached-above : (s v : ℕ) → m .start ≡ some s → isReached m v ≡ true → s ≤ v
     reached-above s v e h =
@@ -152,9 +149,6 @@ module _ (m : Machine) where
     -- ---- the distances written
     pub no-start : m .start ≡ none → height m ≡ 0
     no-start e = elim (height-attained (length (m .finals))) [ inl q ↦ q | inr x ↦ absurd (reached-none (x .0) e (x .2)) ]
-
-    pub start-written : (s : ℕ) → m .start ≡ some s → s < length (m .finals) → s < height m
-    start-written s e b = height-above (length (m .finals)) s b (reached-start s e)
 
     -- they are the front of the relaxed row
     pub distances-relax : distances m ≡ take (height m) (relax m (length (m .links)))

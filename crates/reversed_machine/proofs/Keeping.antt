@@ -1,20 +1,14 @@
--- A reversed machine stays laid out while a search stores in the slots of entries and counts visits; and where its distances come from. Assumes nothing.
-use mathlib.Core.Path.{_≡_, refl, sym, ap, _∙_, subst}
-use mathlib.Core.Logic.{_⊎_}
-use mathlib.Core.Bool.{cond}
-use mathlib.Core.List.{List, [], _∷_, _++_, map}
-use Prim.Native.Nat.{ℕ, zero, suc, _+_, _-_, _*_, _≤_, _<_}
+-- Where the distances of a reversed machine come from: those made in the words from the slot of node 1 on. Assumes nothing.
+use mathlib.Core.Path.{_≡_, sym, ap, _∙_, subst}
+use mathlib.Core.List.{List, _++_}
+use Prim.Native.Nat.{ℕ, _+_, _-_, _*_, _≤_, _<_}
 use native.Mathlib.Omega.{arith}
-use lib.Dec.{eqb}
-use lib.ListN.{length, getD, take, drop, set, length-set, length-append, length-drop, take-append-drop, List·getD-append}
-use lib.Seq.{getD-set-other, getD-append-add, length-take-le, take-at, drop-append-add, drop-append-le, drop-drop}
-use lib.Ieee.{binary32, ofBits}
-use Rattle.tropical_weight.specs.Limits.{unit}
-use Rattle.tropical_weight.specs.Grid.{ofT}
+use lib.ListN.{length, getD, take, drop, length-append, length-drop, take-append-drop, List·getD-append}
+use lib.Seq.{getD-append-add, length-take-le, take-at, drop-append-add, drop-append-le, drop-drop}
 use Rattle.sheet.specs.declared.tr.Trailer.{Trailer}
 use Rattle.sheet.specs.Records.{trailerAt}
 use Rattle.sheet.specs.Sheet.{partsOf}
-use Rattle.sheet.specs.Machine.{Machine, machineOf, weightOf}
+use Rattle.sheet.specs.Machine.{machineOf}
 use Rattle.sheet.proofs.Fields.{read-fields}
 use Rattle.sheet.proofs.Sources.{machine-nodes}
 use Rattle.machine.specs.Distance.{distance}
@@ -22,56 +16,8 @@ use Rattle.distance.specs.Held.{held, distanceIn}
 use Rattle.distance.proofs.Words.{same-words}
 use Rattle.shortest_distance.specs.Outcome.{slotsNeeded}
 use Rattle.shortest_distance.specs.Sound.{Made}
-use Rattle.slots.specs.Slots.{nothing}
-use Rattle.search_slots.specs.Slots.{headWord, nextWord, weightWord, chainWord}
-use Rattle.reversed_machine.specs.ReverseWords.{chainOf, backOf}
-use Rattle.reversed_machine.specs.Laid.{backCount, MeasuredIn, Laid}
+use Rattle.reversed_machine.specs.Laid.{MeasuredIn}
 
--- ---- a chain is read by its chain words alone
-pub chain-same : (part new : List ℕ) (links : ℕ) → ((k : ℕ) → chainWord new links k ≡ chainWord part links k) → (n k : ℕ) → chainOf new links k n ≡ chainOf part links k n
-unfolding chainOf
-chain-same part new links same zero k = refl
-chain-same part new links same (suc n) k = λ i. cond (eqb k nothing) [] (k ∷ (chain-same part new links same n (chainWord new links k) ∙ ap (λ (j : ℕ). chainOf part links j n) (same k)) i)
-
--- ---- what a search may store: words below the slots of nodes, and visits
-module _ (m : Machine) (nodes links : ℕ) (part : List ℕ) (laid : Laid m nodes links part) where
-  pub laid-kept : (new : List ℕ) → length new ≡ length part → ((i : ℕ) → nodes ≤ i → ((q : ℕ) → q ≤ length (m .finals) → i ≡ nodes + 8 * q + 3 → ⊥) → getD new i 0 ≡ getD part i 0) → Laid m nodes links new
-  laid-kept new size same = record {
-    apart = laid .apart;
-    room = omega (arith, laid .room);
-    few = laid .few;
-    heads = λ q h. subst (λ (k : ℕ). (k ≡ nothing) ⊎ (k < backCount m)) (sym (head q)) (laid .heads q h);
-    rises = λ k h. subst (λ (j : ℕ). (j ≡ nothing) ⊎ ((k < j) × (j < backCount m))) (sym (chain k)) (laid .rises k h);
-    inside = λ k h. subst (λ (j : ℕ). (0 < j) × (j ≤ length (m .finals))) (sym (next k)) (laid .inside k h);
-    valued = λ k h. subst (λ (w : ℕ). ofBits binary32 w ≡ ofT unit (weightOf w)) (sym (weight k)) (laid .valued k h);
-    out = λ q h n b. (λ i. map (back i) ((chain-same part new links chain n (headWord new nodes q) ∙ ap (λ (k : ℕ). chainOf part links k n) (head q)) i)) ∙ laid .out q h n b;
-    distances = λ q h. same-words new part (nodes + 8 * q) (nodes + 8 * q) (same (nodes + 8 * q) (omega arith) (λ j b z. omega arith)) (same (nodes + 8 * q + 1) (omega arith) (λ j b z. omega arith)) ∙ laid .distances q h;
-  }
-    where
-      head : (q : ℕ) → headWord new nodes q ≡ headWord part nodes q
-      head q = same (nodes + 8 * q + 2) (omega arith) (λ j b z. omega arith)
-
-      next : (k : ℕ) → nextWord new links k ≡ nextWord part links k
-      next k = same (links + 8 * k) (omega (arith, laid .apart)) (λ j b z. omega (arith, laid .apart))
-
-      weight : (k : ℕ) → weightWord new links k ≡ weightWord part links k
-      weight k = same (links + 8 * k + 1) (omega (arith, laid .apart)) (λ j b z. omega (arith, laid .apart))
-
-      chain : (k : ℕ) → chainWord new links k ≡ chainWord part links k
-      chain k = same (links + 8 * k + 2) (omega (arith, laid .apart)) (λ j b z. omega (arith, laid .apart))
-
-      back : backOf new links (length (m .links)) ≡ backOf part links (length (m .links))
-      back = λ i k. record { input = backOf part links (length (m .links)) k .input; weight = weightOf (weight k i); next = next k i }
-
-  -- a word of an entry's slot
-  pub laid-entry : (i x : ℕ) → i < nodes → Laid m nodes links (set part i x)
-  laid-entry i x h = laid-kept (set part i x) (length-set part i x) (λ j a b. getD-set-other part i j x 0 (λ z. omega arith))
-
-  -- the visits of a node
-  pub laid-visits : (q x : ℕ) → q ≤ length (m .finals) → Laid m nodes links (set part (nodes + 8 * q + 3) x)
-  laid-visits q x h = laid-kept (set part (nodes + 8 * q + 3) x) (length-set part (nodes + 8 * q + 3) x) (λ j a b. getD-set-other part (nodes + 8 * q + 3) j x 0 (b q h))
-
--- ---- distances made in the words from the slot of node 1 on
 module _ (bytes : List ℕ) (nodes : ℕ) (old made : List ℕ) (fits : nodes + 8 * (slotsNeeded bytes + 1) ≤ length old) where
   -- those words, and what lies after them, which is nothing
   abbrev lent : List ℕ

@@ -83,7 +83,7 @@ module _ (bytes : List ℕ) (e : inputNumber bytes ≡ 0) (nodes links : ℕ) (p
     put-free : (i : ℕ) → Free nodes links N (backCount m) i → getD put i 0 ≡ getD heads i 0
     put-free i f = finals-free bytes nodes links T N m s (backCount m) whole N (le-refl N) half i f ∙ reversed-free bytes nodes links T N m s (backCount m) whole N (le-refl N) heads i f
 
-    -- any word but the distance of node 0, and those two words of the nodes
+    -- any word but the two of node 0's distance, and the head and the visits of each node
     kept : (i : ℕ) → Free nodes links N (backCount m) i → ((q : ℕ) → q ≤ N → i ≡ nodes + 8 * q + 3 → ⊥) → (i ≡ nodes → ⊥) → (i ≡ nodes + 1 → ⊥) → getD new i 0 ≡ getD part i 0
     kept i f v n o =
         put-word put nodes least i n o

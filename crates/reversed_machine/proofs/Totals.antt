@@ -2,7 +2,7 @@
 use mathlib.Core.Path.{_≡_, refl, sym, ap, _∙_, subst}
 use mathlib.Core.Bool.{Bool, true, false, cond}
 use mathlib.Core.Option.{none, some}
-use mathlib.Core.List.{List, [], _∷_}
+use mathlib.Core.List.{List}
 use Prim.Native.Nat.{ℕ, zero, suc, _+_, _*_, _≤_, _<_}
 use native.Mathlib.Omega.{arith}
 use native.Mathlib.Nat.{le-refl}
@@ -22,26 +22,20 @@ use Rattle.sheet.specs.Machine.{Machine, weightOf}
 use Rattle.machine.specs.Readings.{final, finalWeight}
 use Rattle.machine.specs.Climbs.{Climbs, Small}
 use Rattle.machine.specs.Distance.{plusAll, dist, distance, totalAt, total}
-use Rattle.machine.proofs.Sums.{plusAll-append}
+use Rattle.machine.proofs.Sums.{plusAll-next}
 use Rattle.machine.proofs.Bounds.{dist-limit, total-limit, least-limit}
-use Rattle.machine.proofs.Named.{weight-of}
 use Rattle.distance.specs.Held.{held, weightIn, distanceFrom, distanceIn}
-use Rattle.distance.proofs.Offers.{weight-held, from-held}
+use Rattle.distance.proofs.Offers.{weight-dist, from-held}
 use Rattle.sheet.specs.Records.{markAt, finalAt}
 use Rattle.search.specs.Reversed.{distanceTo}
 use Rattle.reversed_machine.specs.ReverseWords.{totalWith, leastTotal, leastDistance}
 use Rattle.machine.proofs.SheetFields.{SheetFields}
 
 module _ (m : Machine) (climbs : Climbs m) (small : Small weightLimit m) (few : length (m .finals) ≤ nodeLimit) where
-  -- ---- one node more
-  least-next : (v : ℕ) → plusAll (listBelow (suc v) (totalAt m)) ≡ plusAll (listBelow v (totalAt m)) ⊕ totalAt m v
-  unfolding listBelow plusAll
-  least-next v = plusAll-append (listBelow v (totalAt m)) (totalAt m v ∷ []) ∙ ap (λ x. plusAll (listBelow v (totalAt m)) ⊕ x) (⊕-comm (totalAt m v) inf ∙ zero-⊕ (totalAt m v))
-
   module _ (bytes : List ℕ) (T N : ℕ) (s : SheetFields bytes T N m) (nodes : ℕ) (part : List ℕ) (measured : (v : ℕ) → v < N → distanceIn part (nodes + 8 * (v + 1)) ≡ held (distance m v)) where
     -- what the slot of a node adds to a sum
     added : (v : ℕ) → v < N → weightIn (distanceIn part (nodes + 8 * (v + 1))) ≡ ofT unit (dist m v)
-    added v h = ap weightIn (measured v h) ∙ weight-held (distance m v) ∙ ap (ofT unit) (weight-of (dist m v))
+    added v h = ap weightIn (measured v h) ∙ weight-dist m v
 
     least-at : (n : ℕ) → n ≤ N → leastTotal bytes nodes T n part ≡ ofT unit (plusAll (listBelow n (totalAt m)))
     unfolding leastTotal listBelow plusAll
@@ -50,7 +44,7 @@ module _ (m : Machine) (climbs : Climbs m) (small : Small weightLimit m) (few : 
         let x = plusAll (listBelow v (totalAt m)) in
         ap (totalWith bytes nodes T v part) (least-at v (omega arith))
         ∙ by-mark (eqb (markAt bytes T v) 0) refl
-        ∙ ap (ofT unit) (sym (least-next v))
+        ∙ ap (ofT unit) (sym (plusAll-next v (totalAt m)))
       where
         inside : v < length (m .finals)
         inside = subst (λ (n : ℕ). v < n) (sym (s .nodes-are)) h

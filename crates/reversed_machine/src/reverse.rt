@@ -162,6 +162,7 @@ fn least_total(sheet: &[u8], links: u32, nodes: u32, part: &[u32], heads: usize)
 }
 
 // Makes the distances of an accepted sheet in the slots of its nodes, which follow that of node 0.
+// Parents come with them, in the words of heads and visits, which a list sets anew.
 pub fn measure(sheet: &[u8], t: Trailer, part: &mut [u32], heads: usize)
     requires { ⌜ (inputNumber (now sheet) ≡ 0) × (t ≡ trailerAt (now sheet)) × (heads + 8 * (t .nodes + 1) ≤ length (now part)) ⌝ }
     ensures { λ _. ⌜ MeasuredIn (now (sheet .entry)) heads (now (part .entry)) (now (part .exit)) ⌝ }

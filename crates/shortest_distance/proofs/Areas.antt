@@ -1,4 +1,4 @@
--- The slots of the work area: set up, left zero, scanned and written out. Assumes nothing.
+-- The slots of the work area: set up, scanned and written out. Assumes nothing.
 use mathlib.Core.Path.{_≡_, refl, sym, ap, _∙_, subst}
 use mathlib.Core.Logic.{_⊎_, inl, inr}
 use mathlib.Core.List.{List, _++_}

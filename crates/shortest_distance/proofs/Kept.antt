@@ -8,6 +8,7 @@ use native.Mathlib.Numerals.{add-one}
 use native.Mathlib.Omega.{arith}
 use lib.Dec.{eqb}
 use lib.Ieee.{Float, binary32, add}
+use lib.ListN.{length}
 use borrow.Author.Tests.{eqb-true}
 use Rattle.tropical_weight.specs.Limits.{nodeLimit}
 use Rattle.sheet.specs.declared.tr.Link.{Link}
@@ -59,33 +60,25 @@ module _ (bytes : List ℕ) (links nodes : ℕ) where
       new u (inl e) = omega (arith, eqb-true u v e)
       new u (inr e) = h .held u e
 
-  -- a distance stored
-  pub store-kept : (work : List ℕ) (q : Queue) (v : ℕ) (d : Distance) → Sound bytes links nodes work q → Sound bytes links nodes (withDistance work (8 * v) d) q
-  store-kept work q v d h = record {
+  -- words stored that are no first links: a distance, or a parent
+  area-kept : (work new : List ℕ) (q : Queue) → length new ≡ length work → ((u : ℕ) → firstWord new u ≡ firstWord work u) → Sound bytes links nodes work q → Sound bytes links nodes new q
+  area-kept work new q size firsts h = record {
     laid-out = h .laid-out;
-    slots = omega (arith, h .slots, put-length work (8 * v) d);
+    slots = omega (arith, h .slots, size);
     few = h .few;
     counted = h .counted;
     inside = h .inside;
-    firsts = λ u l. first-kept work v u d ∙ h .firsts u l;
+    firsts = λ u l. firsts u ∙ h .firsts u l;
     full = h .full;
     valid = h .valid;
     held = h .held;
   }
 
-  -- a parent stored
+  pub store-kept : (work : List ℕ) (q : Queue) (v : ℕ) (d : Distance) → Sound bytes links nodes work q → Sound bytes links nodes (withDistance work (8 * v) d) q
+  store-kept work q v d = area-kept work (withDistance work (8 * v) d) q (put-length work (8 * v) d) (λ u. first-kept work v u d)
+
   parent-kept : (work : List ℕ) (q : Queue) (v : ℕ) (p : Parent) → Sound bytes links nodes work q → Sound bytes links nodes (parentStored work v p) q
-  parent-kept work q v p h = record {
-    laid-out = h .laid-out;
-    slots = omega (arith, h .slots, stored-length work v p);
-    few = h .few;
-    counted = h .counted;
-    inside = h .inside;
-    firsts = λ u l. stored-first work v p u ∙ h .firsts u l;
-    full = h .full;
-    valid = h .valid;
-    held = h .held;
-  }
+  parent-kept work q v p = area-kept work (parentStored work v p) q (stored-length work v p) (stored-first work v p)
 
   pub link-kept : (k : Link) (l v : ℕ) (distance : Float) (s : State) → k .nextstate < nodes → Kept s → Kept (relaxLink k l v distance s)
   link-kept k l v distance s b h = store (improves (distanceAt (s .work) (k .nextstate)) distance (k .weight))

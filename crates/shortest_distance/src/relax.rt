@@ -18,8 +18,8 @@ use state_order_queue::Queue;
 
 // Offers a link's next node the distance by that link, number l, from its source v at d. Where it is
 // strictly less the node takes it, and the link becomes its parent: of equal offers the first stays.
-// A strict comparison of exact sums is right in every rounding mode, and an offer that is not finite
-// reaches nothing. Answers whether it is the node's first.
+// A strict comparison of exact sums is right in every rounding mode, and an offer of infinity reaches
+// nothing. Answers whether it is the node's first.
 fn relax_link(k: Link, l: u32, v: u32, d: f32, work: &mut [u32]) -> bool
     requires { ⌜ 8 * k .nextstate + 8 ≤ length (now work) ⌝ }
     ensures { λ r. ⌜ r ≡ reaches (distanceAt (now (work .entry)) (k .nextstate)) d (k .weight) ⌝ }

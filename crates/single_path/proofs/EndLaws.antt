@@ -22,12 +22,11 @@ use Rattle.sheet.specs.Machine.{Machine, weightOf}
 use Rattle.machine.specs.Readings.{finalWeight}
 use Rattle.machine.specs.Distance.{plusAll, dist, distance, totalAt}
 use Rattle.machine.specs.Parents.{lowest, bestEnd}
-use Rattle.machine.proofs.Named.{weight-of}
 use Rattle.machine.proofs.Fold.{least, chosen, least-suc, chosen-suc, end-chosen}
 use Rattle.machine.proofs.Bounds.{dist-limit, total-limit, least-limit}
 use Rattle.machine.proofs.SheetFields.{SheetFields, marked-final, unmarked-final}
 use Rattle.distance.specs.Held.{held, weightIn}
-use Rattle.distance.proofs.Offers.{weight-held}
+use Rattle.distance.proofs.Offers.{weight-dist}
 use Rattle.shortest_distance.specs.NodeSlots.{distanceAt}
 use Rattle.single_path.specs.declared.single.End.{End}
 use Rattle.single_path.specs.declared.single.End.the-variants as End
@@ -50,7 +49,7 @@ module _ (bytes : List ℕ) (m : Machine) (f : SheetFields bytes (length (m .lin
   total-is v h = go (eqb (markAt bytes links v) 1) refl
     where
       weight : weightIn (distanceAt work v) ≡ ofT unit (dist m v)
-      weight = ap weightIn (distances v h) ∙ weight-held (distance m v) ∙ ap (ofT unit) (weight-of (dist m v))
+      weight = ap weightIn (distances v h) ∙ weight-dist m v
 
       go : (b : Bool) → eqb (markAt bytes links v) 1 ≡ b → cond b (add binary32 (weightIn (distanceAt work v)) (ofBits binary32 (finalAt bytes links v))) (Ieee.inf false) ≡ ofT unit (totalAt m v)
       go true e =

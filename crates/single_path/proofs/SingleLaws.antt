@@ -1,4 +1,4 @@
--- The best reading of an accepted sheet, from its distances to the answer. Assumes nothing.
+-- The best reading of an accepted sheet, from its distances and parents to the answer. Assumes nothing.
 use mathlib.Core.Path.{_≡_, refl, sym, ap, _∙_, subst}
 use mathlib.Core.Option.{Option, none, some}
 use mathlib.Core.List.{List, reverse}

@@ -4,8 +4,8 @@
 // The functions without a test are for a caller that keeps the record valid. Relaxation stores a
 // flag in its own record first, and the record then goes by value through `enqueue_flagged` and
 // `dequeue_cleared`, which move its ends alone: that compiles to no copy of the flags. `enqueue` and
-// `dequeue` go through the same two. There back is matched first and handed on as a number: handed on
-// as an enum it is read whole, and a read of what was just stored in parts has to wait for them.
+// `dequeue` go through the same two. Back is matched where the record is at hand and handed on as a
+// number: an enum that is handed on is read whole, and a read of what was just stored in parts waits.
 ghost use mathlib.Core.Path.{_≡_};
 ghost use mathlib.Core.Bool.{true, false};
 ghost use Prim.Native.Nat.{_-_, _≤_, _<_};
@@ -255,6 +255,7 @@ fn dequeue_untested(q: Queue) -> Queue
 {
     let front = q.front;
     let end = q.back;
+    // a queue that is not empty has a back
     let Back::At(back) = end else {
         return q;
     };

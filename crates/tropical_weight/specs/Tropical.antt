@@ -6,7 +6,7 @@ use lib.Dec.{T}
 use lib.IntN.{ℤ, pos, natAbs, _+ℤ_}
 use lib.Signed.{leZ, ltZ}
 
--- A weight, a cost, a distance or a rank: a whole number of units, or infinity.
+-- A weight, a cost, a sum over runs or a rank: a whole number of units, or infinity.
 pub data Tropical : Type 0 where
   fin : ℤ → Tropical
   inf : Tropical

@@ -50,7 +50,7 @@ countsNumber nodes links n = cond (not (leb nodes nodeLimit && leb links linkLim
 abbrev pub finalsOf : ℕ → ℕ → ℕ
 finalsOf nodes finals = cond (ltb nodes finals) nodes finals
 
--- nothing is refused for want of room in such areas, of any accepted sheet with at most so many nodes, links and final nodes
+-- such areas are enough for any accepted sheet with at most so many nodes, links and final nodes
 abbrev pub Serves : ℕ → ℕ → ℕ → ℕ → ℕ → ℕ → Type 0
 Serves nodes links finals n slots bytes =
     (sheet : List ℕ)

@@ -198,7 +198,8 @@ fn finals_of(nodes: u32, finals: u32) -> u32
 }
 
 // The areas for a list for n of every accepted sheet with at most so many nodes, links and final nodes:
-// the work slots and bytes of one that has just these. Tests 5 and 7.
+// the work slots and bytes of one that has just these. Tests 5 and 7. Those for n = 1 are enough for
+// the distances.
 #[no_mangle]
 pub extern "C" fn yeldmur_areas_of(
     nodes: u32,
@@ -229,7 +230,8 @@ pub extern "C" fn yeldmur_areas_of(
 }
 
 // The areas that a list for n of a sheet is made in: the work slots that it needs, of eight words, and
-// bytes that are enough for the result. Tests 1 to 7, in time that grows with the sheet alone.
+// bytes that are enough for the result. Tests 1 to 7, in time that grows with the sheet alone. Those
+// for n = 1 are enough for the distances.
 #[no_mangle]
 pub extern "C" fn yeldmur_areas(sheet: &[u8], n: u32, slots: &mut u64, bytes: &mut u64) -> u32
     ensures { λ r. ⌜ r ≡ testedNumber (now (sheet .entry)) n 0 ⌝ }
