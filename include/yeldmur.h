@@ -138,10 +138,10 @@ uint32_t yeldmur_shortest_path(const uint8_t *sheet, size_t sheet_bytes, uint32_
 uint32_t yeldmur_areas(const uint8_t *sheet, size_t sheet_bytes, uint32_t n,
                        uint64_t *slots, uint64_t *bytes);
 
-/* The areas for yeldmur_shortest_path for n, and for n = 1 for yeldmur_shortest_distance, on every accepted
- * sheet with at most so many nodes, links and nodes with mark 1: tests 5 and 7 of these counts alone. Of a sheet's own N, T and F it tells what
- * yeldmur_areas tells. More `finals` than nodes count as that many nodes, so that YELDMUR_NONE stands
- * for an F that is not known. */
+/* The areas for yeldmur_shortest_path for n, and for n = 1 for yeldmur_shortest_distance, on every
+ * accepted sheet with at most so many nodes, links and nodes with mark 1: tests 5 and 7 of these counts
+ * alone. Of a sheet's own N, T and F it tells what yeldmur_areas tells. More `finals` than nodes count as
+ * that many nodes, so that YELDMUR_NONE stands for an F that is not known. */
 uint32_t yeldmur_areas_of(uint32_t nodes, uint32_t links, uint32_t finals, uint32_t n,
                           uint64_t *slots, uint64_t *bytes);
 

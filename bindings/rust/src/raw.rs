@@ -148,9 +148,9 @@ pub fn areas(sheet: &[u8], n: u32) -> Result<Needed, Refusal> {
     Ok(needed(slots, bytes))
 }
 
-/// Areas in which no list for n is refused, nor for n = 1 the distances, of any accepted sheet with at most so many nodes, links and final nodes: tests 5 and 7
-/// of these counts. It looks at no sheet; of a sheet's own counts it tells what [`areas`] tells. More final nodes than nodes count as
-/// that many nodes.
+/// Areas in which no list for n is refused, nor for n = 1 the distances, of any accepted sheet with at most so many nodes, links
+/// and final nodes: tests 5 and 7 of these counts. It looks at no sheet; of a sheet's own counts it tells what [`areas`] tells. More
+/// final nodes than nodes count as that many nodes.
 pub fn areas_of(nodes: u32, links: u32, finals: u32, n: u32) -> Result<Needed, Refusal> {
     let (mut slots, mut bytes) = (0, 0);
     told(ffi::areas_of(

@@ -30,6 +30,7 @@ pub fn parent_at(work: &[u32], v: u32) -> Parent
     Parent::By(link, work[at + SOURCE])
 }
 
+// Stores a parent there; for none the link's word tells it alone.
 pub fn store_parent(work: &mut [u32], v: u32, parent: Parent)
     requires { ⌜ 8 * v + 8 ≤ length (now work) ⌝ }
     ensures { λ _. ⌜ now (work .exit) ≡ parentStored (now (work .entry)) v parent ⌝ }
