@@ -2,6 +2,7 @@
 
 use std::cell::RefCell;
 use std::ffi::{c_char, c_int, c_void, CString};
+use std::fmt;
 use std::mem::transmute;
 use std::process::Command;
 use std::time::Duration;
@@ -20,6 +21,7 @@ extern "C" {
 
 const RTLD_NOW: c_int = 2;
 
+type Tests = unsafe extern "C" fn(*const u8, usize) -> u32;
 type Distances =
     unsafe extern "C" fn(*const u8, usize, *mut u32, usize, *mut u8, usize, *mut u32) -> u32;
 #[rustfmt::skip]
@@ -27,8 +29,25 @@ type List = unsafe extern "C" fn(
     *const u8, usize, u32, *mut u32, usize, *mut u8, usize, *mut u32, *mut u32, *mut u32,
 ) -> u32;
 
-/// A build's searches, with areas of its own.
+/// What is timed: reading a sheet, which is tests 1 to 4 and nothing else, or a search.
+#[derive(Clone, Copy)]
+enum Asked {
+    Tests,
+    Search(Call),
+}
+
+impl fmt::Display for Asked {
+    fn fmt(&self, f: &mut fmt::Formatter) -> fmt::Result {
+        match self {
+            Asked::Tests => write!(f, "tests"),
+            Asked::Search(call) => call.fmt(f),
+        }
+    }
+}
+
+/// A build's calls, with areas of its own.
 struct Build {
+    tests: Tests,
     distances: Distances,
     list: List,
     work: Vec<u32>,
@@ -57,6 +76,7 @@ impl Build {
             call
         };
         Self {
+            tests: unsafe { transmute(call("yeldmur_read_sheet")) },
             distances: unsafe { transmute(call("yeldmur_shortest_distance")) },
             list: unsafe { transmute(call("yeldmur_shortest_path")) },
             work: vec![],
@@ -64,11 +84,12 @@ impl Build {
         }
     }
 
-    /// Areas for a call on each of these sheets; those for n = 1 are enough for distances.
-    fn fit(&mut self, sheets: &[Vec<u8>], call: Call) {
-        let n = match call {
-            Call::Distances => 1,
-            Call::List(n) => n,
+    /// Areas for a call on each of these sheets; those for n = 1 are enough for distances, and reading needs none.
+    fn fit(&mut self, sheets: &[Vec<u8>], asked: Asked) {
+        let n = match asked {
+            Asked::Tests => 0,
+            Asked::Search(Call::Distances) => 1,
+            Asked::Search(Call::List(n)) => n,
         };
         let areas = |sheet: &Vec<u8>| raw::areas(sheet, n).expect("accepted");
         let needed: Vec<raw::Needed> = sheets.iter().map(areas).collect();
@@ -79,16 +100,21 @@ impl Build {
     }
 
     /// The counts that a call tells.
-    fn call(&mut self, sheet: &[u8], call: Call) -> [u32; 3] {
+    fn call(&mut self, sheet: &[u8], asked: Asked) -> [u32; 3] {
         let mut told = [0; 3];
         let [a, b, c] = &mut told;
         let (sheet, size) = (sheet.as_ptr(), sheet.len());
         let (work, words) = (self.work.as_mut_ptr(), self.work.len());
         let (result, room) = (self.result.as_mut_ptr(), self.result.len());
         let number = unsafe {
-            match call {
-                Call::Distances => (self.distances)(sheet, size, work, words, result, room, a),
-                Call::List(n) => (self.list)(sheet, size, n, work, words, result, room, a, b, c),
+            match asked {
+                Asked::Tests => (self.tests)(sheet, size),
+                Asked::Search(Call::Distances) => {
+                    (self.distances)(sheet, size, work, words, result, room, a)
+                }
+                Asked::Search(Call::List(n)) => {
+                    (self.list)(sheet, size, n, work, words, result, room, a, b, c)
+                }
             }
         };
         assert_eq!(number, 0);
@@ -98,11 +124,11 @@ impl Build {
 
 /// The times of a call on these sheets in turn, for each build; both tell the same counts. A sheet is called twice by both, and the
 /// first two calls, which have to fetch it, do not count.
-fn times(builds: &[RefCell<Build>], sheets: &[Vec<u8>], call: Call, time: Duration) -> Vec<f64> {
+fn times(builds: &[RefCell<Build>], sheets: &[Vec<u8>], asked: Asked, time: Duration) -> Vec<f64> {
     for build in builds {
-        build.borrow_mut().fit(sheets, call);
+        build.borrow_mut().fit(sheets, asked);
     }
-    let told = |build: &RefCell<Build>, sheet| build.borrow_mut().call(sheet, call);
+    let told = |build: &RefCell<Build>, sheet| build.borrow_mut().call(sheet, asked);
     for sheet in sheets {
         assert!(builds
             .windows(2)
@@ -120,13 +146,16 @@ fn measured(builds: &[RefCell<Build>], kinds: &[Kind], time: Duration) -> Vec<(S
     let mut rows = vec![];
     for kind in kinds {
         let sheets: Vec<Vec<u8>> = kind.machines.iter().map(bytes::sheet).collect();
-        for call in [Call::Distances]
+        let searches = [Call::Distances]
             .into_iter()
-            .chain([1, 2, 10, 64].map(Call::List))
+            .chain([1, 2, 10, 64].map(Call::List));
+        for asked in [Asked::Tests]
+            .into_iter()
+            .chain(searches.map(Asked::Search))
         {
-            let one = times(builds, &sheets[..1], call, time);
-            let all = times(builds, &sheets, call, time);
-            rows.push((format!("{} | {call}", kind.name), [one, all].concat()));
+            let one = times(builds, &sheets[..1], asked, time);
+            let all = times(builds, &sheets, asked, time);
+            rows.push((format!("{} | {asked}", kind.name), [one, all].concat()));
         }
     }
     rows

@@ -1,10 +1,13 @@
 // Tests 1 to 4 record by record. The reader runs them over bytes, the writer over words, each in one
-// pass over the nodes and one over the links.
+// pass over the nodes and one over the links. A pass makes the table of shifts once and lends it, since
+// it is laid out anew wherever it is made.
 ghost use mathlib.Core.Path.{_≡_};
 ghost use mathlib.Core.Bool.{_&&_, _||_};
 ghost use Prim.Native.Nat.{_+_, _*_, _^_, _≤_, _<_};
 ghost use lib.Dec.{eqb};
 ghost use lib.ListN.{length, getD};
+ghost use Rattle.tropical_weight.specs.Limits.{unit};
+ghost use Rattle.tropical_weight.specs.Grid.{ShiftTable};
 ghost use Rattle.sheet.specs.Words.{word as wordAt};
 ghost use Rattle.sheet.specs.Sheet.{wellMarked, startFits, onGridBits};
 ghost use Rattle.sheet.specs.Tests.{withNode, withLink, nodeTests, linkTests, judged};
@@ -37,13 +40,14 @@ fn well_marked(mark: u32, bits: u32) -> bool
     if mark == 0 { bits == 0 } else { mark == 1 }
 }
 
-fn final_fits(mark: u32, bits: u32) -> bool
+fn final_fits(shifts: &[u8; 256], mark: u32, bits: u32) -> bool
+    requires { ⌜ ShiftTable unit (now shifts) ⌝ }
     ensures { λ r. ⌜ r ≡ eqb mark 0 || onGridBits bits ⌝ }
 {
     if mark == 0 {
         return true;
     }
-    tropical_weight::on_grid(bits)
+    tropical_weight::on_grid_by(shifts, bits)
 }
 
 fn start_fits(start: u32, nodes: u32) -> bool
@@ -55,25 +59,27 @@ fn start_fits(start: u32, nodes: u32) -> bool
     start == 0xffff_ffff
 }
 
-// One node more.
-fn with_node(t: NodeTests, count: u32, mark: u32, bits: u32) -> NodeTests
+// One node more, by the table of shifts that the pass has made.
+fn with_node(shifts: &[u8; 256], t: NodeTests, count: u32, mark: u32, bits: u32) -> NodeTests
+    requires { ⌜ ShiftTable unit (now shifts) ⌝ }
     requires { ⌜ t .links + count < 2 ^ 64 ⌝ }
     ensures { λ r. ⌜ r ≡ withNode t count mark bits ⌝ }
 {
     NodeTests {
         marked: both(t.marked, well_marked(mark, bits)),
         links: t.links + (count as u64),
-        weights: both(t.weights, final_fits(mark, bits)),
+        weights: both(t.weights, final_fits(shifts, mark, bits)),
     }
 }
 
-// One link more.
-fn with_link(t: LinkTests, bits: u32, next: u32, nodes: u32) -> LinkTests
+// One link more, by the table of shifts that the pass has made.
+fn with_link(shifts: &[u8; 256], t: LinkTests, bits: u32, next: u32, nodes: u32) -> LinkTests
+    requires { ⌜ ShiftTable unit (now shifts) ⌝ }
     ensures { λ r. ⌜ r ≡ withLink t bits next nodes ⌝ }
 {
     LinkTests {
         nexts: both(t.nexts, next < nodes),
-        weights: both(t.weights, tropical_weight::on_grid(bits)),
+        weights: both(t.weights, tropical_weight::on_grid_by(shifts, bits)),
     }
 }
 
@@ -82,6 +88,7 @@ pub fn test_nodes(sheet: &[u8], at: usize, nodes: u32) -> NodeTests
     requires { ⌜ at + 12 * nodes ≤ length (now sheet) ⌝ }
     ensures { λ r. ⌜ r ≡ nodeTests nodes (λ v. wordAt (now (sheet .entry)) (at + 12 * v)) (λ v. wordAt (now (sheet .entry)) (at + 12 * v + 4)) (λ v. wordAt (now (sheet .entry)) (at + 12 * v + 8)) ⌝ }
 {
+    let shifts = tropical_weight::grid_shifts();
     let mut t = NodeTests {
         marked: true,
         links: 0,
@@ -91,6 +98,7 @@ pub fn test_nodes(sheet: &[u8], at: usize, nodes: u32) -> NodeTests
     while v < nodes {
         let from = at + 12 * (v as usize);
         t = with_node(
+            &shifts,
             t,
             word(sheet, from),
             word(sheet, from + 4),
@@ -106,6 +114,7 @@ pub fn test_links(sheet: &[u8], links: u32, nodes: u32) -> LinkTests
     requires { ⌜ 16 * links ≤ length (now sheet) ⌝ }
     ensures { λ r. ⌜ r ≡ linkTests links nodes (λ l. wordAt (now (sheet .entry)) (16 * l + 8)) (λ l. wordAt (now (sheet .entry)) (16 * l + 12)) ⌝ }
 {
+    let shifts = tropical_weight::grid_shifts();
     let mut t = LinkTests {
         nexts: true,
         weights: true,
@@ -113,7 +122,13 @@ pub fn test_links(sheet: &[u8], links: u32, nodes: u32) -> LinkTests
     let mut l = 0u32;
     while l < links {
         let from = 16 * (l as usize);
-        t = with_link(t, word(sheet, from + 8), word(sheet, from + 12), nodes);
+        t = with_link(
+            &shifts,
+            t,
+            word(sheet, from + 8),
+            word(sheet, from + 12),
+            nodes,
+        );
         l += 1;
     }
     t
@@ -124,6 +139,7 @@ pub fn test_node_words(words: &[u32], nodes: u32) -> NodeTests
     requires { ⌜ 3 * nodes ≤ length (now words) ⌝ }
     ensures { λ r. ⌜ r ≡ nodeTests nodes (λ v. getD (now (words .entry)) (3 * v) 0) (λ v. getD (now (words .entry)) (3 * v + 1) 0) (λ v. getD (now (words .entry)) (3 * v + 2) 0) ⌝ }
 {
+    let shifts = tropical_weight::grid_shifts();
     let mut t = NodeTests {
         marked: true,
         links: 0,
@@ -132,7 +148,7 @@ pub fn test_node_words(words: &[u32], nodes: u32) -> NodeTests
     let mut v = 0u32;
     while v < nodes {
         let from = 3 * (v as usize);
-        t = with_node(t, words[from], words[from + 1], words[from + 2]);
+        t = with_node(&shifts, t, words[from], words[from + 1], words[from + 2]);
         v += 1;
     }
     t
@@ -143,6 +159,7 @@ pub fn test_link_words(words: &[u32], links: u32, nodes: u32) -> LinkTests
     requires { ⌜ 4 * links ≤ length (now words) ⌝ }
     ensures { λ r. ⌜ r ≡ linkTests links nodes (λ l. getD (now (words .entry)) (4 * l + 2) 0) (λ l. getD (now (words .entry)) (4 * l + 3) 0) ⌝ }
 {
+    let shifts = tropical_weight::grid_shifts();
     let mut t = LinkTests {
         nexts: true,
         weights: true,
@@ -150,7 +167,7 @@ pub fn test_link_words(words: &[u32], links: u32, nodes: u32) -> LinkTests
     let mut l = 0u32;
     while l < links {
         let from = 4 * (l as usize);
-        t = with_link(t, words[from + 2], words[from + 3], nodes);
+        t = with_link(&shifts, t, words[from + 2], words[from + 3], nodes);
         l += 1;
     }
     t

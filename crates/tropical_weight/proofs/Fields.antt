@@ -1,4 +1,4 @@
--- The grid test of a bit pattern by its fields: the sign, the exponent's field and the significand. In any unit. Assumes nothing.
+-- The grid test of a bit pattern, and whether it is whole, by its fields: the sign, the exponent's field and the significand. In any unit. Assumes nothing.
 use mathlib.Core.Path.{_≡_, refl, sym, ap, _∙_, subst}
 use mathlib.Core.Logic.{_⊎_, inl, inr}
 use mathlib.Core.Bool.{Bool, true, false, not, _&&_, cond}
@@ -12,9 +12,9 @@ use lib.Ieee.Exact.{HasValue, odd-sign}
 use lib.Ieee.Fits.{eq→eqb, and-l, and-r}
 use borrow.Author.Tests.{lt-leb, eq-eqb, ne-eqb, eqb-true, eqb-false}
 use Rattle.tropical_weight.specs.Limits.{finest}
-use Rattle.tropical_weight.specs.Grid.{onGrid, gridBits, gridShift, significand}
+use Rattle.tropical_weight.specs.Grid.{isWhole, onGrid, gridBits, gridShift, significand, exponentField, Tells}
 use Rattle.tropical_weight.proofs.Values.{same-test, rescale}
-use Rattle.tropical_weight.proofs.Grid.{onGrid-value}
+use Rattle.tropical_weight.proofs.Grid.{isWhole-value, onGrid-value}
 
 -- ---- the significand
 significand-suc : (x t : ℕ) → significand (suc x) t ≡ 2 ^ 23 + t
@@ -49,131 +49,157 @@ fields-full s t j most = go (eqb t 0)
 
 -- ---- digits below the unit: from 24 on, more of them change nothing
 module _ (q : ℕ) (q-lt : q < 2 ^ 24) (y : ℕ) where
-  cut : (y ≤ 24) ⊎ (24 ≤ y) → (eqb (q % 2 ^ y) 0 ≡ eqb (q % 2 ^ min 24 y) 0) × (q / 2 ^ y ≡ q / 2 ^ min 24 y)
+  cut : (y ≤ 24) ⊎ (24 < y) → (eqb (q % 2 ^ y) 0 ≡ eqb (q % 2 ^ min 24 y) 0) × (q / 2 ^ y ≡ q / 2 ^ min 24 y)
   cut (inl h) = let e : y ≡ min 24 y = sym (min-eq-right h) in (ap (λ (x : ℕ). eqb (q % 2 ^ x) 0) e, ap (λ (x : ℕ). q / 2 ^ x) e)
   cut (inr h) =
-      let e : 24 ≡ min 24 y = sym (min-eq-left h) in
-      let l : q < 2 ^ y = lt-of-lt-of-le q-lt (pow-mono h) in (
+      let e : 24 ≡ min 24 y = sym (min-eq-left (le-of-lt h)) in
+      let l : q < 2 ^ y = lt-of-lt-of-le q-lt (pow-mono (le-of-lt h)) in (
         ap (λ (x : ℕ). eqb x 0) (mod-eq-of-lt l ∙ sym (mod-eq-of-lt q-lt)) ∙ ap (λ (x : ℕ). eqb (q % 2 ^ x) 0) e,
         div-eq-of-lt l ∙ sym (div-eq-of-lt q-lt) ∙ ap (λ (x : ℕ). q / 2 ^ x) e,
       )
 
-split-le : (a b : ℕ) → (a ≤ b) ⊎ (b ≤ a)
-split-le a b = go (ltb a b) (ltb→lt a b) (nltb→le a b)
+split-le : (a b : ℕ) → (a ≤ b) ⊎ (b < a)
+split-le a b = go (ltb b a) (ltb→lt b a) (nltb→le b a)
   where
-    go : (t : Bool) → (T t → a < b) → (T (not t) → b ≤ a) → (a ≤ b) ⊎ (b ≤ a)
-    go true h k = inl (le-of-lt (h tt))
-    go false h k = inr (k tt)
+    go : (t : Bool) → (T t → b < a) → (T (not t) → a ≤ b) → (a ≤ b) ⊎ (b < a)
+    go true h k = inr (h tt)
+    go false h k = inl (k tt)
 
-module _ (j : ℕ) (h : j ≤ finest) (most : ℕ) (s : Bool) (t : ℕ) (t-lt : t < 2 ^ 23) where
-  -- below 2 ^ 24 units the shift tells
-  fields-low : (e : ℕ) → e ≤ 150 - j
-      → onGrid j most (ofFields binary32 s e t)
-      ≡ eqb (significand e t % 2 ^ gridShift j e) 0 && leb (significand e t / 2 ^ gridShift j e) most && not (s && eqb (significand e t) 0)
-  unfolding gridShift
-  fields-low e l =
-      let q = significand e t in
-      let y = 149 - (e - 1) - j in
-      let v = rescale (ofFields binary32 s e t) s (q * 2 ^ (e - 1)) (2 ^ 149) q (2 ^ y * 2 ^ j) (pow-pos 149) (scaled q e l) (fields-value s t e (not-full e l)) in
-      let c = cut q (significand-low e t t-lt) y (split-le y 24) in
-      let m : min 24 y ≡ min 24 (150 - j - e) = held e l in
-      onGrid-value j (2 ^ y) (pow-pos y) s q most (ofFields binary32 s e t) v
-      ∙ (λ i. c .0 i && leb (c .1 i) most && not (s && eqb q 0))
-      ∙ (λ i. eqb (q % 2 ^ m i) 0 && leb (q / 2 ^ m i) most && not (s && eqb q 0))
-    where
-      not-full : (e : ℕ) → e ≤ 150 - j → e < 255
-      not-full e l = omega arith
+module _ (j : ℕ) (h : j ≤ finest) (s : Bool) (t : ℕ) (t-lt : t < 2 ^ 23) where
+  -- ---- below 2 ^ 24 units: `below` digits lie below the unit
+  module _ (e : ℕ) (l : e ≤ 150 - j) where
+    abbrev below : ℕ
+    below = 149 - (e - 1) - j
 
-      parts : (e : ℕ) → e ≤ 150 - j → 149 ≡ e - 1 + (149 - (e - 1) - j + j)
-      parts e l = omega arith
+    low-value : HasValue (ofFields binary32 s e t) s (significand e t) (2 ^ below * 2 ^ j)
+    low-value =
+        let q = significand e t in
+        rescale (ofFields binary32 s e t) s (q * 2 ^ (e - 1)) (2 ^ 149) q (2 ^ below * 2 ^ j) (pow-pos 149) (scaled q) (fields-value s t e (let z : e < 255 = omega arith in z))
+      where
+        parts : 149 ≡ e - 1 + (below + j)
+        parts = omega arith
 
-      scaled : (q e : ℕ) → e ≤ 150 - j → q * 2 ^ 149 ≡ q * 2 ^ (e - 1) * (2 ^ (149 - (e - 1) - j) * 2 ^ j)
-      scaled q e l =
-          let y = 149 - (e - 1) - j in
-          ap (λ (x : ℕ). q * 2 ^ x) (parts e l)
-          ∙ ap (λ (x : ℕ). q * x) (pow-add 2 (e - 1) (y + j) ∙ ap (λ (x : ℕ). 2 ^ (e - 1) * x) (pow-add 2 y j))
-          ∙ sym (mul-assoc q (2 ^ (e - 1)) (2 ^ y * 2 ^ j))
+        scaled : (q : ℕ) → q * 2 ^ 149 ≡ q * 2 ^ (e - 1) * (2 ^ below * 2 ^ j)
+        scaled q =
+            ap (λ (x : ℕ). q * 2 ^ x) parts
+            ∙ ap (λ (x : ℕ). q * x) (pow-add 2 (e - 1) (below + j) ∙ ap (λ (x : ℕ). 2 ^ (e - 1) * x) (pow-add 2 below j))
+            ∙ sym (mul-assoc q (2 ^ (e - 1)) (2 ^ below * 2 ^ j))
 
-      held : (e : ℕ) → e ≤ 150 - j → min 24 (149 - (e - 1) - j) ≡ min 24 (150 - j - e)
-      held zero l = min-eq-left (omega arith) ∙ sym (min-eq-left (omega arith))
-      held (suc x) l = ap (min 24) (let z : 149 - (suc x - 1) - j ≡ 150 - j - suc x = omega arith in z)
+    -- held to 24 they are the shift
+    held : min 24 below ≡ gridShift j e
+    unfolding gridShift
+    held = go e l
+      where
+        go : (e : ℕ) → e ≤ 150 - j → min 24 (149 - (e - 1) - j) ≡ min 24 (150 - j - e)
+        go zero l = min-eq-left (omega arith) ∙ sym (min-eq-left (omega arith))
+        go (suc x) l = ap (min 24) (let z : 149 - (suc x - 1) - j ≡ 150 - j - suc x = omega arith in z)
 
-  -- from there on there are 2 ^ 24 units or more, or the value is not finite
-  fields-high : most < 2 ^ 24 → (e : ℕ) → 150 - j < e → e < 256 → onGrid j most (ofFields binary32 s e t) ≡ false
-  fields-high few e l r = go (eqb e 255) refl
-    where
-      rest : (e : ℕ) → 150 - j < e → e - 1 + j ≡ e - 1 + j - 149 + 149
-      rest e l = omega arith
+    by-shift : (eqb (significand e t % 2 ^ below) 0 ≡ eqb (significand e t % 2 ^ gridShift j e) 0)
+        × (significand e t / 2 ^ below ≡ significand e t / 2 ^ gridShift j e)
+    by-shift =
+        let q = significand e t in
+        let c = cut q (significand-low e t t-lt) below (split-le below 24) in
+        (c .0 ∙ ap (λ (x : ℕ). eqb (q % 2 ^ x) 0) held, c .1 ∙ ap (λ (x : ℕ). q / 2 ^ x) held)
 
-      some : (e : ℕ) → 150 - j < e → 1 ≤ e - 1 + j - 149
-      some e l = omega arith
+    fields-low : (most : ℕ) → onGrid j most (ofFields binary32 s e t)
+        ≡ eqb (significand e t % 2 ^ gridShift j e) 0 && leb (significand e t / 2 ^ gridShift j e) most && not (s && eqb (significand e t) 0)
+    fields-low most =
+        onGrid-value j (2 ^ below) (pow-pos below) s (significand e t) most (ofFields binary32 s e t) low-value
+        ∙ (λ i. by-shift .0 i && leb (by-shift .1 i) most && not (s && eqb (significand e t) 0))
 
-      large : (e : ℕ) → 150 - j < e → 2 ^ 23 ≤ significand e t
-      large zero l = absurd (omega arith)
-      large (suc x) l = let z = significand-suc x t in omega arith
+    whole-low : isWhole j (ofFields binary32 s e t) ≡ eqb (significand e t % 2 ^ gridShift j e) 0
+    whole-low = isWhole-value j (2 ^ below) (pow-pos below) s (significand e t) (ofFields binary32 s e t) low-value ∙ by-shift .0
 
-      scaled : (q R : ℕ) → R + 149 ≡ e - 1 + j → q * 2 ^ R * 2 ^ 149 ≡ q * 2 ^ (e - 1) * (1 * 2 ^ j)
-      scaled q R z =
-          mul-assoc q (2 ^ R) (2 ^ 149) ∙ ap (λ (x : ℕ). q * x) (sym (pow-add 2 R 149) ∙ ap (λ (x : ℕ). 2 ^ x) z ∙ pow-add 2 (e - 1) j)
-          ∙ sym (mul-assoc q (2 ^ (e - 1)) (2 ^ j)) ∙ ap (λ (x : ℕ). q * 2 ^ (e - 1) * x) (sym (one-mul (2 ^ j)))
+  -- ---- from there on there are 2 ^ 24 units or more, all of them whole, or the value is not finite
+  module _ (e : ℕ) (l : 150 - j < e) where
+    abbrev above : ℕ
+    above = e - 1 + j - 149
 
-      over : (x y : Bool) → x && false && y ≡ false
-      over true y = refl
-      over false y = refl
+    high-value : e < 255 → HasValue (ofFields binary32 s e t) s (significand e t * 2 ^ above) (1 * 2 ^ j)
+    high-value f =
+        let q = significand e t in
+        rescale (ofFields binary32 s e t) s (q * 2 ^ (e - 1)) (2 ^ 149) (q * 2 ^ above) (1 * 2 ^ j) (pow-pos 149) (scaled q) (fields-value s t e f)
+      where
+        rest : above + 149 ≡ e - 1 + j
+        rest = omega arith
 
-      go : (b : Bool) → eqb e 255 ≡ b → onGrid j most (ofFields binary32 s e t) ≡ false
-      go true z = ap (λ (x : ℕ). onGrid j most (ofFields binary32 s x t)) (eqb-true e 255 z) ∙ fields-full s t j most
-      go false z =
-          let q = significand e t in
-          let R = e - 1 + j - 149 in
-          let not-full : e < 255 = omega (arith, eqb-false e 255 z) in
-          let v = rescale (ofFields binary32 s e t) s (q * 2 ^ (e - 1)) (2 ^ 149) (q * 2 ^ R) (1 * 2 ^ j) (pow-pos 149) (scaled q R (sym (rest e l))) (fields-value s t e not-full) in
-          let big : 2 ^ 23 * 2 ^ 1 ≤ q * 2 ^ R = le-trans (mul-le-mul-right (2 ^ 1) (large e l)) (mul-le-mul-left q (pow-mono (some e l))) in
-          onGrid-value j 1 (zero-lt-suc 0) s (q * 2 ^ R) most (ofFields binary32 s e t) v
-          ∙ ap (λ (b : Bool). eqb (q * 2 ^ R % 1) 0 && b && not (s && eqb (q * 2 ^ R) 0)) (lt-leb (q * 2 ^ R / 1) most (omega arith))
-          ∙ over (eqb (q * 2 ^ R % 1) 0) (not (s && eqb (q * 2 ^ R) 0))
+        scaled : (q : ℕ) → q * 2 ^ above * 2 ^ 149 ≡ q * 2 ^ (e - 1) * (1 * 2 ^ j)
+        scaled q =
+            mul-assoc q (2 ^ above) (2 ^ 149) ∙ ap (λ (x : ℕ). q * x) (sym (pow-add 2 above 149) ∙ ap (λ (x : ℕ). 2 ^ x) rest ∙ pow-add 2 (e - 1) j)
+            ∙ sym (mul-assoc q (2 ^ (e - 1)) (2 ^ j)) ∙ ap (λ (x : ℕ). q * 2 ^ (e - 1) * x) (sym (one-mul (2 ^ j)))
+
+    whole-high : e < 255 → isWhole j (ofFields binary32 s e t) ≡ eqb (significand e t % 2 ^ gridShift j e) 0
+    unfolding gridShift
+    whole-high f =
+        isWhole-value j 1 (zero-lt-suc 0) s (significand e t * 2 ^ above) (ofFields binary32 s e t) (high-value f)
+        ∙ eq-eqb (significand e t * 2 ^ above % 1) 0 (none (significand e t * 2 ^ above))
+        ∙ sym (ap (λ (x : ℕ). eqb (significand e t % 2 ^ min 24 x) 0) (let z : 150 - j - e ≡ 0 = omega arith in z) ∙ eq-eqb (significand e t % 1) 0 (none (significand e t)))
+      where
+        none : (x : ℕ) → x % 1 ≡ 0
+        none x = omega arith
+
+    fields-high : (most : ℕ) → most < 2 ^ 24 → e < 256 → onGrid j most (ofFields binary32 s e t) ≡ false
+    fields-high most few r = go (eqb e 255) refl
+      where
+        large : (e : ℕ) → 150 - j < e → 2 ^ 23 ≤ significand e t
+        large zero l = absurd (omega arith)
+        large (suc x) l = let z = significand-suc x t in omega arith
+
+        over : (x y : Bool) → x && false && y ≡ false
+        over true y = refl
+        over false y = refl
+
+        go : (b : Bool) → eqb e 255 ≡ b → onGrid j most (ofFields binary32 s e t) ≡ false
+        go true z = ap (λ (x : ℕ). onGrid j most (ofFields binary32 s x t)) (eqb-true e 255 z) ∙ fields-full s t j most
+        go false z =
+            let q = significand e t in
+            let v = high-value (omega (arith, eqb-false e 255 z)) in
+            let big : 2 ^ 23 * 2 ^ 1 ≤ q * 2 ^ above = le-trans (mul-le-mul-right (2 ^ 1) (large e l)) (mul-le-mul-left q (pow-mono (let some : 1 ≤ above = omega arith in some))) in
+            onGrid-value j 1 (zero-lt-suc 0) s (q * 2 ^ above) most (ofFields binary32 s e t) v
+            ∙ ap (λ (b : Bool). eqb (q * 2 ^ above % 1) 0 && b && not (s && eqb (q * 2 ^ above) 0)) (lt-leb (q * 2 ^ above / 1) most (omega arith))
+            ∙ over (eqb (q * 2 ^ above % 1) 0) (not (s && eqb (q * 2 ^ above) 0))
 
 -- ---- of a bit pattern, by the fields that the code takes
-exponent-is : (bits : ℕ) → bits % 2147483648 / 8388608 ≡ bits / 8388608 % 256
+exponent-is : (bits : ℕ) → bits % 2 ^ 31 / 2 ^ 23 ≡ exponentField bits
 exponent-is bits = omega arith
 
-negative-zero : (bits : ℕ) → bits < 2 ^ 32 → leb (2 ^ 31) bits && eqb (significand (bits / 8388608 % 256) (bits % 8388608)) 0 ≡ eqb bits (2 ^ 31)
+negative-zero : (bits : ℕ) → bits < 2 ^ 32 → leb (2 ^ 31) bits && eqb (significand (exponentField bits) (bits % 2 ^ 23)) 0 ≡ eqb bits (2 ^ 31)
 negative-zero bits r =
     same-test (leb (2 ^ 31) bits && eqb q 0) (eqb bits (2 ^ 31))
     (λ u. eq→eqb {a = bits} {b = 2 ^ 31} (only e t refl refl (eqb→eq q 0 (and-r (leb (2 ^ 31) bits) (eqb q 0) u)) (leb→le (2 ^ 31) bits (and-l (leb (2 ^ 31) bits) (eqb q 0) u))))
-    (λ u. subst (λ (b : ℕ). T (leb (2 ^ 31) b && eqb (significand (b / 8388608 % 256) (b % 8388608)) 0)) (sym (eqb→eq bits (2 ^ 31) u)) it)
+    (λ u. subst (λ (b : ℕ). T (leb (2 ^ 31) b && eqb (significand (exponentField b) (b % 2 ^ 23)) 0)) (sym (eqb→eq bits (2 ^ 31) u)) it)
   where
     e : ℕ
-    e = bits / 8388608 % 256
+    e = exponentField bits
 
     t : ℕ
-    t = bits % 8388608
+    t = bits % 2 ^ 23
 
     q : ℕ
     q = significand e t
 
-    it : T (leb (2 ^ 31) (2 ^ 31) && eqb (significand (2 ^ 31 / 8388608 % 256) (2 ^ 31 % 8388608)) 0)
+    it : T (leb (2 ^ 31) (2 ^ 31) && eqb (significand (exponentField (2 ^ 31)) (2 ^ 31 % 2 ^ 23)) 0)
     it = unfold significand in tt
 
-    only : (e t : ℕ) → bits / 8388608 % 256 ≡ e → bits % 8388608 ≡ t → significand e t ≡ 0 → 2147483648 ≤ bits → bits ≡ 2147483648
+    only : (e t : ℕ) → exponentField bits ≡ e → bits % 2 ^ 23 ≡ t → significand e t ≡ 0 → 2147483648 ≤ bits → bits ≡ 2147483648
     only zero t p q z l = let z′ : t ≡ 0 = unfold significand in z in omega arith
     only (suc x) t p q z l = absurd (omega (arith, significand-suc x t))
 
 module _ (j : ℕ) (h : j ≤ finest) (most : ℕ) (bits : ℕ) (r : bits < 2 ^ 32) where
   -- the fields that `ofBits` takes are those of the code
-  by-fields : gridBits j most bits ≡ onGrid j most (ofFields binary32 (leb (2 ^ 31) bits) (bits / 8388608 % 256) (bits % 8388608))
+  by-fields : gridBits j most bits ≡ onGrid j most (ofFields binary32 (leb (2 ^ 31) bits) (exponentField bits) (bits % 2 ^ 23))
   unfolding gridBits ofBits
-  by-fields = ap (λ (e : ℕ). onGrid j most (ofFields binary32 (leb (2 ^ 31) bits) e (bits % 8388608))) (exponent-is bits)
+  by-fields = ap (λ (e : ℕ). onGrid j most (ofFields binary32 (leb (2 ^ 31) bits) e (bits % 2 ^ 23))) (exponent-is bits)
 
-  pub gridBits-low : (digits shift : ℕ) → digits ≡ significand (bits / 8388608 % 256) (bits % 8388608) → shift ≡ gridShift j (bits / 8388608 % 256) → bits / 8388608 % 256 ≤ 150 - j
+  pub gridBits-low : (digits shift : ℕ) → digits ≡ significand (exponentField bits) (bits % 2 ^ 23) → shift ≡ gridShift j (exponentField bits) → exponentField bits ≤ 150 - j
       → gridBits j most bits ≡ eqb (digits % 2 ^ shift) 0 && leb (digits / 2 ^ shift) most && not (eqb bits (2 ^ 31))
   gridBits-low digits shift p q l =
-      let e = bits / 8388608 % 256 in
-      by-fields ∙ fields-low j h most (leb (2 ^ 31) bits) (bits % 8388608) (omega arith) e l
+      let e = exponentField bits in
+      by-fields ∙ fields-low j h (leb (2 ^ 31) bits) (bits % 2 ^ 23) (omega arith) e l most
       ∙ (λ i. eqb (sym p i % 2 ^ sym q i) 0 && leb (sym p i / 2 ^ sym q i) most && not (negative-zero bits r i))
 
-  pub gridBits-high : most < 2 ^ 24 → 150 - j < bits / 8388608 % 256 → gridBits j most bits ≡ false
-  gridBits-high few l = by-fields ∙ fields-high j h most (leb (2 ^ 31) bits) (bits % 8388608) (omega arith) few (bits / 8388608 % 256) l (omega arith)
+  pub gridBits-high : most < 2 ^ 24 → 150 - j < exponentField bits → gridBits j most bits ≡ false
+  gridBits-high few l = by-fields ∙ fields-high j h (leb (2 ^ 31) bits) (bits % 2 ^ 23) (omega arith) (exponentField bits) l most few (omega arith)
 
 -- ---- the code's test that no digit lies below the unit: cut and put back, the digits are the same
 module _ (digits shift : ℕ) (few : digits < 2 ^ 24) where
@@ -195,3 +221,14 @@ module _ (digits shift : ℕ) (few : digits < 2 ^ 24) where
 pub gridShift-le : (j e : ℕ) → gridShift j e ≤ 24
 unfolding gridShift
 gridShift-le j e = min-le-left 24 (150 - j - e)
+
+-- ---- the rule of the shift: of every finite value it tells whether it is whole
+pub shift-tells : (j : ℕ) → j ≤ finest → Tells j (gridShift j)
+unfolding ofBits
+shift-tells j h bits r f =
+    ap (λ (e : ℕ). isWhole j (ofFields binary32 (leb (2 ^ 31) bits) e (bits % 2 ^ 23))) (exponent-is bits) ∙ go (split-le (exponentField bits) (150 - j))
+  where
+    go : (exponentField bits ≤ 150 - j) ⊎ (150 - j < exponentField bits)
+        → isWhole j (ofFields binary32 (leb (2 ^ 31) bits) (exponentField bits) (bits % 2 ^ 23)) ≡ eqb (significand (exponentField bits) (bits % 2 ^ 23) % 2 ^ gridShift j (exponentField bits)) 0
+    go (inl l) = whole-low j h (leb (2 ^ 31) bits) (bits % 2 ^ 23) (omega arith) (exponentField bits) l
+    go (inr l) = whole-high j h (leb (2 ^ 31) bits) (bits % 2 ^ 23) (omega arith) (exponentField bits) l f

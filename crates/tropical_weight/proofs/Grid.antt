@@ -15,7 +15,7 @@ use lib.Ieee.Fits.{down-pos, up-pos, and-i, and-l, and-r, eq→eqb}
 use lib.Ieee.Nearest.{div-same}
 use Rattle.tropical_weight.specs.Limits.{finest, sumLimit}
 use Rattle.tropical_weight.specs.Tropical as Tropical
-use Rattle.tropical_weight.specs.Grid.{ofK, unitsOf, onGrid, gridBits}
+use Rattle.tropical_weight.specs.Grid.{ofK, unitsOf, isWhole, onGrid, gridBits}
 use Rattle.tropical_weight.proofs.Values.{same-eqb, value-unique}
 use Rattle.tropical_weight.proofs.Exact.{negative, ofK-value, ofK-fits, ofT-no-nan, bits-back}
 
@@ -37,8 +37,15 @@ module _ (j c : ℕ) (c-pos : 0 < c) (s : Bool) (a : ℕ) where
   numerators : (x d : ℕ) → x * (c * 2 ^ j) ≡ a * d → x * 2 ^ j * c ≡ a * d
   numerators x d p = mul-assoc x (2 ^ j) c ∙ ap (λ (y : ℕ). x * y) (mul-comm (2 ^ j) c) ∙ p
 
+  pub isWhole-value : (x : Float) → HasValue x s a (c * 2 ^ j) → isWhole j x ≡ eqb (a % c) 0
+  unfolding isWhole
+  isWhole-value nan v = absurd v
+  isWhole-value (inf t) v = absurd v
+  isWhole-value (fin t m e) v = same-rest (m * up e * 2 ^ j) (down e) a c (down-pos e) c-pos (numerators (m * up e) (down e) (v .1))
+
+  -- whole is the same in both
   pub onGrid-value : (most : ℕ) (x : Float) → HasValue x s a (c * 2 ^ j) → onGrid j most x ≡ eqb (a % c) 0 && leb (a / c) most && not (s && eqb a 0)
-  unfolding onGrid
+  unfolding onGrid isWhole
   onGrid-value most nan v = absurd v
   onGrid-value most (inf t) v = absurd v
   onGrid-value most (fin t m e) v =
@@ -47,7 +54,7 @@ module _ (j c : ℕ) (c-pos : 0 < c) (s : Bool) (a : ℕ) where
       let z : eqb m 0 ≡ eqb a 0 =
       same-eqb m 0 1 (m * up e) 0 (up e) (zero-lt-suc 0) (up-pos e) (sym (mul-one (m * up e))) (zero-mul (up e))
       ∙ same-eqb (m * up e) 0 (down e) a 0 (c * 2 ^ j) (down-pos e) (mul-pos c-pos (pow-pos j)) (v .1) (zero-mul (c * 2 ^ j) ∙ sym (zero-mul (down e))) in
-      λ i. same-rest X (down e) a c (down-pos e) c-pos p i && leb (div-same X (down e) a c (down-pos e) c-pos p i) most && not (v .0 i && z i)
+      λ i. isWhole-value (fin t m e) v i && leb (div-same X (down e) a c (down-pos e) c-pos p i) most && not (v .0 i && z i)
 
   pub unitsOf-value : (x : Float) → HasValue x s a (c * 2 ^ j) → unitsOf j x ≡ cond s (negℤ (pos (a / c))) (pos (a / c))
   unfolding unitsOf

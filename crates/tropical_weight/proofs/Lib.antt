@@ -8,3 +8,5 @@ pub mod Near
 pub mod Grid
 pub mod Fields
 pub mod Units
+pub mod Table
+pub mod ShiftTable

@@ -9,8 +9,10 @@ ghost use lib.Ieee.{binary32, add, lt, ofBits, toBits};
 ghost use Rattle.tropical_weight.specs.Limits.{unit, finest, weightLimit, sumLimit};
 ghost use Rattle.tropical_weight.specs.Tropical as Tropical;
 ghost use Rattle.tropical_weight.specs.Tropical.{_⊕_, _⊗_, ltT};
-ghost use Rattle.tropical_weight.specs.Grid.{ofK, ofT, gridBits, gridShift, significand};
+ghost use Rattle.tropical_weight.specs.Grid.{ofK, ofT, gridBits, gridShift, significand, ShiftTable};
 ghost use Rattle.tropical_weight.specs.Single.{lesser, Number, numberBits, Computes, Decides, Approx, Costs};
+
+mod shifts;
 
 // The unit is 1 / 2 ^ UNIT: weights are whole numbers of 64ths.
 pub const UNIT: u32 = 6;
@@ -78,15 +80,21 @@ pub fn approx_equal(a: f32, b: f32, delta: f32) -> bool
     a <= b + delta && b <= a + delta
 }
 
+// The table of shifts, one for each exponent's field. A constant array is laid out anew wherever it is
+// read, so that a loop over weights makes the table once and lends it.
+pub fn grid_shifts() -> [u8; 256]
+    ensures { λ r. ⌜ ShiftTable unit r ⌝ }
+{
+    shifts::SHIFTS
+}
+
 // How many low digits of a significand lie below the unit, held between 0 and 24.
-fn grid_shift(exponent: u32) -> u32
+fn grid_shift(shifts: &[u8; 256], exponent: u32) -> u32
+    requires { ⌜ ShiftTable unit (now shifts) ⌝ }
+    requires { ⌜ exponent < 256 ⌝ }
     ensures { λ r. ⌜ r ≡ gridShift unit exponent ⌝ }
 {
-    if LAST_IS_UNIT <= exponent {
-        return 0;
-    }
-    let below = LAST_IS_UNIT - exponent;
-    if 24 < below { 24 } else { below }
+    shifts[exponent as usize] as u32
 }
 
 // The 24 digits of a finite value, by its exponent's field and its stored digits.
@@ -106,12 +114,21 @@ fn significand_of(exponent: u32, digits: u32) -> u32
 pub fn on_grid(bits: u32) -> bool
     ensures { λ r. ⌜ r ≡ gridBits unit weightLimit bits ⌝ }
 {
+    let shifts = grid_shifts();
+    on_grid_by(&shifts, bits)
+}
+
+// The grid test of one of many weights, by the table that is lent.
+pub fn on_grid_by(shifts: &[u8; 256], bits: u32) -> bool
+    requires { ⌜ ShiftTable unit (now shifts) ⌝ }
+    ensures { λ r. ⌜ r ≡ gridBits unit weightLimit bits ⌝ }
+{
     let exponent = bits / 0x80_0000 % 0x100;
     if LAST_IS_UNIT < exponent {
         return false;
     }
     let digits = significand_of(exponent, bits % 0x80_0000);
-    let shift = grid_shift(exponent);
+    let shift = grid_shift(shifts, exponent);
     let units = digits >> shift;
     if units << shift != digits {
         return false;

@@ -1,8 +1,9 @@
-// The grid test at the limits of the grid: for each bit pattern its number of units, or that it is
-// off the grid. The weights of case P7 are the first two.
+// The grid test at the limits of the grid and where its table of shifts turns: for each bit pattern its
+// number of units, or that it is off the grid. The weights of case P7 are the first two. Then each
+// exponent's field from which on the shift is another.
 use libc::STDOUT_FILENO;
 
-const PATTERNS: [u32; 24] = [
+const PATTERNS: [u32; 28] = [
     0x4280_0000, // 64
     0x4280_0800, // 64.015625
     0xc280_0000, // -64
@@ -27,6 +28,10 @@ const PATTERNS: [u32; 24] = [
     0x7fc0_0000, // a quiet NaN
     0x7f80_0001, // a signalling NaN
     0xffff_ffff, // a negative NaN
+    0x3c80_0001, // the first value above 1 / 64
+    0x42ff_f800, // 127.984375
+    0x4b00_0000, // 2 ^ 23
+    0x0080_0000, // the least normal value
 ];
 
 // A cost by its sign and its magnitude.
@@ -49,10 +54,39 @@ fn print_weight(bits: u32) {
     }
 }
 
-fn main() {
+fn print_weights() {
     let mut i = 0usize;
-    while i < 24 {
+    while i < 28 {
         print_weight(PATTERNS[i]);
         i += 1;
     }
+}
+
+fn print_turn(exponent: u64, shift: u64) {
+    io::write_all(STDOUT_FILENO, b"from exponent ");
+    io::print_decimal(STDOUT_FILENO, exponent);
+    io::write_all(STDOUT_FILENO, b" shift ");
+    io::print_decimal(STDOUT_FILENO, shift);
+    io::write_all(STDOUT_FILENO, b"\n");
+}
+
+// Each turn of the table.
+fn print_turns() {
+    let shifts = tropical_weight::grid_shifts();
+    // no shift
+    let mut last = 0xffu8;
+    let mut exponent = 0usize;
+    while exponent < 256 {
+        let shift = shifts[exponent];
+        if shift != last {
+            print_turn(exponent as u64, shift as u64);
+        }
+        last = shift;
+        exponent += 1;
+    }
+}
+
+fn main() {
+    print_weights();
+    print_turns();
 }

@@ -10,13 +10,16 @@ use Rattle.sheet.proofs.tests.test_link_words.Statement.{statement}
 use Rattle.sheet.proofs.tests.test_link_words.Tie as tie
 
 abbrev Inv-loop : tie.InvT-loop
-Inv-loop words links nodes t₀ l₀ t l = (l ≤ links) × (t ≡ linkTests l nodes (λ x. getD words (4 * x + 2) 0) (λ x. getD words (4 * x + 3) 0))
+Inv-loop words links nodes shifts t₀ l₀ t l = (l ≤ links) × (t ≡ linkTests l nodes (λ x. getD words (4 * x + 2) 0) (λ x. getD words (4 * x + 3) 0))
 
 abbrev μ-loop : tie.MeasureT-loop
-μ-loop words links nodes t₀ l₀ t l = links - l
+μ-loop words links nodes shifts t₀ l₀ t l = links - l
+
+grid-shifts-requires : tie.Need-grid-shifts-requires Inv-loop μ-loop
+grid-shifts-requires c κs = search needs
 
 loop-holds : tie.Need-loop-holds Inv-loop μ-loop
-loop-holds c = let xs = now (c .before .args .words) in (search needs, linkTests-none (c .before .args .nodes) (λ x. getD xs (4 * x + 2) 0) (λ x. getD xs (4 * x + 3) 0))
+loop-holds c = let xs = now (c .before .before .args .words) in (search needs, linkTests-none (c .before .before .args .nodes) (λ x. getD xs (4 * x + 2) 0) (λ x. getD xs (4 * x + 3) 0))
 
 cast-from : tie.Need-cast-from Inv-loop μ-loop
 cast-from c = search needs
@@ -53,14 +56,14 @@ loop-less c = search needs
 
 loop-again : tie.Need-loop-again Inv-loop μ-loop
 loop-again c =
-    let turn = c .before .before .before .before .loop in
-    let args = c .before .before .before .before .before .before .args in
+    let turn = c .before .before .before .before .before .loop in
+    let args = c .before .before .before .before .before .before .before .before .args in
     let xs = now (args .words) in
     (search needs, link-turn (turn .l) (args .nodes) (λ x. getD xs (4 * x + 2) 0) (λ x. getD xs (4 * x + 3) 0) (turn .t) (c .with-link .result) (getD xs (4 * turn .l + 2) 0) (getD xs (4 * turn .l + 3) 0) (c .with-link .ensures) (turn .inv .1) refl refl)
 
 returns : tie.Need-returns Inv-loop μ-loop
 returns c =
-    let args = c .before .before .before .args in
+    let args = c .before .before .before .before .args in
     let xs = now (args .words) in
     let all : c .before .loop .l ≡ args .links = omega arith in
     c .before .loop .inv .1 ∙ ap (λ (k : ℕ). linkTests k (args .nodes) (λ x. getD xs (4 * x + 2) 0) (λ x. getD xs (4 * x + 3) 0)) all
@@ -71,6 +74,7 @@ test-link-words-spec =
     (tie.spec
     Inv-loop
     μ-loop
+    grid-shifts-requires
     loop-holds
     cast-from
     mul-from

@@ -10,13 +10,16 @@ use Rattle.sheet.proofs.tests.test_links.Statement.{statement}
 use Rattle.sheet.proofs.tests.test_links.Tie as tie
 
 abbrev Inv-loop : tie.InvT-loop
-Inv-loop sheet links nodes t₀ l₀ t l = (l ≤ links) × (t ≡ linkTests l nodes (λ x. word sheet (16 * x + 8)) (λ x. word sheet (16 * x + 12)))
+Inv-loop sheet links nodes shifts t₀ l₀ t l = (l ≤ links) × (t ≡ linkTests l nodes (λ x. word sheet (16 * x + 8)) (λ x. word sheet (16 * x + 12)))
 
 abbrev μ-loop : tie.MeasureT-loop
-μ-loop sheet links nodes t₀ l₀ t l = links - l
+μ-loop sheet links nodes shifts t₀ l₀ t l = links - l
+
+grid-shifts-requires : tie.Need-grid-shifts-requires Inv-loop μ-loop
+grid-shifts-requires c κs = search needs
 
 loop-holds : tie.Need-loop-holds Inv-loop μ-loop
-loop-holds c = let xs = now (c .before .args .sheet) in (search needs, linkTests-none (c .before .args .nodes) (λ x. word xs (16 * x + 8)) (λ x. word xs (16 * x + 12)))
+loop-holds c = let xs = now (c .before .before .args .sheet) in (search needs, linkTests-none (c .before .before .args .nodes) (λ x. word xs (16 * x + 8)) (λ x. word xs (16 * x + 12)))
 
 cast-from : tie.Need-cast-from Inv-loop μ-loop
 cast-from c = search needs
@@ -47,14 +50,14 @@ loop-less c = search needs
 
 loop-again : tie.Need-loop-again Inv-loop μ-loop
 loop-again c =
-    let turn = c .before .before .before .before .loop in
-    let args = c .before .before .before .before .before .before .args in
+    let turn = c .before .before .before .before .before .loop in
+    let args = c .before .before .before .before .before .before .before .before .args in
     let xs = now (args .sheet) in
     (search needs, link-turn (turn .l) (args .nodes) (λ x. word xs (16 * x + 8)) (λ x. word xs (16 * x + 12)) (turn .t) (c .with-link .result) (c .before .before .word .result) (c .before .word2 .result) (c .with-link .ensures) (turn .inv .1) (c .before .before .word .ensures) (c .before .word2 .ensures))
 
 returns : tie.Need-returns Inv-loop μ-loop
 returns c =
-    let args = c .before .before .before .args in
+    let args = c .before .before .before .before .args in
     let xs = now (args .sheet) in
     let all : c .before .loop .l ≡ args .links = omega arith in
     c .before .loop .inv .1 ∙ ap (λ (k : ℕ). linkTests k (args .nodes) (λ x. word xs (16 * x + 8)) (λ x. word xs (16 * x + 12))) all
@@ -65,6 +68,7 @@ test-links-spec =
     (tie.spec
     Inv-loop
     μ-loop
+    grid-shifts-requires
     loop-holds
     cast-from
     mul-from

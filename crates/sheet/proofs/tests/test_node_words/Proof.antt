@@ -10,13 +10,16 @@ use Rattle.sheet.proofs.tests.test_node_words.Statement.{statement}
 use Rattle.sheet.proofs.tests.test_node_words.Tie as tie
 
 abbrev Inv-loop : tie.InvT-loop
-Inv-loop words nodes t₀ v₀ t v = (v ≤ nodes) × (t ≡ nodeTests v (λ x. getD words (3 * x) 0) (λ x. getD words (3 * x + 1) 0) (λ x. getD words (3 * x + 2) 0)) × (t .links ≤ v * 4294967295)
+Inv-loop words nodes shifts t₀ v₀ t v = (v ≤ nodes) × (t ≡ nodeTests v (λ x. getD words (3 * x) 0) (λ x. getD words (3 * x + 1) 0) (λ x. getD words (3 * x + 2) 0)) × (t .links ≤ v * 4294967295)
 
 abbrev μ-loop : tie.MeasureT-loop
-μ-loop words nodes t₀ v₀ t v = nodes - v
+μ-loop words nodes shifts t₀ v₀ t v = nodes - v
+
+grid-shifts-requires : tie.Need-grid-shifts-requires Inv-loop μ-loop
+grid-shifts-requires c κs = search needs
 
 loop-holds : tie.Need-loop-holds Inv-loop μ-loop
-loop-holds c = let xs = now (c .before .args .words) in (search needs, nodeTests-none (λ x. getD xs (3 * x) 0) (λ x. getD xs (3 * x + 1) 0) (λ x. getD xs (3 * x + 2) 0), search needs)
+loop-holds c = let xs = now (c .before .before .args .words) in (search needs, nodeTests-none (λ x. getD xs (3 * x) 0) (λ x. getD xs (3 * x + 1) 0) (λ x. getD xs (3 * x + 2) 0), search needs)
 
 cast-from : tie.Need-cast-from Inv-loop μ-loop
 cast-from c = search needs
@@ -49,7 +52,7 @@ shared-slice-read-with-node-3 : tie.Need-shared-slice-read-with-node-3 Inv-loop 
 shared-slice-read-with-node-3 c = search needs
 
 with-node-requires : tie.Need-with-node-requires Inv-loop μ-loop
-with-node-requires c κs = omega (arith, c .shared-slice-known4 .given (3 * c .before .before .before .before .loop .v))
+with-node-requires c κs = (search needs, omega (arith, c .shared-slice-known4 .given (3 * c .before .before .before .before .before .loop .v)))
 
 add-v : tie.Need-add-v Inv-loop μ-loop
 add-v c = search needs
@@ -59,8 +62,8 @@ loop-less c = search needs
 
 loop-again : tie.Need-loop-again Inv-loop μ-loop
 loop-again c =
-    let turn = c .before .before .before .before .before .loop in
-    let args = c .before .before .before .before .before .before .before .args in
+    let turn = c .before .before .before .before .before .before .loop in
+    let args = c .before .before .before .before .before .before .before .before .before .args in
     let xs = now (args .words) in (
       search needs,
       node-turn (turn .v) (λ x. getD xs (3 * x) 0) (λ x. getD xs (3 * x + 1) 0) (λ x. getD xs (3 * x + 2) 0) (turn .t) (c .with-node .result) (getD xs (3 * turn .v) 0) (getD xs (3 * turn .v + 1) 0) (getD xs (3 * turn .v + 2) 0) (c .with-node .ensures) (turn .inv .1) refl refl refl,
@@ -69,8 +72,8 @@ loop-again c =
 
 returns : tie.Need-returns Inv-loop μ-loop
 returns c =
-    let xs = now (c .before .before .before .args .words) in
-    let all : c .before .loop .v ≡ c .before .before .before .args .nodes = omega arith in
+    let xs = now (c .before .before .before .before .args .words) in
+    let all : c .before .loop .v ≡ c .before .before .before .before .args .nodes = omega arith in
     c .before .loop .inv .1 ∙ ap (λ (k : ℕ). nodeTests k (λ x. getD xs (3 * x) 0) (λ x. getD xs (3 * x + 1) 0) (λ x. getD xs (3 * x + 2) 0)) all
 
 pub test-node-words-spec : {M : Type 1} → statement M
@@ -79,6 +82,7 @@ test-node-words-spec =
     (tie.spec
     Inv-loop
     μ-loop
+    grid-shifts-requires
     loop-holds
     cast-from
     mul-from

@@ -10,13 +10,16 @@ use Rattle.sheet.proofs.tests.test_nodes.Statement.{statement}
 use Rattle.sheet.proofs.tests.test_nodes.Tie as tie
 
 abbrev Inv-loop : tie.InvT-loop
-Inv-loop sheet at nodes t₀ v₀ t v = (v ≤ nodes) × (t ≡ nodeTests v (λ x. word sheet (at + 12 * x)) (λ x. word sheet (at + 12 * x + 4)) (λ x. word sheet (at + 12 * x + 8))) × (t .links ≤ v * 4294967295)
+Inv-loop sheet at nodes shifts t₀ v₀ t v = (v ≤ nodes) × (t ≡ nodeTests v (λ x. word sheet (at + 12 * x)) (λ x. word sheet (at + 12 * x + 4)) (λ x. word sheet (at + 12 * x + 8))) × (t .links ≤ v * 4294967295)
 
 abbrev μ-loop : tie.MeasureT-loop
-μ-loop sheet at nodes t₀ v₀ t v = nodes - v
+μ-loop sheet at nodes shifts t₀ v₀ t v = nodes - v
+
+grid-shifts-requires : tie.Need-grid-shifts-requires Inv-loop μ-loop
+grid-shifts-requires c κs = search needs
 
 loop-holds : tie.Need-loop-holds Inv-loop μ-loop
-loop-holds c = let at = c .before .args .at in let xs = now (c .before .args .sheet) in (search needs, nodeTests-none (λ x. word xs (at + 12 * x)) (λ x. word xs (at + 12 * x + 4)) (λ x. word xs (at + 12 * x + 8)), search needs)
+loop-holds c = let at = c .before .before .args .at in let xs = now (c .before .before .args .sheet) in (search needs, nodeTests-none (λ x. word xs (at + 12 * x)) (λ x. word xs (at + 12 * x + 4)) (λ x. word xs (at + 12 * x + 8)), search needs)
 
 cast-from : tie.Need-cast-from Inv-loop μ-loop
 cast-from c = search needs
@@ -53,8 +56,8 @@ loop-less c = search needs
 
 loop-again : tie.Need-loop-again Inv-loop μ-loop
 loop-again c =
-    let turn = c .before .before .before .before .before .loop in
-    let args = c .before .before .before .before .before .before .before .args in
+    let turn = c .before .before .before .before .before .before .loop in
+    let args = c .before .before .before .before .before .before .before .before .before .args in
     let at = args .at in
     let xs = now (args .sheet) in (
       search needs,
@@ -64,9 +67,9 @@ loop-again c =
 
 returns : tie.Need-returns Inv-loop μ-loop
 returns c =
-    let at = c .before .before .before .args .at in
-    let xs = now (c .before .before .before .args .sheet) in
-    let all : c .before .loop .v ≡ c .before .before .before .args .nodes = omega arith in
+    let at = c .before .before .before .before .args .at in
+    let xs = now (c .before .before .before .before .args .sheet) in
+    let all : c .before .loop .v ≡ c .before .before .before .before .args .nodes = omega arith in
     c .before .loop .inv .1 ∙ ap (λ (k : ℕ). nodeTests k (λ x. word xs (at + 12 * x)) (λ x. word xs (at + 12 * x + 4)) (λ x. word xs (at + 12 * x + 8))) all
 
 pub test-nodes-spec : {M : Type 1} → statement M
@@ -75,6 +78,7 @@ test-nodes-spec =
     (tie.spec
     Inv-loop
     μ-loop
+    grid-shifts-requires
     loop-holds
     cast-from
     mul-from

@@ -11,8 +11,8 @@ well-marked-requires c κs = search needs
 both-requires : tie.Need-both-requires
 both-requires c κs = search needs
 
-add-t8 : tie.Need-add-t8
-add-t8 c = search needs
+add-t9 : tie.Need-add-t9
+add-t9 c = search needs
 
 final-fits-requires : tie.Need-final-fits-requires
 final-fits-requires c κs = search needs
@@ -33,7 +33,7 @@ with-node-spec =
     (tie.spec
     well-marked-requires
     both-requires
-    add-t8
+    add-t9
     final-fits-requires
     both-requires-2
     returns)

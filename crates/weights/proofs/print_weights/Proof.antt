@@ -1,13 +1,13 @@
 use Prim.Native.Nat.{_≤_, _-_}
 use borrow.Author.Needs.{needs}
-use Rattle.weights.proofs.main.Statement.{statement}
-use Rattle.weights.proofs.main.Tie as tie
+use Rattle.weights.proofs.print_weights.Statement.{statement}
+use Rattle.weights.proofs.print_weights.Tie as tie
 
 abbrev Inv-loop : tie.InvT-loop
-Inv-loop i₀ i = i ≤ 24
+Inv-loop i₀ i = i ≤ 28
 
 abbrev μ-loop : tie.MeasureT-loop
-μ-loop i₀ i = 24 - i
+μ-loop i₀ i = 28 - i
 
 loop-holds : tie.Need-loop-holds Inv-loop μ-loop
 loop-holds c = search needs
@@ -33,8 +33,8 @@ loop-again c = search needs
 returns : tie.Need-returns Inv-loop μ-loop
 returns c = search needs
 
-pub main-spec : {M : Type 1} → statement M
-main-spec =
+pub print-weights-spec : {M : Type 1} → statement M
+print-weights-spec =
     tie.close
     (tie.spec
     Inv-loop
