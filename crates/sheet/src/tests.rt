@@ -1,6 +1,6 @@
 // Tests 1 to 4 record by record. The reader runs them over bytes, the writer over words, each in one
-// pass over the nodes and one over the links. A pass makes the table of shifts once and lends it, since
-// it is laid out anew wherever it is made.
+// pass over the nodes and one over the links. A pass makes the table of shifts, 256 bytes, once, and
+// lends it.
 ghost use mathlib.Core.Path.{_≡_};
 ghost use mathlib.Core.Bool.{_&&_, _||_};
 ghost use Prim.Native.Nat.{_+_, _*_, _^_, _≤_, _<_};
