@@ -1,7 +1,7 @@
 /* The grid test from outside, on the weight of a link and on a final weight: a pattern is accepted where it is k/64 with |k| up to 4,096,
- * and refused with 4 elsewhere. The patterns are each 127th of 32 bits, which has all remainders of any power of two, or with the
- * argument 1 every one; each power of two; each half of a sixty-fourth up to twice the limit, and its neighbours, which are read and written.
- * Weights are made here by dividing, and looked up. */
+ * and refused with 4 elsewhere. Each 127th pattern of 32 bits is read, or with the argument 1 every one; the step is odd, so that all low
+ * digits come up. Those without a stored digit, powers of two above all, and each half of a sixty-fourth up to twice the limit with its
+ * neighbours, are read and written. Weights are made here by dividing, and looked up. */
 #include <stdio.h>
 #include <stdlib.h>
 #include <string.h>
