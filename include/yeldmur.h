@@ -39,9 +39,10 @@ enum {
     YELDMUR_START = 2,
     /* next node not below N */
     YELDMUR_NEXT = 3,
-    /* a weight off the grid */
+    /* a weight off the grid: not k/64 for a whole k up to YELDMUR_WEIGHT_LIMIT either way, NaN, an infinity
+     * or negative zero */
     YELDMUR_WEIGHT = 4,
-    /* N above 4,096 or T above 16,384 */
+    /* N above 2,048 or T above 16,384 */
     YELDMUR_LIMITS = 5,
     /* a link that does not lead to a higher node */
     YELDMUR_CLIMB = 6,
@@ -59,6 +60,13 @@ enum {
     YELDMUR_RESULT = 21
 };
 
+/* The limits: the most nodes and links of a sheet that is searched, the most sixty-fourths of a weight
+ * either way, and the most readings that a list is asked for. */
+#define YELDMUR_NODE_LIMIT 2048u
+#define YELDMUR_LINK_LIMIT 16384u
+#define YELDMUR_WEIGHT_LIMIT 8192
+#define YELDMUR_LIST_LIMIT 64u
+
 /* The words of a work slot. */
 #define YELDMUR_SLOT 8u
 
@@ -66,9 +74,9 @@ enum {
 #define YELDMUR_DISTANCE 8u
 
 /* Bytes of stack that are enough for a call: measured at the limits with a painted stack. Most of it are
- * the queue's record, 12 KB, with some 80 bytes for each level of the heap's recursion; where rows are
- * read, 16 KB of final nodes, by which a second final row is found. */
-#define YELDMUR_STACK 20480u
+ * the queue's record, 6 KB, with some 80 bytes for each level of the heap's recursion; where rows are
+ * read, 8 KB of final nodes, by which a second final row is found. */
+#define YELDMUR_STACK 10240u
 
 /* The start of a sheet that has none, and the word of a link that repeats no input link. */
 #define YELDMUR_NONE 0xffffffffu
@@ -90,7 +98,7 @@ uint32_t yeldmur_write_sheet(const uint32_t *links, size_t links_words,
  * fields and may stand at a row's ends; a newline ends each row, the last too. Numbers are digits
  * within 32 bits. Weights, taken exactly, are digits, with an optional minus sign before (-0 is 0) and
  * perhaps a point and one to six digits after. The text is read four times, and at the most once
- * more for each 4,095 final rows. */
+ * more for each 2,047 final rows. */
 uint32_t yeldmur_rows_to_sheet(const uint8_t *text, size_t text_bytes,
                                uint8_t *result, size_t result_bytes, uint64_t *size);
 

@@ -142,7 +142,7 @@ def run(seed, count):
     return tally.differences
 
 TOLD = [b'', b'0', b'0\n\n1\n', b'\n0\n', b'0\n \n1\n', b' 0\n', b'0 1 1 1\n', b'0\t1\t\t1\t1\n', b'0\t1\t2\n', b'0\t1\t1\t1\t1\t1\n', b'0\n0\n',
-        b'0\n1\n0\t5\n', b'0\t+1\n', b'0\t1.\n', b'0\t.5\n', b'0\t1e1\n', b'0\t0.1234567\n', b'0\t64.000001\n', b'0\t65\n', b'0\t-0\n', b'0\tnan\n', b'0\tInfinity\n',
+        b'0\n1\n0\t5\n', b'0\t+1\n', b'0\t1.\n', b'0\t.5\n', b'0\t1e1\n', b'0\t0.1234567\n', b'0\t128.000001\n', b'0\t129\n', b'0\t-0\n', b'0\tnan\n', b'0\tInfinity\n',
         b'0\t1\t1\t1\tInfinity\n', b'0\r\n', b'0\0\n', b'\xff\n', b'+1\n', b'-1\n', b'0x1\n', b'007\n', b'a\tb\tc\td\n', b'0\t0\t-1\t1\n',
         b'0\t0\t2147483647\t1\n', b'0\t0\t2147483648\t1\n', b'0\t0\t4294967295\t1\n', b'0\t0\t4294967296\t1\n']
 

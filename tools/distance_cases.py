@@ -10,7 +10,7 @@ matched with an unreached node.
 """
 import random, struct
 from fractions import Fraction
-from sheets import A, CHAIN, EMPTY, NONE, TRAILER, climbing, distances, f, input_number, read, real, sample, sheet, with_word, written
+from sheets import A, CHAIN, EMPTY, LARGEST, LINKS, NODES, NONE, TRAILER, UNITS, climbing, distances, f, input_number, read, real, sample, sheet, with_word, written
 
 INFINITY = 0x7F800000
 
@@ -51,10 +51,10 @@ def case(what, b, words=None, room=None):
 def by_hand(what, b, *words): assert case(what, b) == packed(*words)
 
 HIGH = climbing(5, [(0, 1, 1), (1, -3, 2), (2, 2, 3), (2, 1, 4), (3, -2, 4)], 2)
-GAP = climbing(4, [(0, 1, 1), (0, .25, 3), (1, -2, 3), (2, -64, 3)], 0)
+GAP = climbing(4, [(0, 1, 1), (0, .25, 3), (1, -2, 3), (2, -LARGEST, 3)], 0)
 LOW = climbing(5, [(0, 1, 1), (0, 2, 2), (3, 1, 4)], 0)
 
-assert distances(A) == [0, 1, Fraction(1, 2), Fraction(5, 4)] and distances(CHAIN) == [64 * v for v in range(4096)]
+assert distances(A) == [0, 1, Fraction(1, 2), Fraction(5, 4)] and distances(CHAIN) == [LARGEST * v for v in range(NODES)]
 
 by_hand('P1: A', A, 1, 0, 1, 0x3F800000, 1, 0x3F000000, 1, 0x3FA00000)
 by_hand('A without a start', with_word(A, TRAILER + 4, NONE))
@@ -71,7 +71,7 @@ by_hand('a link from below the start to it', climbing(3, [(0, 1, 1), (1, 4 / 64,
 case('the highest nodes unreached', LOW)
 case('the highest nodes unreached, a result as long as for all of them', LOW, room=40)
 by_hand('a negative distance', climbing(2, [(0, -1 / 64, 1)], 0), 1, 0, 1, 0xBC800000)
-case('negative weights', climbing(4, [(0, -64, 1), (0, -1 / 64, 2), (1, -64, 2), (1, 64, 3), (2, -.5, 3)], 0))
+case('negative weights', climbing(4, [(0, -LARGEST, 1), (0, -1 / 64, 2), (1, -LARGEST, 2), (1, LARGEST, 3), (2, -.5, 3)], 0))
 case('equal ways', climbing(4, [(0, 1, 1), (0, 1, 2), (1, 2, 3), (2, 2, 3)], 0))
 case('a way that comes back to 0', climbing(3, [(0, 1.25, 1), (1, -1.25, 2)], 0))
 case('a later link is the lesser', climbing(2, [(0, 3, 1), (0, 2, 1), (0, 2.5, 1)], 0))
@@ -82,19 +82,20 @@ for what, b in (('A', A), ('a start above nodes that have links', HIGH), ('the h
         for r, so in ((long - 8, 'a value short'), (long - 4, 'a word short'), (long - 1, 'a byte short'), (0, 'none'), (long, 'exact'),
                       (long + 1, 'a byte more'), (long + 9, '9 bytes more')):
             if w >= 0 and r >= 0: case(f'{what}, work area {how}, result area {so}', b, w, r)
-case('P11: the chain of 4,096 nodes', CHAIN)
-case('the chain of 4,096 nodes, work area a word short', CHAIN, 32767, 32768)
-case('the chain of 4,096 nodes, result area a byte short', CHAIN, 32768, 32767)
-case('P10: 4,096 nodes without links, the last the start', sheet([], [(0, 0, 0)] * 4096, 4095))
-case('P10: 4,097 nodes', sheet([], [(0, 0, 0)] * 4097, 0), 32784, 32784)
-case('16,384 links', sheet([(1, 1, f(2), 1)] * 16383 + [(1, 1, f(-1), 1)], [(16384, 0, 0), (0, 1, 0)], 0))
-case('16,385 links', sheet([(1, 1, f(2), 1)] * 16385, [(16385, 0, 0), (0, 1, 0)], 0))
-case('4,097 nodes and a link that does not climb', sheet([(1, 1, 0, 0)], [(1, 0, 0)] + [(0, 0, 0)] * 4096, 0), 32784, 32784)
+WORDS, BYTES = 8 * NODES, 8 * NODES
+case(f'P11: the chain of {NODES:,} nodes', CHAIN)
+case(f'the chain of {NODES:,} nodes, work area a word short', CHAIN, WORDS - 1, BYTES)
+case(f'the chain of {NODES:,} nodes, result area a byte short', CHAIN, WORDS, BYTES - 1)
+case(f'P10: {NODES:,} nodes without links, the last the start', sheet([], [(0, 0, 0)] * NODES, NODES - 1))
+case(f'P10: {NODES + 1:,} nodes', sheet([], [(0, 0, 0)] * (NODES + 1), 0), WORDS + 16, BYTES + 16)
+case(f'{LINKS:,} links', sheet([(1, 1, f(2), 1)] * (LINKS - 1) + [(1, 1, f(-1), 1)], [(LINKS, 0, 0), (0, 1, 0)], 0))
+case(f'{LINKS + 1:,} links', sheet([(1, 1, f(2), 1)] * (LINKS + 1), [(LINKS + 1, 0, 0), (0, 1, 0)], 0))
+case(f'{NODES + 1:,} nodes and a link that does not climb', sheet([(1, 1, 0, 0)], [(1, 0, 0)] + [(0, 0, 0)] * NODES, 0), WORDS + 16, BYTES + 16)
 
 LONE = climbing(2, [(0, 1, 1)], 0)
 REFUSED = [('P6: 19 bytes', EMPTY[1:]), ('no bytes', b''), ('A, a byte short', A[:-1]), ('A, 4 bytes more', A + bytes(4)), ('A, mark 2', with_word(A, 21, 2)),
            ('A, node 0 count 3', with_word(A, 20, 3)), ('A, start 4', with_word(A, TRAILER + 4, 4)), ('A, link 4 next 4', with_word(A, 19, 4)),
-           ('P7: weight 64.015625', with_word(LONE, 2, f(64) + 0x800)), ('weight -0', with_word(LONE, 2, 0x80000000)),
+           (f'P7: weight {LARGEST + 1 / 64}', with_word(LONE, 2, f(LARGEST + 1 / 64))), ('weight -0', with_word(LONE, 2, 0x80000000)),
            ('final weight infinite', with_word(A, 31, INFINITY)), ('P8: a link to its own node', with_word(A, 15, 1)), ('a link to a lower node', with_word(A, 19, 0)),
            ('start 4 and a link to its own node', with_word(with_word(A, TRAILER + 4, 4), 15, 1)),
            ('a weight off the grid and a link to its own node', with_word(with_word(A, 2, 1), 15, 1))]
@@ -104,7 +105,7 @@ for what, b in REFUSED:
 random.seed(1)
 def some():
     n = random.randint(1, 8)
-    ways = [] if n == 1 else [(v, random.randint(-4096, 4096) / 64, random.randint(v + 1, n - 1)) for v in random.choices(range(n - 1), k=random.randint(0, 12))]
+    ways = [] if n == 1 else [(v, random.randint(-UNITS, UNITS) / 64, random.randint(v + 1, n - 1)) for v in random.choices(range(n - 1), k=random.randint(0, 12))]
     return climbing(n, ways, random.choice([0, 0, 0, random.randrange(n), random.randrange(n), NONE]))
 def areas(b):
     n, long = struct.unpack('<I', b[-12:-8])[0], 8 * len(distances(b))

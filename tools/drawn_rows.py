@@ -4,7 +4,10 @@ draw takes its random numbers from `r`. It shares nothing with the library.
 import struct
 from fractions import Fraction
 from rows import weight_text
-from sheets import NONE, f, sheet, with_word
+from sheets import LARGEST, NONE, UNITS, f, sheet, with_word
+
+# the largest weight, and a unit more and less
+MOST, MORE, LESS = (weight_text(Fraction(k, 64)).encode() for k in (UNITS, UNITS + 1, UNITS - 1))
 
 # fields that are neither a number nor a weight
 BAD = [b'+1', b'1.', b'.5', b'-.5', b'1e3', b'0.1234567', b'1.0000000', b'-', b'--1', b'-+1', b'1-', b'1.2.3', b'1..2', b'0x10', b'x', b'1x', b'1,5', b'1_0',
@@ -12,16 +15,16 @@ BAD = [b'+1', b'1.', b'.5', b'-.5', b'1e3', b'0.1234567', b'1.0000000', b'-', b'
 # fields that are no number, most of them weights
 NO_NODE = [b'-1', b'-0', b'1.5', b'1.0', b'4294967296', b'9999999999', b'10000000000', b'18446744073709551616', b'18446744073709551617', b'9' * 40]
 # weights off the grid, and on it
-OFF = [b'64.000001', b'-64.000001', b'64.015625', b'-64.015625', b'65', b'-65', b'0.3', b'0.000001', b'-0.000001', b'0.015624', b'0.015626', b'0.007812',
-       b'0.500001', b'0.1', b'100', b'4294967296', b'33554432', b'281474976710656', b'67108864.015625', b'18446744073709551616',
+OFF = [MOST + b'.000001', b'-' + MOST + b'.000001', MORE, b'-' + MORE, b'%d' % (LARGEST + 1), b'%d' % (-LARGEST - 1), b'0.3', b'0.000001', b'-0.000001', b'0.015624', b'0.015626', b'0.007812',
+       b'0.500001', b'0.1', b'1000', b'4294967296', b'33554432', b'281474976710656', b'67108864.015625', b'18446744073709551616',
        b'18446744073709551617.5', b'9' * 20, b'9' * 40, b'-' + b'7' * 40 + b'.25']
-ON = [b'64', b'-64', b'64.0', b'64.000000', b'-64.00000', b'63.984375', b'-63.984375', b'0.015625', b'-0.015625', b'0', b'-0', b'-0.0', b'0.000000',
+ON = [MOST, b'-' + MOST, MOST + b'.0', MOST + b'.000000', b'-' + MOST + b'.00000', LESS, b'-' + LESS, b'65', b'-100', b'99.984375', b'0.015625', b'-0.015625', b'0', b'-0', b'-0.0', b'0.000000',
       b'-0.000000', b'00', b'007', b'00.250', b'-000.5', b'0' * 40 + b'1.25', b'1.5', b'1.50', b'1.500000', b'0.75', b'10', b'9', b'0.984375', b'2.140625']
 # nodes without a sheet, and nodes far up
 FAR = [b'4294967295', b'4294967295', b'4294967294', b'200000', b'70000', b'65536', b'16384', b'16383']
 BYTES = b' \t\n0159-.+e\r\0\x80\xff'
 
-def units(r): return r.choice([0, 0, 64, 32, -64, 1, -1, 4096, -4096, 4095, r.randint(-4096, 4096), r.randint(-640, 640)])
+def units(r): return r.choice([0, 0, 64, 32, -64, 1, -1, UNITS, -UNITS, UNITS - 1, r.randint(-UNITS, UNITS), r.randint(-640, 640)])
 
 def label(r, most=NONE): return r.choice([0, 1, 2, 7, r.randint(0, 99), r.randint(0, most), most])
 
@@ -91,6 +94,6 @@ def damaged_sheet(r, b):
     for _ in range(r.randint(1, 2)):
         i = r.randrange(len(b) // 4)
         w = struct.unpack_from('<I', b, 4 * i)[0]
-        news = [0, 1, 2, w + 1 & NONE, w - 1 & NONE, w ^ 0x80000000, 0x80000000, 0x7f800000, 0x7fc00000, f(64.015625), f(1 / 128), NONE, r.randrange(2 ** 32)]
+        news = [0, 1, 2, w + 1 & NONE, w - 1 & NONE, w ^ 0x80000000, 0x80000000, 0x7f800000, 0x7fc00000, f(LARGEST + 1 / 64), f(1 / 128), NONE, r.randrange(2 ** 32)]
         b = with_word(b, i, r.choice(news))
     return b

@@ -12,7 +12,8 @@ import functools, itertools, random, struct
 from collections import Counter
 from fractions import Fraction
 from search_oracle import Search
-from sheets import A, CHAIN, EMPTY, NONE, TRAILER, climbing, distances, f, fields, input_number, read, real, sample, sheet, sources, with_word, written
+from sheets import (A, CHAIN, EMPTY, LARGEST, LINKS, NODES, NONE, TRAILER, UNITS, climbing, distances, f, fields, input_number, read, real,
+                    sample, sheet, sources, with_word, written)
 
 def units(bits): return int(64 * Fraction(real(bits)))
 
@@ -91,13 +92,16 @@ def outcome(b, n, words, room):
     if room < len(answer): return 21, 8 * slots(b, n), 0, 0, 0, b''
     return 0, 8 * slots(b, n), *counts, answer
 
+# what the program has areas for, in words and bytes
+WORK, RESULT = 8 * (3 * LINKS + 12), 32 * (NODES + 4)
+
 lines = []
 def case(what, b, n, words=None, room=None):
     """a case; the areas that are not given are just long enough"""
     if words is None: words = 8 * slots(b, n) if input_number(b) == 0 else 4000
     if room is None: room = len(made(b, n)[3]) if input_number(b) == 0 and n < 65 else 1000
     k, zeros, *counts, answer = outcome(b, n, words, room)
-    assert words <= 393312 and room <= 131200 and all(read(written(x, 1)) == x for x in (b, answer))
+    assert words <= WORK and room <= RESULT and all(read(written(x, 1)) == x for x in (b, answer))
     lines.append(f'{k} {n} {words} {room} {zeros} {counts[0]} {counts[1]} {counts[2]} {len(b)} {written(b, 1)} {written(answer, 1)} # {what}')
     return k
 
@@ -110,7 +114,7 @@ assert labels(A, 1) == [[1, 3]] and labels(A, 2) == [[1, 3], [2, 4]] and made(A,
 assert [k for _, k in readings(A, 3)] == [112, 112, 144] and labels(A, 3)[2] == [1, 5, 4] and made(A, 3)[2] == 11
 assert len(readings(A, 4)) == 3 and made(A, 4)[2] == 11
 assert [way for way, _ in readings(TWICE, 1)] == [(0, 2)] and [way for way, _ in readings(TWICE, 2)] == [(1, 2), (0, 3)]
-for n in (1, 2): assert readings(CHAIN, n) == [(tuple(range(4095)), 64 * 262144)]
+for n in (1, 2): assert readings(CHAIN, n) == [(tuple(range(NODES - 1)), NODES * UNITS)]
 
 NAMED = {1: 'P2: ', 3: 'P3: ', 4: 'P4: ', 64: 'P9: ', 65: 'P9: '}
 for n in (0, 1, 2, 3, 4, 5, 64, 65):
@@ -125,30 +129,30 @@ for n in (0, 1, 2, 64): case(f'no nodes, n = {n}, areas longer', EMPTY, n, 8 * s
 for n in (2, 64): case(f'no nodes, n = {n}, a work word short', EMPTY, n, 8 * slots(EMPTY, n) - 1, 20)
 for n in (0, 1, 2, 64): case(f'no nodes, n = {n}, a result byte short', EMPTY, n, None, 19)
 
-LONE = climbing(2, [(0, 64, 1)], 0)
+LONE = climbing(2, [(0, LARGEST, 1)], 0)
 for n in (0, 1, 2, 64, 65):
     case(f'P6: 19 bytes, n = {n}', EMPTY[1:], n)
-    case(f'P7: weight 64, n = {n}', LONE, n)
-    case(f'P7: weight 64.015625, n = {n}', with_word(LONE, 2, f(64) + 0x800), n)
+    case(f'P7: weight {LARGEST:g}, n = {n}', LONE, n)
+    case(f'P7: weight {LARGEST + 1 / 64}, n = {n}', with_word(LONE, 2, f(LARGEST + 1 / 64)), n)
     case(f'P8: a link to its own node, n = {n}', with_word(A, 15, 1), n)
 
-LAST = sheet([], [(0, 0, 0)] * 4095 + [(0, 1, f(.5))], 4095)
-ALL = sheet([], [(0, 1, f(.5))] * 4096, 4095)
-MOST = sheet([(1, 2, f(2), 1)] * 16383 + [(3, 4, f(-1), 1)], [(16384, 0, 0), (0, 1, 0)], 0)
-OVER = sheet([], [(0, 0, 0)] * 4096 + [(0, 1, 0)], 4096)
+LAST = sheet([], [(0, 0, 0)] * (NODES - 1) + [(0, 1, f(.5))], NODES - 1)
+ALL = sheet([], [(0, 1, f(.5))] * NODES, NODES - 1)
+MOST = sheet([(1, 2, f(2), 1)] * (LINKS - 1) + [(3, 4, f(-1), 1)], [(LINKS, 0, 0), (0, 1, 0)], 0)
+OVER = sheet([], [(0, 0, 0)] * NODES + [(0, 1, 0)], NODES)
 for n in (1, 2):
-    case(f'P10: 4,096 nodes, n = {n}', LAST, n)
-    case(f'P10: 4,096 final nodes without links, n = {n}', ALL, n)
-    case(f'P10: 4,097 nodes, n = {n}', OVER, n, 40000, 1000)
-    case(f'P11: the chain of 4,096 nodes, n = {n}', CHAIN, n)
-    case(f'the chain of 4,096 nodes, n = {n}, a work word short', CHAIN, n, 8 * slots(CHAIN, n) - 1, 131200)
-    case(f'the chain of 4,096 nodes, n = {n}, a result byte short', CHAIN, n, None, len(made(CHAIN, n)[3]) - 1)
-    case(f'16,384 links, n = {n}', MOST, n)
-    case(f'16,385 links, n = {n}', sheet([(1, 1, f(2), 1)] * 16385, [(16385, 0, 0), (0, 1, 0)], 0), n)
-case('4,096 final nodes without links, n = 64', ALL, 64)
+    case(f'P10: {NODES:,} nodes, n = {n}', LAST, n)
+    case(f'P10: {NODES:,} final nodes without links, n = {n}', ALL, n)
+    case(f'P10: {NODES + 1:,} nodes, n = {n}', OVER, n, 40000, 1000)
+    case(f'P11: the chain of {NODES:,} nodes, n = {n}', CHAIN, n)
+    case(f'the chain of {NODES:,} nodes, n = {n}, a work word short', CHAIN, n, 8 * slots(CHAIN, n) - 1, RESULT)
+    case(f'the chain of {NODES:,} nodes, n = {n}, a result byte short', CHAIN, n, None, len(made(CHAIN, n)[3]) - 1)
+    case(f'{LINKS:,} links, n = {n}', MOST, n)
+    case(f'{LINKS + 1:,} links, n = {n}', sheet([(1, 1, f(2), 1)] * (LINKS + 1), [(LINKS + 1, 0, 0), (0, 1, 0)], 0), n)
+case(f'{NODES:,} final nodes without links, n = 64', ALL, 64)
 
-# of each refusal, what brings it about in A's words; 5 goes by A with 4,097 nodes, 7, 20 and 21 by n and the areas
-def large(b): return sheet(fields(b)[0], fields(b)[1] + [(0, 0, 0)] * 4093, 0)
+# of each refusal, what brings it about in A's words; 5 goes by A with a node more than there may be, 7, 20 and 21 by n and the areas
+def large(b): return sheet(fields(b)[0], fields(b)[1] + [(0, 0, 0)] * (NODES - 3), 0)
 BREAKS = {1: lambda b: with_word(b, 24, 2), 2: lambda b: with_word(b, len(b) // 4 - 1, NONE - 1), 3: lambda b: with_word(b, 19, NONE - 1),
           4: lambda b: with_word(b, 2, 1), 5: lambda b: b, 6: lambda b: with_word(b, 15, 1), 7: lambda b: b, 20: lambda b: b, 21: lambda b: b}
 def refused(ks, n):
@@ -172,14 +176,14 @@ KINDS = [('equal ways', climbing(4, [(0, 1, 1), (0, 1, 2), (1, 2, 3), (2, 2, 3)]
          ('six times two links', climbing(7, [(v, w, v + 1) for v in range(6) for w in (1, 1 + 2 ** -v)], 0, None, other)),
          ('unreached nodes', climbing(6, [(0, 1, 2), (1, -2, 2), (1, 0, 3), (2, 1, 5), (4, -9, 5)], 0, None, other)),
          ('nodes below the start that link to reached ones', climbing(5, [(0, -3, 2), (1, -4, 3), (2, 1, 3), (2, 2, 4), (3, 0, 4)], 2, None, other)),
-         ('unreached final nodes', climbing(5, [(0, 1, 4), (1, -1, 4), (2, .5, 3)], 0, {1: -5, 2: 0, 3: -64, 4: 1}, other)),
+         ('unreached final nodes', climbing(5, [(0, 1, 4), (1, -1, 4), (2, .5, 3)], 0, {1: -5, 2: 0, 3: -LARGEST, 4: 1}, other)),
          ('unreached final nodes alone', climbing(3, [(0, 1, 1)], 0, None, other)),
          ('one node, a reading without links', sheet([], [(0, 1, f(-2))], 0)),
          ('a reading without links among others', climbing(3, [(0, 1, 1), (0, 2, 2), (1, 1, 2)], 0, {0: 3, 1: -1, 2: 0}, other)),
          ('labels 0', climbing(3, [(0, 1, 1), (0, 2, 2), (1, 1, 2)], 0, None, lambda i: (0, 0))),
          ('labels 0 on one side', climbing(3, [(0, 1, 1), (0, 2, 2), (1, 1, 2)], 0, None, lambda i: (0, 7) if i else (NONE, 0))),
          ('equal labels', climbing(3, [(0, 1, 1), (0, 1, 1), (1, 1, 2), (1, 1, 2)], 0, None, lambda i: (5, 6))),
-         ('negative costs', climbing(4, [(0, -64, 1), (0, -1 / 64, 2), (1, -64, 2), (1, 64, 3), (2, -.5, 3)], 0, {1: -.25, 3: -64}, other)),
+         ('negative costs', climbing(4, [(0, -LARGEST, 1), (0, -1 / 64, 2), (1, -LARGEST, 2), (1, LARGEST, 3), (2, -.5, 3)], 0, {1: -.25, 3: -LARGEST}, other)),
          ('costs that come back to 0', climbing(3, [(0, 1.25, 1), (0, 0, 2), (1, -1.25, 2)], 0, None, other)),
          ('no start', with_word(A, TRAILER + 4, NONE)), ('no final node', climbing(3, [(0, 1, 1), (1, 1, 2)], 0, {}, other)),
          ('start 1', with_word(A, TRAILER + 4, 1)), ('the start the last node', with_word(A, TRAILER + 4, 3))]
@@ -189,7 +193,7 @@ for what, b in KINDS:
 random.seed(1)
 def some():
     """a sheet of few distinct weights"""
-    n, ws = random.randint(1, 9), random.sample([0, 0, 1, 1, 2, .5, -1, -.25, 64, 1 / 64], random.randint(1, 3))
+    n, ws = random.randint(1, 9), random.sample([0, 0, 1, 1, 2, .5, -1, -.25, LARGEST, 1 / 64], random.randint(1, 3))
     ways = [(v, v + 1) for v in range(n - 1) if random.random() < .8]
     if n > 1: ways += [(v, random.randint(v + 1, min(n - 1, v + 3))) for v in random.choices(range(n - 1), k=random.randint(0, 8))]
     random.shuffle(ways)

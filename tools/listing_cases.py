@@ -7,7 +7,7 @@ shares nothing with the library.
 """
 import functools, itertools, random
 from list_cases import BREAKS, KINDS, labels, large, made, readings, some
-from sheets import A, EMPTY, NONE, TRAILER, climbing, f, fields, input_number, read, sheet, with_word, written
+from sheets import A, EMPTY, LARGEST, NODES, NONE, TRAILER, UNITS, climbing, f, fields, input_number, read, sheet, with_word, written
 
 def listing_number(n, b):
     """the refusal, or 0"""
@@ -55,8 +55,8 @@ def long_name(i): return NONE - i, i
 
 # sheets of exactly 4,096 bytes, and just longer
 FLAT = climbing(5, [(i % 4, (i * 37 % 129 - 64) / 2, i % 4 + 1) for i in range(251)], 0, {4: -.5}, named)
-WIDE = climbing(337, [(0, 1.5, 336), (0, -64, 200)], 0, {200: 64, 336: -1 / 64}, named)
-DEEP = climbing(145, [(v, 64, v + 1) for v in range(144)] + [(3, 64, 4), (143, 63.5, 144)], 0, {144: 64}, long_name)
+WIDE = climbing(337, [(0, 1.5, 336), (0, -LARGEST, 200)], 0, {200: LARGEST, 336: -1 / 64}, named)
+DEEP = climbing(145, [(v, LARGEST, v + 1) for v in range(144)] + [(3, LARGEST, 4), (143, LARGEST - .5, 144)], 0, {144: LARGEST}, long_name)
 OVER = climbing(4, [(i % 3, 1, i % 3 + 1) for i in range(252)], 0, None, lambda i: (5, 6))
 for what, b in ('251 links and 5 nodes', FLAT), ('2 links and 337 nodes', WIDE), ('146 links and 145 nodes', DEEP):
     assert len(b) == 4096 and input_number(b) == 0
@@ -64,27 +64,27 @@ for what, b in ('251 links and 5 nodes', FLAT), ('2 links and 337 nodes', WIDE),
     for n in (2, 5): assert case(f'4,096 bytes: {what}, a weight off the grid', n, with_word(b, 2, 1)) == 'refused 4\n'
 assert len(OVER) == 4100 and input_number(OVER) == 0
 LONG = [('4,100 bytes', OVER), ('4,100 bytes, a weight off the grid', with_word(OVER, 2, 1)), ('4,097 bytes that are no sheet', bytes(4097)),
-        ('a byte before 4,096', b'\0' + WIDE), ('a byte behind 4,096', WIDE + b'\0'), ('4,097 nodes', large(A)),
+        ('a byte before 4,096', b'\0' + WIDE), ('a byte behind 4,096', WIDE + b'\0'), (f'{NODES + 1:,} nodes', large(A)),
         ('20,000 bytes that are no sheet', bytes(20000))]
 for n in (0, 2, 5, 65):
     for what, b in ('4,096 bytes that are no sheet', bytes(4096)), ('4,095 bytes of 4,096', WIDE[1:]): assert case(what, n, b) == 'refused 1\n'
     for what, b in LONG: assert len(b) > 4096 and case(what, n, b) == 'refused 20\n'
 
 # the longest reading that 4,096 bytes can hold, with the largest labels, and the costs farthest from 0
-for w in (64, -64, 1 / 64, -1 / 64, 0):
+for w in (LARGEST, -LARGEST, 1 / 64, -1 / 64, 0):
     b = climbing(146, [(v, w, v + 1) for v in range(145)], 0, {145: w}, long_name)
     assert len(b) <= 4096 < len(b) + 28 and input_number(b) == 0
-    for n in (1, 2) if abs(w) == 64 else (2,):
-        assert case(f'the chain of 145 links, each weight {w}', n, b).split()[4:6] == ['1', str(int(64 * 146 * w))]
+    for n in (1, 2) if abs(w) == LARGEST else (2,):
+        assert case(f'the chain of 145 links, each weight {w:g}', n, b).split()[4:6] == ['1', str(int(64 * 146 * w))]
 
 def lone(k): return sheet([], [(0, 1, f(k / 64))], 0)
 MORE = [('labels of each length', climbing(len(LABELS) + 1, [(v, 0, v + 1) for v in range(len(LABELS))], 0, None, named)),
         ('each label a reading', climbing(2, [(0, i / 8, 1) for i in range(4)], 0, None, lambda i: (LABELS[-1 - i], 5))),
         ('costs about 0', climbing(2, [(0, k / 64, 1) for k in (-1, 0, 1, -10)], 0, None, named)),
         ('costs that the final weight turns', climbing(3, [(0, 1, 1), (0, -1, 2)], 0, {1: -2, 2: 2}, named)),
-        ('costs of one to four digits', climbing(2, [(0, k / 64, 1) for k in (4096, 999, 10, 9)], 0, None, named)),
+        ('costs of one to four digits', climbing(2, [(0, k / 64, 1) for k in (UNITS, 999, 10, 9)], 0, None, named)),
         ('a link but no nodes', with_word(EMPTY, 3, 1)), ('a start that is no node', with_word(A, TRAILER + 4, 4)),
-        *((f'a reading without links, cost {k}', lone(k)) for k in (0, 1, -1, -4096))]
+        *((f'a reading without links, cost {k}', lone(k)) for k in (0, 1, -1, -UNITS))]
 for what, b in KINDS + MORE:
     for n in range(6): case(what, n, b)
 assert printed(b'\2' + lone(-1)) == 'readings 1 taken 3\n1 -1\n'
@@ -96,6 +96,6 @@ def renamed(b):
     return sheet([(random.choice(LABELS + [random.randrange(NONE)]), *l[1:]) for l in links], nodes, start)
 for i in range(200):
     b = renamed(some())
-    if random.random() < .1: b = with_word(b, random.randrange(len(b) // 4), random.choice([0, 1, 2, f(65), NONE]))
+    if random.random() < .1: b = with_word(b, random.randrange(len(b) // 4), random.choice([0, 1, 2, f(LARGEST + 1), NONE]))
     case(f'random {i}', random.choice([1, 2, 2, 3, 3, 4, 4, random.randint(0, 66)]), b)
 for line in lines: print(line)

@@ -9,11 +9,12 @@ words: which one (CALLS), its node, the kind of its answer (KINDS), and the answ
     python3 tools/queue_cases.py > crates/replay_queues/stdin
 """
 import random, struct
+from sheets import NODES as LIMIT
 
-LIMIT = 4096
+LAST = LIMIT - 1
 CALLS = ['enqueue', 'dequeue', 'head', 'update', 'is_empty', 'clear', 'is_valid']
 KINDS = ['done', 'node', 'none', 'refused', 'test']
-NODES = ('enqueue', 'update')
+WITH_NODE = ('enqueue', 'update')
 
 class Queue:
     """front, back or None, and the nodes whose flag is set"""
@@ -23,8 +24,8 @@ class Queue:
 
     def refused(self):
         """refusal 22 of the record alone, condition by condition"""
-        if self.front > 4096: return True
-        if self.back is not None and self.back > 4095: return True
+        if self.front > LIMIT: return True
+        if self.back is not None and self.back > LAST: return True
         empty = self.back is None or self.front > self.back
         for v in self.flags:
             if empty or not self.front <= v <= self.back: return True
@@ -59,7 +60,7 @@ class Queue:
     def call(self, name, node):
         """the kind and the value of the answer"""
         if name == 'is_valid': return 'test', int(not self.refused())
-        if self.refused() or (name == 'enqueue' and node > 4095): return 'refused', 22
+        if self.refused() or (name == 'enqueue' and node > LAST): return 'refused', 22
         if name == 'enqueue': self.rust_enqueue(node); return 'done', 0
         if name == 'update': return 'done', 0
         if name == 'clear': self.rust_clear(); return 'done', 0
@@ -97,7 +98,7 @@ def case(what, q, calls):
 
 def each(what, q, node=7):
     """every call on one record"""
-    for c in CALLS: case(f'{what}: {c}', q, [(c, node) if c in NODES else c])
+    for c in CALLS: case(f'{what}: {c}', q, [(c, node) if c in WITH_NODE else c])
 
 def prefixes(what, q, calls):
     """a sequence, call by call, so that each record on the way is compared"""
@@ -110,17 +111,17 @@ VALID = [
     ('a new queue', Queue()),
     ('one node', Queue(5, 5, {5})),
     ('node 0 alone', Queue(0, 0, {0})),
-    ('the highest node alone', Queue(4095, 4095, {4095})),
+    ('the highest node alone', Queue(LAST, LAST, {LAST})),
     ('two nodes', Queue(3, 9, {3, 9})),
     ('a row of nodes', Queue(3, 9, range(3, 10))),
-    ('the first and the last node', Queue(0, 4095, {0, 4095})),
-    ('every node', Queue(0, 4095, ALL)),
-    ('every second node of a row', Queue(3900, 4094, range(3900, 4095, 2))),
+    ('the first and the last node', Queue(0, LAST, {0, LAST})),
+    ('every node', Queue(0, LAST, ALL)),
+    ('every second node of a row', Queue(LAST - 195, LAST - 1, range(LAST - 195, LAST, 2))),
     ('emptied, front one above back', Queue(10, 9)),
     ('emptied at 0', Queue(1, 0)),
-    ('emptied at the top', Queue(4096, 4095)),
+    ('emptied at the top', Queue(LIMIT, LAST)),
     ('front far above back and no flags', Queue(100, 3)),
-    ('front 4,096 far above back and no flags', Queue(4096, 0)),
+    (f'front {LIMIT:,} far above back and no flags', Queue(LIMIT, 0)),
 ]
 for what, q in VALID:
     assert not q.refused(), what
@@ -128,36 +129,36 @@ for what, q in VALID:
 
 # ---- each condition of 22
 INVALID = [
-    ('front 4,097, back none', Queue(4097)),
-    ('front 4,097 above back', Queue(4097, 9)),
-    ('front 4,097 above back 4,095', Queue(4097, 4095)),
+    (f'front {LIMIT + 1:,}, back none', Queue(LIMIT + 1)),
+    (f'front {LIMIT + 1:,} above back', Queue(LIMIT + 1, 9)),
+    (f'front {LIMIT + 1:,} above back {LAST:,}', Queue(LIMIT + 1, LAST)),
     ('front 65,536', Queue(65536, 0)),
-    ('front the highest number', Queue(0xffffffff, 4095)),
-    ('back 4,096', Queue(3, 4096, {3})),
-    ('back 4,096, front above it', Queue(4096, 4096)),
-    ('back 4,096, every flag set', Queue(0, 4096, ALL)),
-    ('back 8,191, front at a flag', Queue(4095, 8191, {4095})),
+    ('front the highest number', Queue(0xffffffff, LAST)),
+    (f'back {LIMIT:,}', Queue(3, LIMIT, {3})),
+    (f'back {LIMIT:,}, front at it', Queue(LIMIT, LIMIT)),
+    (f'back {LIMIT:,}, every flag set', Queue(0, LIMIT, ALL)),
+    (f'back {2 * LIMIT - 1:,}, front at a flag', Queue(LAST, 2 * LIMIT - 1, {LAST})),
     ('back the highest number', Queue(0, 0xffffffff, {0})),
     ('a flag below front', Queue(5, 9, {4, 5, 9})),
     ('flag 0 below front', Queue(5, 9, {0, 5, 9})),
     ('a flag above back', Queue(5, 9, {5, 9, 10})),
-    ('flag 4,095 above back', Queue(5, 9, {5, 9, 4095})),
+    (f'flag {LAST:,} above back', Queue(5, 9, {5, 9, LAST})),
     ('a flag in a queue without back', Queue(0, None, {0})),
-    ('flag 4,095 in a queue without back', Queue(0, None, {4095})),
+    (f'flag {LAST:,} in a queue without back', Queue(0, None, {LAST})),
     ('every flag in a queue without back', Queue(0, None, ALL)),
     ('a flag at back of an emptied queue', Queue(10, 9, {9})),
     ('a flag at front of an emptied queue', Queue(10, 9, {10})),
     ('a flag far from an emptied queue', Queue(10, 9, {300})),
-    ('flag 4,095 of a queue emptied at the top', Queue(4096, 4095, {4095})),
+    (f'flag {LAST:,} of a queue emptied at the top', Queue(LIMIT, LAST, {LAST})),
     ('a clear flag at front', Queue(3, 9, {5, 9})),
-    ('a clear flag at front 0', Queue(0, 4095, set(ALL) - {0})),
+    ('a clear flag at front 0', Queue(0, LAST, set(ALL) - {0})),
     ('a clear flag at back', Queue(3, 9, {3, 5})),
-    ('a clear flag at back 4,095', Queue(0, 4095, set(ALL) - {4095})),
+    (f'a clear flag at back {LAST:,}', Queue(0, LAST, set(ALL) - {LAST})),
     ('clear flags at front and back', Queue(3, 9, {5})),
     ('front at back and its flag clear', Queue(5, 5)),
     ('no flags from front to back', Queue(3, 9)),
     ('back none, front 1', Queue(1)),
-    ('back none, front 4,096', Queue(4096)),
+    (f'back none, front {LIMIT:,}', Queue(LIMIT)),
 ]
 for what, q in INVALID:
     assert q.refused(), what
@@ -165,20 +166,20 @@ for what, q in INVALID:
 
 # ---- nodes too high to be put in; update takes any
 for what, q in VALID[:4] + VALID[9:]:
-    for node in (4095, 4096, 4097, 65536, 0xffffffff):
+    for node in (LAST, LIMIT, LIMIT + 1, 65536, 0xffffffff):
         case(f'{what}: enqueue {node}', q, [('enqueue', node)])
         case(f'{what}: update {node}', q, [('update', node)])
 
 # ---- nodes put in below, between, above, and again
-for node in (0, 2, 3, 4, 8, 9, 10, 4095): case(f'two nodes: enqueue {node}', Queue(3, 9, {3, 9}), [('enqueue', node)])
+for node in (0, 2, 3, 4, 8, 9, 10, LAST): case(f'two nodes: enqueue {node}', Queue(3, 9, {3, 9}), [('enqueue', node)])
 
 # ---- sequences
 prefixes('in order and out', Queue(), [('enqueue', v) for v in (3, 4, 7)] + ['dequeue', 'head', 'dequeue', 'is_empty', 'dequeue', 'is_empty', 'dequeue', 'head', 'is_valid'])
 prefixes('backwards and out', Queue(), [('enqueue', v) for v in (9, 5, 1)] + ['head', 'dequeue', 'dequeue', 'dequeue', 'dequeue', 'head'])
-prefixes('emptied at the top', Queue(), [('enqueue', 4095), 'head', 'dequeue', 'head', 'is_empty', 'is_valid', 'dequeue', ('enqueue', 4096), ('enqueue', 0), 'head'])
+prefixes('emptied at the top', Queue(), [('enqueue', LAST), 'head', 'dequeue', 'head', 'is_empty', 'is_valid', 'dequeue', ('enqueue', LIMIT), ('enqueue', 0), 'head'])
 prefixes('cleared and filled again', Queue(), [('enqueue', 8), ('enqueue', 2), ('update', 5), 'clear', 'head', 'is_empty', ('enqueue', 6), 'head', 'dequeue', 'clear', 'clear'])
 prefixes('a refusal changes nothing', Queue(), [('enqueue', 8), ('enqueue', 5000), ('enqueue', 2), ('update', 5000), 'head', 'dequeue', 'dequeue'])
-prefixes('every node out of a full queue', Queue(0, 4095, ALL), ['dequeue'] * 12)
+prefixes('every node out of a full queue', Queue(0, LAST, ALL), ['dequeue'] * 12)
 prefixes('a damaged record', Queue(3, 9, {5, 9}), CALLS[1:3] + ['clear', 'is_empty', ('enqueue', 3), 'is_valid'])
 
 rng = random.Random(22)
@@ -188,7 +189,7 @@ for n in range(40):
     calls = []
     for _ in range(rng.randint(4, 14)):
         name = rng.choice(['enqueue'] * 5 + ['dequeue'] * 4 + ['head', 'update', 'is_empty', 'clear', 'is_valid'])
-        calls.append((name, rng.randrange(top) if rng.randrange(12) else rng.choice([4095, 4096, 70000])) if name in NODES else name)
+        calls.append((name, rng.randrange(top) if rng.randrange(12) else rng.choice([LAST, LIMIT, 70000])) if name in WITH_NODE else name)
     prefixes(f'drawn sequence {n}', q, calls)
 
 # ---- drawn records, whole and damaged
@@ -201,10 +202,10 @@ for n in range(150):
     if damage == 2: q.flags |= {rng.randrange(60)}
     if damage == 3: q.front += rng.choice([1, 5000])
     if damage == 4: q.back = None
-    if damage == 5: q.back += rng.choice([1, 4096])
+    if damage == 5: q.back += rng.choice([1, LIMIT])
     if damage == 6: q.flags = set()
     if damage == 7: q.front, q.back = q.back, q.front
     name = rng.choice(CALLS)
-    case(f'drawn record {n}: {name}', q, [(name, rng.randrange(50)) if name in NODES else name])
+    case(f'drawn record {n}: {name}', q, [(name, rng.randrange(50)) if name in WITH_NODE else name])
 
 print('\n'.join(lines))

@@ -7,9 +7,9 @@ expected comes from rows.py, which follows the text of the requirements and shar
     python3 tools/row_cases.py > crates/replay_rows/stdin
 """
 import random, struct
-from drawn_rows import BAD, NO_NODE, OFF, ON, damaged_sheet, damaged_text, drawn_sheet, drawn_text
+from drawn_rows import BAD, LESS, MOST, NO_NODE, OFF, ON, damaged_sheet, damaged_text, drawn_sheet, drawn_text
 from rows import rows_size, sheet_size, to_rows, to_sheet
-from sheets import A, EMPTY, NONE, f, read, sheet, with_word, written
+from sheets import A, EMPTY, LARGEST, NONE, f, read, sheet, with_word, written
 
 # what the program has areas for
 ROOM, GIVEN = 16384, 8192
@@ -46,8 +46,8 @@ def both_ways():
     assert exact(TO_SHEET, "A's rows", A_ROWS) == A and exact(TO_ROWS, 'A', A) == A_ROWS
     b = exact(TO_SHEET, 'blanks of each kind', b' 2  0\t7 7 -1.5\n0\n2 1.000000 \n01 3 1 1 -0\n')
     assert len(b) == 100 and exact(TO_ROWS, 'blanks of each kind', b) == b'2\t0\t7\t7\t-1.5\n2\t1\n0\n1\t3\t1\t1\n'
-    b = exact(TO_SHEET, "the grid's ends", b'0 0.015625\n1 -63.984375\n2 64\n3 -64\n')
-    assert len(b) == 68 and exact(TO_ROWS, "the grid's ends", b) == b'0\t0.015625\n1\t-63.984375\n2\t64\n3\t-64\n'
+    b = exact(TO_SHEET, "the grid's ends", b'0 0.015625\n1 -%b\n2 %b\n3 -%b\n' % (LESS, MOST, MOST))
+    assert len(b) == 68 and exact(TO_ROWS, "the grid's ends", b) == b'0\t0.015625\n1\t-%b\n2\t%b\n3\t-%b\n' % (LESS, MOST, MOST)
     assert exact(TO_SHEET, 'a node by its number alone', b'00010\n')[-20:] == struct.pack('<5I', 0, 0, 11, 0, 10)
     exact(TO_SHEET, 'links of a node apart', b'1 0 1 1\n0 1 2 2\n1 1 3 3 2\n0 0 4 4\n1 0 5 5\n')
     exact(TO_SHEET, 'a thousand nodes', b'999 3 1 2 -7.25\n3 999 4 5\n')
@@ -55,11 +55,11 @@ def both_ways():
 
 REFUSED = {
     'empty': (8, b''), 'no newline at the end': (8, b'0'), 'no newline at the end, a row before': (8, b'0\n1'),
-    'no newline at the end, 4 before': (8, b'0 65\n1'), 'a newline alone': (8, b'\n'),
+    'no newline at the end, 4 before': (8, b'0 %d\n1' % (LARGEST + 1)), 'a newline alone': (8, b'\n'),
     'blanks alone': (8, b' \t\n'), 'a blank row': (8, b'0\n\n1\n'), 'a blank row at the end': (8, b'0\n\n'), 'blanks at the end': (8, b'0\n '),
     'three fields': (8, b'0 1 2\n'), 'six fields': (8, b'0 1 2 3 4 5\n'), 'seven fields': (8, b'0 1 2 3 4 5 6\n'),
-    '8 after 4': (8, b'0 65\n1 x\n'), '8 after 1': (8, b'4294967295\n1 x\n'), '1': (1, b'4294967295 9\n'), '1 with 4': (1, b'4294967295 9.3\n'),
-    '1 by a next node': (1, b'0 4294967295 1 1\n'), '4 in the last row': (4, b'0\n1 64.000001\n'), '4 in the first row': (4, b'0 0.3\n1 2 3 4 5\n'),
+    '8 after 4': (8, b'0 %d\n1 x\n' % (LARGEST + 1)), '8 after 1': (8, b'4294967295\n1 x\n'), '1': (1, b'4294967295 9\n'), '1 with 4': (1, b'4294967295 9.3\n'),
+    '1 by a next node': (1, b'0 4294967295 1 1\n'), '4 in the last row': (4, b'0\n1 %b.000001\n' % MOST), '4 in the first row': (4, b'0 0.3\n1 2 3 4 5\n'),
     'final twice': (8, b'0\n0\n'), 'final twice, other weights': (8, b'0 1\n1\n0 2\n'), 'final twice, far up': (8, b'4294967294\n70000\n4294967294\n'),
     'final twice, other digits': (8, b'3\n003 1\n'), 'final twice at 16,384': (8, b'0\n16384\n32768\n16384\n'),
     'final twice at 16,383': (8, b'16383\n0\n16384\n16383\n'), 'final twice at 65,536': (8, b'0\n65536\n131072\n65536\n'),
@@ -94,15 +94,15 @@ ROWS = {
     'one marked node': sheet([], [(0, 1, 0)], 0), 'a bare last node with a link to it': sheet([(1, 1, 0, 1)], [(1, 0, 0), (0, 0, 0)], 0),
     'a last node with a link': sheet([(1, 1, 0, 0)], [(0, 1, 0), (1, 0, 0)], 0), 'half below zero': sheet([(1, 2, f(-.5), 0)], [(1, 1, f(-.5))], 0),
     'a start above 0': sheet([(1, 2, f(1), 2), (3, 4, f(-1), 0), (5, 6, 0, 1)], [(1, 1, f(.5)), (1, 0, 0), (1, 1, 0)], 2),
-    'bare nodes between': sheet([(NONE, 0, f(64), 5)], [(0, 0, 0)] * 3 + [(1, 0, 0)] + [(0, 0, 0)] * 2, 3),
-    'labels and weights of most digits': sheet([(NONE, NONE - 1, f(-63.984375), 0)] * 2, [(2, 1, f(-10.015625))], 0)}
+    'bare nodes between': sheet([(NONE, 0, f(LARGEST), 5)], [(0, 0, 0)] * 3 + [(1, 0, 0)] + [(0, 0, 0)] * 2, 3),
+    'labels and weights of most digits': sheet([(NONE, NONE - 1, f(1 / 64 - LARGEST), 0)] * 2, [(2, 1, f(-10.015625))], 0)}
 
 def sheets():
     for what, b in NO_ROWS.items(): assert number(TO_ROWS, what, b, ROOM, 0) == 9, what
     for what, b in ROWS.items(): assert exact(TO_SHEET, what, exact(TO_ROWS, what, b)) == b, what
     for i in range(len(A) // 4):
         for w in (NONE, 0x80000000): case(TO_ROWS, f'A with word {i} {w:08x}', with_word(A, i, w))
-    off = with_word(A, 2, f(65))
+    off = with_word(A, 2, f(LARGEST + 1))
     for k, b in ((1, A[:-1]), (1, b''), (2, with_word(A, START, 4)), (2, with_word(off, START, 4)), (3, with_word(off, 3, 4)), (4, with_word(off, START, NONE))):
         assert number(TO_ROWS, f'{k} before what follows', b, ROOM, 0) == k
 

@@ -3,7 +3,7 @@ comparing run in oracle/ share. It shares nothing with the library.
 """
 import re, sys
 from fractions import Fraction
-from sheets import NONE, f, fields, read_number, real, sheet, sources
+from sheets import NONE, UNITS, f, fields, read_number, real, sheet, sources
 
 # a weight may have any number of digits before its point
 sys.set_int_max_str_digits(0)
@@ -36,7 +36,7 @@ def rows_of(text):
     finals = [row[1] for row in rows if row[0] == 'final']
     return rows if len(set(finals)) == len(finals) else None
 
-def off_grid(w): return (w * 64).denominator != 1 or abs(w * 64) > 4096
+def off_grid(w): return (w * 64).denominator != 1 or abs(w * 64) > UNITS
 
 def sheet_size(text):
     """what the call for the length answers: the refusal, 8, 1, 4, or 0, and the length"""

@@ -6,14 +6,16 @@ sheets.py, which follows the text of the requirements with exact fractions and s
     python3 tools/sheet_cases.py > crates/replay_sheets/stdin
 """
 import itertools, random, struct
-from sheets import A, EMPTY, NONE, f, read_number, sheet, with_word
+from sheets import A, EMPTY, LARGEST, NONE, f, read_number, sheet, with_word
 
 ONE = sheet([], [(0, 1, f(-2))], 0)
 TWO = sheet([(7, 9, f(3), 1)], [(1, 0, 0), (0, 1, f(1))], 0)
 LOOP = sheet([(1, 1, f(1), 0), (2, 2, f(2), 0)], [(2, 1, 0), (0, 0, 0)], 1)
 BASES = [('A', A), ('empty', EMPTY), ('one node', ONE), ('two nodes', TWO), ('links that do not climb', LOOP)]
 
-GRID = [f(64), f(64) + 0x800, f(-64), f(-64) + 0x800, f(64) - 0x1000, f(64) + 1, f(1 / 64), f(-1 / 64), f(1 / 128), f(3 / 128), 0x3dcccccd,
+# the largest weight and its neighbours on the grid, on both sides of 0; weights that were off the grid when 64 was the largest; and others
+GRID = [f(LARGEST), f(LARGEST + 1 / 64), f(-LARGEST), f(-LARGEST - 1 / 64), f(LARGEST - 1 / 64), f(LARGEST) + 1, f(64 + 1 / 64), f(-64 - 1 / 64), f(64) + 1,
+        f(1 / 64), f(-1 / 64), f(1 / 128), f(3 / 128), 0x3dcccccd,
         f(262144), 0, 0x80000000, 1, 0x807fffff, 0x7f7fffff, 0x7f800000, 0xff800000, 0x7fc00000, 0x7f800001, NONE]
 
 def name(b, i):

@@ -9,6 +9,10 @@ from fractions import Fraction
 
 NONE = 0xFFFFFFFF
 
+# the limits: the most nodes and links of a machine, and the most sixty-fourths of a weight either way; the largest weight
+NODES, LINKS, UNITS = 2048, 16384, 8192
+LARGEST = UNITS / 64
+
 def f(x): return struct.unpack('<I', struct.pack('<f', x))[0]
 
 def real(bits): return struct.unpack('<f', struct.pack('<I', bits))[0]
@@ -17,7 +21,7 @@ def on_grid(bits):
     x = real(bits)
     if not math.isfinite(x) or bits == 0x80000000: return False
     k = Fraction(x) * 64
-    return k.denominator == 1 and abs(k) <= 4096
+    return k.denominator == 1 and abs(k) <= UNITS
 
 def sheet(links, nodes, start):
     ws = [w for l in links for w in l] + [w for v in nodes for w in v] + [0, 16 * len(links), len(nodes), len(links), start]
@@ -53,7 +57,7 @@ def input_number(b):
     k = read_number(b)
     if k: return k
     links, nodes, _ = fields(b)
-    if len(nodes) > 4096 or len(links) > 16384: return 5
+    if len(nodes) > NODES or len(links) > LINKS: return 5
     if any(link[3] <= v for v, link in zip(sources(nodes), links)): return 6
     return 0
 
@@ -121,4 +125,5 @@ A = sheet([(1, 1, f(1), 1), (2, 2, f(.5), 2), (3, 3, f(.25), 3), (5, 5, f(0), 2)
 # the word at which its trailer begins
 TRAILER = len(A) // 4 - 5
 EMPTY = sheet([], [], NONE)
-CHAIN = sheet([(1, 1, f(64), v + 1) for v in range(4095)], [(1, 0, 0)] * 4095 + [(0, 1, f(64))], 0)
+# of as many nodes as there may be, each weight the largest
+CHAIN = sheet([(1, 1, f(LARGEST), v + 1) for v in range(NODES - 1)], [(1, 0, 0)] * (NODES - 1) + [(0, 1, f(LARGEST))], 0)

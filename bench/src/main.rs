@@ -66,7 +66,7 @@ fn run(arguments: &[&str]) -> Option<()> {
         }
         ["builds", time, previous, library] => {
             let time = Duration::from_millis(time.parse().ok()?);
-            builds::print(&[previous, library], &sheets::kinds(), time);
+            builds::print(&[previous, library], &sheets::kinds_for_builds(), time);
             Some(())
         }
         [time] => {

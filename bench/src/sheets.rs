@@ -1,6 +1,6 @@
 //! The machines that are timed.
 
-use oracle::machine::{weight, Link, Machine, Node};
+use oracle::machine::{weight, Link, Machine, Node, LINKS, NODES, UNITS};
 use oracle::random::Random;
 
 /// Machines of one kind, drawn alike.
@@ -68,23 +68,32 @@ fn kind(name: &'static str, seeds: u64, made: impl Fn(u64) -> Machine) -> Kind {
     }
 }
 
-/// All weights from 1/64 to 64.
-fn any() -> Vec<i32> {
-    (1..=4096).collect()
+/// All weights from 1/64 to one of so many sixty-fourths.
+fn any(most: i32) -> Vec<i32> {
+    (1..=most).collect()
 }
 
 /// The largest machines, in kinds; machines as large as the largest in use; and a small one.
 pub fn kinds() -> Vec<Kind> {
-    let (any, ties) = (any(), [0]);
-    let largest = |seed, reach, weights: &[i32]| tangle(seed, 4096, 16384, reach, weights);
+    kinds_within(UNITS)
+}
+
+/// The same with weights up to 64, which builds from before request (d) accept too.
+pub fn kinds_for_builds() -> Vec<Kind> {
+    kinds_within(64 * 64)
+}
+
+fn kinds_within(most: i32) -> Vec<Kind> {
+    let (any, ties) = (any(most), [0]);
+    let largest = |seed, reach, weights: &[i32]| tangle(seed, NODES, LINKS, reach, weights);
     vec![
         kind("largest, short links", TEN, |s| largest(s, SHORT, &any)),
-        kind("largest, long links", TEN, |s| largest(s, 4096, &any)),
+        kind("largest, long links", TEN, |s| largest(s, NODES, &any)),
         kind("largest, short links, all ties", TEN, |s| {
             largest(s, SHORT, &ties)
         }),
         kind("largest, long links, all ties", TEN, |s| {
-            largest(s, 4096, &ties)
+            largest(s, NODES, &ties)
         }),
         kind("largest, no reading", TEN, |s| {
             without_reading(largest(s, SHORT, &any))
@@ -101,24 +110,24 @@ pub fn kinds() -> Vec<Kind> {
     ]
 }
 
-/// Short links, more of them each time.
+/// As many nodes as there may be, and short links, more of them each time.
 pub fn growing() -> Vec<Kind> {
-    let any = any();
-    let grown = |name, links| kind(name, 1, |s| tangle(s, 2049, links, SHORT, &any));
+    let any = any(UNITS);
+    let grown = |name, links| kind(name, 1, |s| tangle(s, NODES, links, SHORT, &any));
     vec![
-        grown("2,049 nodes, 2,048 links", 2048),
-        grown("2,049 nodes, 4,096 links", 4096),
-        grown("2,049 nodes, 8,192 links", 8192),
-        grown("2,049 nodes, 16,384 links", 16384),
+        grown("2,048 nodes, 2,048 links", LINKS / 8),
+        grown("2,048 nodes, 4,096 links", LINKS / 4),
+        grown("2,048 nodes, 8,192 links", LINKS / 2),
+        grown("2,048 nodes, 16,384 links", LINKS),
     ]
 }
 
 /// Machines that are turned from text rows into sheets and back.
 pub fn written() -> Vec<Kind> {
-    let any = any();
+    let any = any(UNITS);
     vec![
         kind("2,000 nodes, 16,384 links", TEN, |s| {
-            tangle(s, 2000, 16384, SHORT, &any)
+            tangle(s, 2000, LINKS, SHORT, &any)
         }),
         kind("1,312 nodes, 5,000 links", TEN, |s| {
             tangle(s, 1312, 5000, SHORT, &any)

@@ -1,7 +1,7 @@
 //! Bench values of the requirements, as far as the Rust can give them, and one known list with ties.
 
 use crate::bytes;
-use crate::machine::{weight, Link, Machine, Node};
+use crate::machine::{weight, Link, Machine, Node, NODES, UNITS};
 use crate::readings::{readings, Reading};
 use crate::reference::{distances, list};
 
@@ -41,8 +41,8 @@ fn twice() -> Machine {
 }
 
 fn chain() -> Machine {
-    let links: Vec<_> = (0..4095).map(|v| (v, 1, 4096, v as u32 + 1)).collect();
-    built(4096, &links, 4096)
+    let links: Vec<_> = (1..NODES).map(|v| (v - 1, 1, UNITS, v as u32)).collect();
+    built(NODES, &links, UNITS)
 }
 
 /// The readings and the entries taken.
@@ -68,7 +68,8 @@ pub fn checks() -> Vec<(&'static str, bool)> {
         let list = list(&Machine::default(), n);
         bytes::list(&list) == empty && empty.len() == 20 && list.taken == 0
     };
-    let all: Vec<u32> = (0..4095).collect();
+    let all: Vec<u32> = (0..NODES as u32 - 1).collect();
+    let steps = (0..NODES).map(|v| 128.0 * v as f32);
     let whole = || vec![reading(64 * 262_144, &all)];
     let zero = |links: &[u32]| reading(0, links);
     vec![
@@ -83,6 +84,7 @@ pub fn checks() -> Vec<(&'static str, bool)> {
         ("P4 n = 4", told(&a, 4) == (three(), 11)),
         ("P5 no nodes", (0..=64).all(none)),
         ("P9 n = 64", told(&a, 64) == (three(), 11)),
+        ("P11 chain, distances", distances(&chain()).into_iter().eq(steps)),
         ("P11 chain, n = 1", told(&chain(), 1).0 == whole()),
         ("P11 chain, n = 2", told(&chain(), 2).0 == whole()),
         ("ties, n = 1", told(&twice(), 1).0 == [zero(&[0, 2])]),

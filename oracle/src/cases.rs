@@ -1,6 +1,6 @@
 //! Cases: machines whose links climb, each with an n. Few weights, so that ties abound.
 
-use crate::machine::{weight, Link, Machine, Node};
+use crate::machine::{weight, Link, Machine, Node, LINKS, NODES, UNITS};
 use crate::random::Random;
 
 pub struct Case {
@@ -40,7 +40,7 @@ impl Iterator for Cases {
     fn next(&mut self) -> Option<Case> {
         let random = &mut self.random;
         let most = self.most.unwrap_or_else(|| match random.below(1000) {
-            0 => (4096, 16384),
+            0 => (NODES, LINKS),
             1..=100 => (60, 200),
             _ => (12, 30),
         });
@@ -197,11 +197,11 @@ fn palette(random: &mut Random) -> Vec<i32> {
             &[32, 64],
             &[-64, 0, 64],
             &[-1, 0, 1],
-            &[4096],
-            &[-4096],
-            &[-4096, 4096],
-            &[4095, 4096],
-            &[-4096, -4095, 0],
+            &[UNITS],
+            &[-UNITS],
+            &[-UNITS, UNITS],
+            &[UNITS - 1, UNITS],
+            &[-UNITS, 1 - UNITS, 0],
             &[],
         ])
         .to_vec()
@@ -209,7 +209,7 @@ fn palette(random: &mut Random) -> Vec<i32> {
 
 fn some(random: &mut Random, palette: &[i32]) -> i32 {
     match palette {
-        [] => random.below(8193) as i32 - 4096,
+        [] => random.below(2 * UNITS as usize + 1) as i32 - UNITS,
         _ => random.pick(palette),
     }
 }

@@ -1,5 +1,11 @@
 //! A machine as plain data: what goes into the Rust, and what comes out of it.
 
+/// The limits of the requirements: the most nodes and links of a machine, and the most sixty-fourths of
+/// a weight, either way.
+pub const NODES: usize = 2048;
+pub const LINKS: usize = 16384;
+pub const UNITS: i32 = 8192;
+
 #[derive(Clone, Debug)]
 pub struct Link {
     pub input: u32,

@@ -4,7 +4,7 @@ use std::collections::HashSet;
 
 use oracle::bytes;
 use oracle::cases::Cases;
-use oracle::machine::{units, Machine};
+use oracle::machine::{units, Machine, LINKS, NODES, UNITS};
 use oracle::readings::readings;
 use oracle::{bench, reference};
 
@@ -25,9 +25,9 @@ fn accepted(machine: &Machine) -> bool {
     let mut weights = machine.links().map(|l| l.weight).chain(ends);
     machine.start.is_none_or(|s| (s as usize) < count)
         && ways.all(climbs)
-        && weights.all(|w| units(w).abs() <= 4096 && w.to_bits() != 0x8000_0000)
-        && count <= 4096
-        && machine.links().count() <= 16384
+        && weights.all(|w| units(w).abs() <= UNITS && w.to_bits() != 0x8000_0000)
+        && count <= NODES
+        && machine.links().count() <= LINKS
 }
 
 #[test]

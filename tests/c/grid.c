@@ -1,4 +1,4 @@
-/* The grid test from outside, on the weight of a link and on a final weight: a pattern is accepted where it is k/64 with |k| up to 4,096,
+/* The grid test from outside, on the weight of a link and on a final weight: a pattern is accepted where it is k/64 with |k| up to the limit,
  * and refused with 4 elsewhere. Each 127th pattern of 32 bits is read, or with the argument 1 every one; the step is odd, so that all low
  * digits come up. Those without a stored digit, powers of two above all, and each half of a sixty-fourth up to twice the limit with its
  * neighbours, are read and written. Weights are made here by dividing, and looked up. */
@@ -7,7 +7,7 @@
 #include <string.h>
 #include "yeldmur.h"
 
-enum { MOST = 4096, WEIGHTS = 2 * MOST + 1, STEP = 127 };
+enum { MOST = YELDMUR_WEIGHT_LIMIT, WEIGHTS = 2 * MOST + 1, STEP = 127 };
 
 /* The patterns of the weights, rising. */
 static uint32_t weights[WEIGHTS];

@@ -8,7 +8,7 @@
 #include <xmmintrin.h>
 #include "yeldmur.h"
 
-enum { NODES = 4096, WIDEST = 4, MOST = 10, FLUSHED = 0x8040 };
+enum { NODES = YELDMUR_NODE_LIMIT, UNITS = YELDMUR_WEIGHT_LIMIT, WIDEST = 8, MOST = 10, FLUSHED = 0x8040 };
 
 /* A chain of nodes with parallel links. Weights are in sixty-fourths. */
 static uint32_t nodes, links, first[NODES + 1];
@@ -204,7 +204,7 @@ static void compare(uint32_t n) {
 
 /* The sheet's text rows, and the sheet that these give. */
 static void compare_rows(void) {
-    static uint8_t text[NODES * (55 * WIDEST + 22)], other[sizeof text], again[sizeof sheet];
+    static uint8_t text[NODES * (56 * WIDEST + 23)], other[sizeof text], again[sizeof sheet];
     uint64_t length, bytes = 0;
     if (yeldmur_sheet_to_rows(sheet, size, text, sizeof text, &length)) fail("no rows");
     for (uint32_t m = 0; m < 8; m++) {
@@ -244,18 +244,19 @@ static void compare_denormal(void) {
 }
 
 int main(void) {
-    static const uint32_t COUNTS[] = {2, 33, 2049, 2050, 3000, 4096};
+    /* from half the limit on, sums have as many digits as there are */
+    static const uint32_t COUNTS[] = {2, 33, NODES / 2 + 1, NODES / 2 + 2, NODES - 500, NODES};
     for (uint32_t i = 0; i < 6; i++) {
-        compare_chain("dear", COUNTS[i], i % 2 ? 4 : 2, 4096 - 1, 2, 0);
-        compare_chain("cheap", COUNTS[i], i % 2 ? 4 : 2, -4096, 2, 0);
-        compare_chain("balanced", COUNTS[i], 2, 4096 - 1, 2, 1);
+        compare_chain("dear", COUNTS[i], i % 2 ? WIDEST : 2, UNITS - 1, 2, 0);
+        compare_chain("cheap", COUNTS[i], i % 2 ? WIDEST : 2, -UNITS, 2, 0);
+        compare_chain("balanced", COUNTS[i], 2, UNITS - 1, 2, 1);
     }
-    compare_chain("dearest", 4096, 1, 4096, 1, 0);
-    compare_chain("dearest", 4096, 4, 4096, 1, 0);
-    compare_chain("cheapest", 4096, 4, -4096, 1, 0);
+    compare_chain("dearest", NODES, 1, UNITS, 1, 0);
+    compare_chain("dearest", NODES, WIDEST, UNITS, 1, 0);
+    compare_chain("cheapest", NODES, WIDEST, -UNITS, 1, 0);
     compare_chain("zero", 64, 2, 0, 1, 0);
     negative_zeros = 0;
-    compare_chain("level", 65, 2, 4096, 1, 1);
+    compare_chain("level", 65, 2, UNITS, 1, 1);
     printf("negative zeros, rounding downward: %u\n", negative_zeros);
     compare_denormal();
     return 0;

@@ -103,9 +103,9 @@ static void refuse_texts(void) {
     REFUSE("a node past 32 bits", "4294967296\n");
     REFUSE("a label past 32 bits", "0 1 1 9999999999\n");
     REFUSE("a second final row", "0 1\n1\n0 1\n");
-    REFUSE("an unreadable row behind a weight off the grid", "0 65\n1 x\n");
+    REFUSE("an unreadable row behind a weight off the grid", "0 129\n1 x\n");
     REFUSE("one node too many", "4294967295 9\n");
-    REFUSE("64.000001", "0 64.000001\n");
+    REFUSE("128.000001", "0 128.000001\n");
     REFUSE("forty digits", "0 9999999999999999999999999999999999999999\n");
 }
 

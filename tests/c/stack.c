@@ -7,15 +7,15 @@
 #include <string.h>
 #include "yeldmur.h"
 
-enum { NODES = 4096, LINKS = 16380, STACK = 1 << 20, PAINT = 0xa5 };
+enum { NODES = YELDMUR_NODE_LIMIT, WIDTH = 8, LINKS = WIDTH * (NODES - 1), STACK = 1 << 20, PAINT = 0xa5 };
 
 static uint32_t link_words[4 * LINKS], node_words[3 * NODES];
 static uint8_t sheet[16 * LINKS + 12 * NODES + 20], *result;
 static uint32_t n, *work;
 static uint64_t size, slots, bytes;
 
-/* The most that rows of this sheet can take. */
-static uint8_t text[55 * LINKS + 22 * NODES];
+/* The most that rows of this sheet can take: 56 bytes a link, 23 a final node. */
+static uint8_t text[56 * LINKS + 23];
 static uint64_t text_bytes;
 
 static void nothing(void) {}
@@ -71,14 +71,14 @@ static size_t written(void (*call)(void)) {
     return STACK - untouched;
 }
 
-/* Four links from each node to the next, of weight 0, or with each seventh of weight 1. */
+/* So many links from each node to the next, of weight 0, or with each seventh of weight 1. */
 static void make_links(uint32_t dear) {
     for (uint32_t l = 0; l < LINKS; l++) {
-        uint32_t fields[] = {l, l, l % 7 < dear ? 0x3f800000 : 0, l / 4 + 1};
+        uint32_t fields[] = {l, l, l % 7 < dear ? 0x3f800000 : 0, l / WIDTH + 1};
         memcpy(link_words + 4 * l, fields, sizeof fields);
     }
     for (uint32_t v = 0; v < NODES; v++) {
-        uint32_t last = v + 1 == NODES, fields[] = {last ? 0 : 4, last, 0};
+        uint32_t last = v + 1 == NODES, fields[] = {last ? 0 : WIDTH, last, 0};
         memcpy(node_words + 3 * v, fields, sizeof fields);
     }
 }

@@ -48,12 +48,14 @@
 
 pub mod ffi;
 mod layout;
+mod limits;
 mod list;
 pub mod raw;
 mod refusal;
 mod rows;
 mod sheet;
 
+pub use limits::{LINK_LIMIT, LIST_LIMIT, NODE_LIMIT, WEIGHT_LIMIT};
 pub use list::{distances, list, Areas, List, Reading};
 pub use refusal::Refusal;
 pub use sheet::{Link, Sheet};

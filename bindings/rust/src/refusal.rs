@@ -17,10 +17,10 @@ pub enum Refusal {
     Start,
     /// 3: next node not below N.
     Next,
-    /// 4: a weight off the grid. The grid is k/64 for a whole k from -4,096 to 4,096; NaN, infinities and
+    /// 4: a weight off the grid. The grid is k/64 for a whole k from -8,192 to 8,192; NaN, infinities and
     /// negative zero are off it.
     Weight,
-    /// 5: N above 4,096 or T above 16,384.
+    /// 5: N above 2,048 or T above 16,384.
     Limits,
     /// 6: a link that does not lead to a higher node.
     Climb,
@@ -83,7 +83,7 @@ impl Refusal {
             Refusal::Start => "start neither below N nor none",
             Refusal::Next => "next node not below N",
             Refusal::Weight => "a weight off the grid",
-            Refusal::Limits => "N above 4,096 or T above 16,384",
+            Refusal::Limits => "N above 2,048 or T above 16,384",
             Refusal::Climb => "a link that does not lead to a higher node",
             Refusal::Count => "n above 64",
             Refusal::Rows => {

@@ -16,7 +16,7 @@ pub struct Link {
     pub ilabel: u32,
     /// The output label.
     pub olabel: u32,
-    /// The weight, k/64 for a whole k from -4,096 to 4,096.
+    /// The weight, k/64 for a whole k from -8,192 to 8,192.
     pub weight: f32,
     /// The node that it leads to.
     pub next: u32,

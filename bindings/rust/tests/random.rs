@@ -6,7 +6,7 @@ mod common;
 use std::collections::HashSet;
 
 use common::{link, readings, Random};
-use yeldmur::{distances, Areas, Link, Sheet};
+use yeldmur::{distances, Areas, Link, Sheet, WEIGHT_LIMIT};
 
 struct Machine {
     links: Vec<Link>,
@@ -107,7 +107,7 @@ fn small_machines() {
     for round in 0..1500 {
         let nodes = 2 + random.below(6);
         let links = random.below(20);
-        let spread = [1, 3, 4096][round % 3];
+        let spread = [1, 3, WEIGHT_LIMIT as u32][round % 3];
         let machine = drawn(&mut random, nodes, links, spread);
         check(&machine, [0, 1, 2, 3, 5, 8, 64]);
     }
@@ -116,7 +116,7 @@ fn small_machines() {
 #[test]
 fn machines_with_many_readings() {
     let mut random = Random(2);
-    for spread in [1, 8, 4096] {
+    for spread in [1, 8, WEIGHT_LIMIT as u32] {
         for _ in 0..10 {
             let mut machine = drawn(&mut random, 14, 75, spread);
             machine.start = 0;

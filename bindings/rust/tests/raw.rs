@@ -5,7 +5,7 @@ mod common;
 
 use common::{bytes, A, NONE};
 use yeldmur::raw::{self, Needed, SLOT};
-use yeldmur::{ffi, Refusal};
+use yeldmur::{ffi, Refusal, LINK_LIMIT, LIST_LIMIT, NODE_LIMIT};
 
 const WORD: u32 = 0xDEAD_BEEF;
 const BYTE: u8 = 0xA5;
@@ -47,13 +47,13 @@ fn areas_of_a() {
 
 #[test]
 fn areas_of_counts() {
-    let most = raw::areas_of(4096, 16384, 4096, 64).unwrap();
-    assert_eq!(most.slots, 4096 + 16384 + 2 * 4096 + 2 + 64 * 16385);
+    let most = raw::areas_of(NODE_LIMIT, LINK_LIMIT, NODE_LIMIT, LIST_LIMIT).unwrap();
+    assert_eq!(most.slots, 2048 + 16384 + 2 * 2048 + 2 + 64 * 16385);
     for (counts, number) in [
-        ([4097, 0, 0, 0], 5),
-        ([0, 16385, 0, 0], 5),
-        ([4097, 16385, 0, 65], 5),
-        ([4096, 16384, 0, 65], 7),
+        ([NODE_LIMIT + 1, 0, 0, 0], 5),
+        ([0, LINK_LIMIT + 1, 0, 0], 5),
+        ([NODE_LIMIT + 1, LINK_LIMIT + 1, 0, LIST_LIMIT + 1], 5),
+        ([NODE_LIMIT, LINK_LIMIT, 0, LIST_LIMIT + 1], 7),
         ([0, 0, 0, u32::MAX], 7),
     ] {
         let [nodes, links, finals, n] = counts;
@@ -182,11 +182,11 @@ fn the_words_of_distances() {
 // The areas for n = 1 are enough for distances: 8 bytes a node, whatever the links are.
 #[test]
 fn areas_for_one_reading_serve_distances() {
-    for nodes in [0, 1, 2, 3, 4096] {
+    for nodes in [0, 1, 2, 3, NODE_LIMIT] {
         let needed = raw::areas_of(nodes, 0, 0, 1).unwrap();
         assert_eq!(needed.slots, nodes as usize);
         assert_eq!(needed.bytes, 32 * nodes as usize + 20);
-        assert_eq!(raw::areas_of(nodes, 16384, u32::MAX, 1), Ok(needed));
+        assert_eq!(raw::areas_of(nodes, LINK_LIMIT, u32::MAX, 1), Ok(needed));
         let fields = vec![0; 3 * nodes as usize];
         let start = nodes.checked_sub(1).unwrap_or(NONE);
         let sheet = bytes(&[fields, vec![0, 0, nodes, 0, start]].concat());

@@ -4,7 +4,7 @@
 mod common;
 
 use common::{chain, link, readings, sheet_a};
-use yeldmur::{distances, list, Areas, Sheet};
+use yeldmur::{distances, list, Areas, Sheet, NODE_LIMIT};
 
 #[test]
 fn a_reading_without_links() {
@@ -42,7 +42,7 @@ fn negative_costs() {
         [(-4161, vec![0, 2]), (-4065, vec![1, 2])]
     );
     assert_eq!(distances(&sheet).unwrap(), [0.0, -1.0, -65.0].map(Some));
-    assert_eq!(readings(&chain(4096, -64.0), 2)[0].0, -262_144 * 64);
+    assert_eq!(readings(&chain(NODE_LIMIT, -128.0), 2)[0].0, -262_144 * 64);
 }
 
 #[test]

@@ -4,7 +4,7 @@
 mod common;
 
 use common::{a_with, bytes, link, sheet_a, A, NONE};
-use yeldmur::{distances, list, raw, Areas, Refusal, Sheet};
+use yeldmur::{distances, list, raw, Areas, Refusal, Sheet, NODE_LIMIT};
 
 fn refused(bytes: Vec<u8>) -> u32 {
     Sheet::read(bytes).unwrap_err().number()
@@ -49,7 +49,8 @@ fn weight() {
         f32::INFINITY,
         f32::NEG_INFINITY,
         -0.0,
-        64.015625,
+        128.015625,
+        -128.015625,
         0.01,
     ] {
         assert_eq!(refused(a_with(2, off.to_bits())), 4);
@@ -59,7 +60,7 @@ fn weight() {
 
 #[test]
 fn size_and_climb_and_count() {
-    let large = Sheet::write(&[], &[None; 4097], None).unwrap();
+    let large = Sheet::write(&[], &[None; NODE_LIMIT as usize + 1], None).unwrap();
     assert_eq!(distances(&large).unwrap_err().number(), 5);
     let level = Sheet::read(a_with(15, 1)).unwrap();
     assert_eq!(list(&level, 1).unwrap_err().number(), 6);
@@ -74,7 +75,7 @@ fn the_lowest_number_wins() {
     words[19] = 4;
     assert_eq!(refused(bytes(&words)), 3);
     // too many nodes, a link that goes down, too large an n
-    let mut nodes = vec![None; 4097];
+    let mut nodes = vec![None; NODE_LIMIT as usize + 1];
     nodes[0] = Some(0.0);
     let sheet = Sheet::write(&[link(1, 1, 0.0, 0)], &nodes, Some(0)).unwrap();
     assert_eq!(list(&sheet, 65).unwrap_err(), Refusal::Limits);
@@ -95,7 +96,8 @@ fn a_refusal_leaves_the_areas_fit_for_use() {
 // Each damaged sheet to each raw call: the number of the call, and not a cell of an area changed.
 #[test]
 fn raw_calls_change_nothing() {
-    let large = [vec![0; 3 * 4097], vec![0, 0, 4097, 0, NONE]].concat();
+    let more = NODE_LIMIT + 1;
+    let large = [vec![0; 3 * more as usize], vec![0, 0, more, 0, NONE]].concat();
     let damaged = [
         (1, vec![0; 19]),
         (2, a_with(TRAILER + 4, 4)),

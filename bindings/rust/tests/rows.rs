@@ -4,7 +4,7 @@
 mod common;
 
 use common::{a_with, bytes, link, sheet_a, Random, A, NONE};
-use yeldmur::{ffi, raw, Link, Refusal, Sheet};
+use yeldmur::{ffi, raw, Link, Refusal, Sheet, NODE_LIMIT, WEIGHT_LIMIT};
 
 const BYTE: u8 = 0xA5;
 
@@ -55,18 +55,18 @@ fn links_of_a_node_stand_in_row_order() {
 
 #[test]
 fn labels_and_weights_at_their_ends() {
-    let text = "0\t1\t4294967295\t0\t-64\n0\t0\t0\t4294967295\t0.015625\n0\t64\n1\t-63.984375\n";
+    let text = "0\t1\t4294967295\t0\t-128\n0\t0\t0\t4294967295\t0.015625\n0\t128\n1\t-127.984375\n";
     let sheet = sheet(text);
     let first = Link {
         source: 0,
         ilabel: u32::MAX,
         olabel: 0,
-        weight: -64.0,
+        weight: -128.0,
         next: 1,
     };
     assert_eq!(sheet.link(0), Some(first));
     assert_eq!(sheet.link(1).unwrap().weight, 1.0 / 64.0);
-    assert_eq!(sheet.final_weight(1), Some(-63.984375));
+    assert_eq!(sheet.final_weight(1), Some(-127.984375));
     assert_eq!(sheet.to_string(), text);
 }
 
@@ -157,7 +157,7 @@ fn bytes_that_are_no_text() {
 
 #[test]
 fn a_second_final_row() {
-    for text in ["0\n0\n", "0 1\n0 1\n", "0\n1\n2\n0 5\n", "0\n0 65\n"] {
+    for text in ["0\n0\n", "0 1\n0 1\n", "0\n1\n2\n0 5\n", "0\n0 129\n"] {
         assert_eq!(refused(text.as_bytes()), 8, "{text:?}");
     }
     // a node's final row may stand anywhere, and a link is none
@@ -176,11 +176,12 @@ fn a_second_final_row() {
 #[test]
 fn a_second_final_row_among_many() {
     // more final rows than a pass over the text keeps: rising, falling and mixed
+    let kept = NODE_LIMIT;
     let places: [fn(u32) -> u32; 3] = [|i| i, |i| 9_999 - i, |i| 7 * i % 10_000];
     for place in places {
         let text: String = (0..10_000).map(|i| format!("{}\n", 1_000 * place(i))).collect();
         assert_eq!(raw::rows_sheet_bytes(text.as_bytes()), Ok(12 * 9_999_001 + 20));
-        for twice in [0, 1, 4_094, 4_095, 4_096, 4_097, 8_192, 9_999] {
+        for twice in [0, 1, kept - 2, kept - 1, kept, kept + 1, 2 * kept, 9_999] {
             let more = format!("{text}{}\n", 1_000 * twice);
             assert_eq!(raw::rows_sheet_bytes(more.as_bytes()), Err(Refusal::Rows));
         }
@@ -190,7 +191,7 @@ fn a_second_final_row_among_many() {
 #[test]
 fn weights_off_the_grid() {
     let nines = "9".repeat(40);
-    for weight in ["64.000001", "64.015625", "-64.015625", "0.3", "-0.01", "65"] {
+    for weight in ["128.000001", "128.015625", "-128.015625", "0.3", "-0.01", "129"] {
         let text = format!("0 1 1 1 {weight}\n1\n");
         assert_eq!(refused(text.as_bytes()), 4, "{weight}");
         let text = format!("0 1 1 1\n1 {weight}\n");
@@ -209,7 +210,7 @@ fn weights_off_the_grid() {
 #[test]
 fn the_order_of_the_tests() {
     // 8 comes before all, wherever it is; 1 before 4
-    assert_eq!(refused(b"0 65\n1 x\n"), 8);
+    assert_eq!(refused(b"0 129\n1 x\n"), 8);
     assert_eq!(refused(b"4294967295 9\n0 1 2\n"), 8);
     assert_eq!(refused(b"4294967295 9\n"), 1);
     assert_eq!(refused(b"4294967295 0.3\n"), 1);
@@ -317,7 +318,7 @@ fn weight_text(units: i32) -> String {
 
 #[test]
 fn every_weight_on_the_grid() {
-    for units in -4096..=4096 {
+    for units in -WEIGHT_LIMIT..=WEIGHT_LIMIT {
         let weight = weight_text(units);
         let sheet = sheet(&format!("0 {weight}\n"));
         assert_eq!(sheet.final_weight(0), Some(units as f32 / 64.0));
@@ -343,13 +344,13 @@ fn drawn(random: &mut Random, nodes: u32, links: u32) -> Drawn {
             source: random.below(nodes),
             ilabel: random.word() as u32 >> random.below(32),
             olabel: random.word() as u32 >> random.below(32),
-            weight: random.weight(4096),
+            weight: random.weight(WEIGHT_LIMIT as u32),
             next: random.below(nodes),
         })
         .collect();
     links.sort_by_key(|link| link.source);
     let finals = (0..nodes)
-        .map(|_| (random.below(3) == 0).then(|| random.weight(4096)))
+        .map(|_| (random.below(3) == 0).then(|| random.weight(WEIGHT_LIMIT as u32)))
         .collect();
     let start = random.below(nodes);
     Drawn {

@@ -4,7 +4,7 @@
 mod common;
 
 use common::{a_with, bytes, chain, link, links_a, readings, sheet_a, A, NONE};
-use yeldmur::{distances, list, Refusal, Sheet};
+use yeldmur::{distances, list, Refusal, Sheet, LINK_LIMIT, NODE_LIMIT, WEIGHT_LIMIT};
 
 #[test]
 fn it_is_148_bytes() {
@@ -122,9 +122,15 @@ fn p6_nineteen_bytes() {
 
 #[test]
 fn p7_the_grid() {
-    assert!(Sheet::read(a_with(2, 64.0f32.to_bits())).is_ok());
-    let off = Sheet::read(a_with(2, 64.015625f32.to_bits()));
-    assert_eq!(off.unwrap_err(), Refusal::Weight);
+    let largest = WEIGHT_LIMIT as f32 / 64.0;
+    assert_eq!(largest, 128.0);
+    for sign in [1.0, -1.0] {
+        assert!(Sheet::read(a_with(2, (sign * largest).to_bits())).is_ok());
+        let off = Sheet::read(a_with(2, (sign * 128.015625f32).to_bits()));
+        assert_eq!(off.unwrap_err(), Refusal::Weight);
+    }
+    // weights off the grid as it was when 64 was the largest
+    assert!(Sheet::read(a_with(2, 64.015625f32.to_bits())).is_ok());
 }
 
 #[test]
@@ -136,34 +142,36 @@ fn p8_a_link_to_its_own_node() {
 
 #[test]
 fn p10_nodes() {
-    let most = Sheet::write(&[], &[None; 4096], Some(0)).unwrap();
+    assert_eq!(NODE_LIMIT, 2048);
+    let nodes = [None; NODE_LIMIT as usize + 1];
+    let most = Sheet::write(&[], &nodes[1..], Some(0)).unwrap();
     assert_eq!(distances(&most).unwrap(), [Some(0.0)]);
     assert!(list(&most, 64).unwrap().is_empty());
-    let more = Sheet::write(&[], &[None; 4097], Some(0)).unwrap();
+    let more = Sheet::write(&[], &nodes, Some(0)).unwrap();
     assert_eq!(distances(&more).unwrap_err(), Refusal::Limits);
     assert_eq!(list(&more, 0).unwrap_err(), Refusal::Limits);
 }
 
 #[test]
 fn links_at_the_limit() {
-    let links = vec![link(0, 7, 0.0, 1); 16384];
-    let most = Sheet::write(&links, &[None, Some(0.0)], Some(0)).unwrap();
+    assert_eq!(LINK_LIMIT, 16_384);
+    let links = vec![link(0, 7, 0.0, 1); LINK_LIMIT as usize + 1];
+    let most = Sheet::write(&links[1..], &[None, Some(0.0)], Some(0)).unwrap();
     assert_eq!(list(&most, 64).unwrap().len(), 64);
-    let links = vec![link(0, 7, 0.0, 1); 16385];
     let more = Sheet::write(&links, &[None, Some(0.0)], Some(0)).unwrap();
     assert_eq!(list(&more, 64).unwrap_err(), Refusal::Limits);
 }
 
 #[test]
 fn p11_the_longest_chain() {
-    let chain = chain(4096, 64.0);
-    let along: Vec<u32> = (0..4095).collect();
+    let chain = chain(NODE_LIMIT, 128.0);
+    let along: Vec<u32> = (0..NODE_LIMIT - 1).collect();
     for n in [1, 2, 64] {
         assert_eq!(readings(&chain, n), [(262_144 * 64, along.clone())]);
     }
     let values = distances(&chain).unwrap();
-    assert_eq!(values.len(), 4096);
-    assert_eq!(values[4095], Some(4095.0 * 64.0));
+    let each: Vec<_> = (0..NODE_LIMIT).map(|v| Some(v as f32 * 128.0)).collect();
+    assert_eq!(values, each);
 }
 
 #[test]

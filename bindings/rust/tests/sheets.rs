@@ -81,7 +81,7 @@ fn labels_and_weights_at_their_ends() {
             source: 0,
             ilabel: u32::MAX,
             olabel: 0,
-            weight: -64.0,
+            weight: -128.0,
             next: 1,
         },
         Link {
@@ -92,9 +92,9 @@ fn labels_and_weights_at_their_ends() {
             next: 0,
         },
     ];
-    let sheet = Sheet::write(&links, &[None, Some(64.0)], None).unwrap();
+    let sheet = Sheet::write(&links, &[None, Some(128.0)], None).unwrap();
     assert_eq!(sheet.links().collect::<Vec<_>>(), links);
-    assert_eq!((sheet.start(), sheet.final_weight(1)), (None, Some(64.0)));
+    assert_eq!((sheet.start(), sheet.final_weight(1)), (None, Some(128.0)));
 }
 
 #[test]

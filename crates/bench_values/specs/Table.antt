@@ -117,9 +117,9 @@ P5 = record { told = listBelow 65 (listTold sheetE); stated = replicate 65 (list
 abbrev pub P6 : Case
 P6 = record { told = listTold (take 19 sheetE) 1 ∷ listTold (take 19 sheetA) 2 ∷ []; stated = refused 1 ∷ refused 1 ∷ [] }
 
--- weight 64 passes, 64.015625: 4
+-- weight 128 passes, 128.015625: 4
 abbrev pub P7 : Case
-P7 = record { told = listTold (oneLink 0x4280_0000 1) 1 ∷ listTold (oneLink 0x4280_0800 1) 1 ∷ []; stated = list 2 1 ((1 ∷ []) ∷ []) (units 4096 ∷ []) 0 ∷ refused 4 ∷ [] }
+P7 = record { told = listTold (oneLink 0x4300_0000 1) 1 ∷ listTold (oneLink 0x4300_0400 1) 1 ∷ []; stated = list 2 1 ((1 ∷ []) ∷ []) (units 8192 ∷ []) 0 ∷ refused 4 ∷ [] }
 
 -- a link to its own node: 6
 abbrev pub P8 : Case

@@ -7,6 +7,7 @@ use native.Mathlib.Omega.{arith}
 use lib.IntN.{ℤ}
 use lib.ListN.{length, getD, take, drop, length-map}
 use lib.Seq.{sets, take-all}
+use Rattle.tropical_weight.specs.Limits.{listLimit}
 use Rattle.tropical_weight.specs.Tropical.{fin}
 use Rattle.sheet.specs.declared.tr.Trailer.{Trailer}
 use Rattle.sheet.specs.Machine.{Machine, machine}
@@ -96,7 +97,7 @@ module _ (sheet : List ℕ) (below : Below 256 sheet) (t : Trailer) (n : ℕ) (r
   pub held-few : length (listFor m n) ≤ n
   held-few = go n (h .few) list-same
     where
-      go : (n : ℕ) → n ≤ 64 → listIn n (resultFor m n) rest ≡ listFor m n → length (listFor m n) ≤ n
+      go : (n : ℕ) → n ≤ listLimit → listIn n (resultFor m n) rest ≡ listFor m n → length (listFor m n) ≤ n
       go zero b e = omega (arith, ap length (sym e ∙ ap (λ r. listIn 0 r rest) (zero-empty m) ∙ empty-back 0 rest))
       go (suc k) b e = omega (arith, ap length e, demand-result m a (suc k) (omega arith) b rest .size, length-map (listIn (suc k) (resultFor m (suc k)) rest) (readingOf m))
 

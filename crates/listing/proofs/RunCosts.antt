@@ -2,20 +2,20 @@
 use mathlib.Core.Path.{_≡_, refl, sym, ap, _∙_, subst}
 use mathlib.Core.Bool.{Bool, true, false, cond}
 use mathlib.Core.Option.{Option, none, some}
-use mathlib.Core.List.{List, [], _∷_, _++_, map, map-map, append-nil, List·Memᴰ·tail}
+use mathlib.Core.List.{List, [], _∷_, map, map-map, List·Memᴰ·tail}
 use Prim.Native.Nat.{ℕ, _+_, _*_, _≤_, _<_}
 use native.Mathlib.Omega.{arith}
 use lib.Dec.{eqb}
 use lib.IntN.{ℤ}
-use lib.ListN.{length, getD, length-map}
+use lib.ListN.{length, getD}
 use lib.Ieee.{Float, binary32, add, ofBits}
 use Rattle.tropical_weight.specs.Limits.{unit, weightLimit, nodeLimit, sumLimit}
 use Rattle.tropical_weight.specs.Tropical.{Tropical, fin, one, _⊗_, timesAll, Within}
 use Rattle.tropical_weight.specs.Grid.{ofT}
 use Rattle.tropical_weight.specs.Single.{addAll, Computes, Costs}
-use Rattle.tropical_weight.proofs.Semiring.{⊗-assoc, one-⊗, ⊗-one}
+use Rattle.tropical_weight.proofs.Semiring.{one-⊗}
 use Rattle.tropical_weight.proofs.Exact.{bits-back}
-use Rattle.tropical_weight.proofs.Sums.{within-mono, limits, sums-exact}
+use Rattle.tropical_weight.proofs.Sums.{within-mono, limits}
 use Rattle.sheet.specs.Words.{word}
 use Rattle.sheet.specs.Sheet.{noStart, partsOf, statedLinks, statedNodes, trailerField}
 use Rattle.sheet.specs.Machine.{Machine, machineOf}
@@ -24,20 +24,14 @@ use Rattle.sheet.proofs.Round.{Below}
 use Rattle.machine.specs.Readings.{link, final, finalWeight, nodeOr, runCost, endFrom, IsReading, readingOf, readingCost}
 use Rattle.machine.specs.Demand.{_∈_}
 use Rattle.machine.specs.Input.{inputNumber}
-use Rattle.machine.proofs.Lists.{here, mem-map, map-same, getD-mem}
-use Rattle.machine.proofs.Runs.{run-length, run-in}
+use Rattle.machine.proofs.Lists.{here, map-same, getD-mem}
+use Rattle.machine.proofs.Runs.{run-in, times-run}
 use Rattle.machine.proofs.Readings.{final-in}
 use Rattle.machine.proofs.Distance.{reading-finite}
-use Rattle.machine.proofs.Bounds.{reading-limit}
+use Rattle.machine.proofs.Bounds.{reading-limit, reading-exact}
 use Rattle.machine.proofs.Accepted.{passes, input-read, finite-machine}
 use Rattle.machine.proofs.SheetFields.{SheetFields, sheet-fields, fields-own, final-word}
 use Rattle.listing.specs.Ways.{weightAt, runSum, runEnd}
-
--- the sum of a run's weights from its front
-times-run : (m : Machine) (a : Tropical) (r : List ℕ) → timesAll a (map (λ l. link m l .weight) r) ≡ a ⊗ runCost m r
-unfolding timesAll runCost
-times-run m a [] = sym (⊗-one a)
-times-run m a (l ∷ r) = times-run m (a ⊗ link m l .weight) r ∙ ⊗-assoc a (link m l .weight) (runCost m r)
 
 module _ (bytes : List ℕ) (below : Below 256 bytes) (accepted : inputNumber bytes ≡ 0) (run : List ℕ) (reading : IsReading (machineOf (partsOf bytes)) (readingOf (machineOf (partsOf bytes)) run)) where
   abbrev m : Machine
@@ -88,16 +82,9 @@ module _ (bytes : List ℕ) (below : Below 256 bytes) (accepted : inputNumber by
   abbrev weights : List Tropical
   weights = map (λ l. link m l .weight) run
 
-  few : length (weights ++ []) ≤ nodeLimit
-  few = omega (arith, ap length (append-nil weights), length-map run (λ l. link m l .weight), run-length m (f .climbs) run (reading .from) end (reading .runs), in-nodes, f .few-nodes)
-
-  each : (w : Tropical) → w ∈ (weights ++ []) → Within weightLimit w
-  each w q =
-      let x = mem-map (λ l. link m l .weight) run (subst (λ (l : List Tropical). w ∈ l) (append-nil weights) q) in
-      subst (Within weightLimit) (sym (x .2)) (f .small .onLink (x .0) (in-links (x .0) (x .1)))
-
   exact : (addAll (ofT unit one) (map (ofT unit) weights) ≡ ofT unit (timesAll one weights)) × Within sumLimit (timesAll one weights)
-  exact = sums-exact nodeLimit weightLimit limits unit (omega arith) weights [] few each
+  exact =
+      reading-exact m (f .climbs) weightLimit (f .small) nodeLimit limits (f .few-nodes) (readingOf m run) reading unit (omega arith) weights (finalWeight (final m end) ∷ []) refl
 
   cost-is : timesAll one weights ≡ runCost m run
   cost-is = times-run m one run ∙ one-⊗ (runCost m run)

@@ -1,24 +1,28 @@
--- Runs have fewer links than there are nodes, so that every sum along a reading is within the limit of sums. Over any limits on
--- nodes and on weights whose product is that limit. Assumes nothing.
-use mathlib.Core.Path.{_≡_, refl, sym, ap, subst}
+-- Runs have fewer links than there are nodes, so that every sum along a reading is within the limit of sums, and exact in single precision. Over any
+-- limits on nodes and on weights whose product is that limit. Assumes nothing.
+use mathlib.Core.Path.{_≡_, refl, sym, ap, _∙_, subst}
+use mathlib.Core.Logic.{_⊎_, inl, inr}
 use mathlib.Core.Option.{Option, none, some}
-use mathlib.Core.List.{List, [], _∷_, map}
+use mathlib.Core.List.{List, [], _∷_, _++_, map, List·Memᴰ·append-cases, List·Memᴰ·eq-of-singleton}
 use Prim.Native.Nat.{ℕ, suc, _+_, _-_, _*_, _≤_, _<_}
 use native.Mathlib.Nat.{mul-le-mul-right}
 use native.Mathlib.Omega.{arith}
-use lib.ListN.{length}
-use Rattle.tropical_weight.specs.Limits.{sumLimit}
-use Rattle.tropical_weight.specs.Tropical.{Tropical, _⊗_, Within}
+use lib.ListN.{length, length-map, length-append}
+use Rattle.tropical_weight.specs.Limits.{finest, sumLimit}
+use Rattle.tropical_weight.specs.Tropical.{Tropical, one, _⊗_, timesAll, Within}
+use Rattle.tropical_weight.specs.Grid.{ofT}
+use Rattle.tropical_weight.specs.Single.{addAll}
 use Rattle.tropical_weight.proofs.Semiring.{⊗-zero}
-use Rattle.tropical_weight.proofs.Sums.{within-mono, within-one, terms-⊗, terms-within}
+use Rattle.tropical_weight.proofs.Sums.{within-mono, within-one, terms-⊗, terms-within, sums-exact}
 use Rattle.sheet.specs.Below.{listBelow}
 use Rattle.sheet.specs.Machine.{Machine}
-use Rattle.machine.specs.Readings.{link, final, finalWeight, IsRun, runCost, ways, Reading, IsReading, readingCost}
+use Rattle.machine.specs.Readings.{link, final, finalWeight, IsRun, runCost, ways, Reading, IsReading, readingCost, readingWeights}
 use Rattle.machine.specs.Climbs.{Climbs, Small}
+use Rattle.machine.specs.Demand.{_∈_}
 use Rattle.machine.specs.Distance.{plusAll, dist, totalAt}
 use Rattle.machine.proofs.Lists.{mem-map, mem-below}
 use Rattle.machine.proofs.Sums.{plusAll-within}
-use Rattle.machine.proofs.Runs.{run-length, ways-sound}
+use Rattle.machine.proofs.Runs.{run-length, run-in, ways-sound}
 use Rattle.machine.proofs.Readings.{final-in}
 use Rattle.machine.proofs.Relax.{distOver, rowAt, row-is}
 
@@ -91,3 +95,24 @@ module _ (m : Machine) (c : Climbs m) (most : ℕ) (b : Small most m) where
 
     pub reading-limit : (x : Reading) → IsReading m x → Within sumLimit (readingCost m x)
     reading-limit x i = rest-limit (x .run) (i .from) (x .end) (i .weight) (i .runs) (i .marked)
+
+    -- Along a reading each partial sum, that of any front us of its weights us ++ vs, is within the limit of sums, and single precision adds it up exactly.
+    pub reading-exact : (x : Reading) → IsReading m x → (j : ℕ) → j ≤ finest → (us vs : List Tropical) → us ++ vs ≡ readingWeights m x
+        → (addAll (ofT j one) (map (ofT j) us) ≡ ofT j (timesAll one us)) × Within sumLimit (timesAll one us)
+    reading-exact x i j h us vs e = sums-exact nodes most product j h us vs count (λ w q. each w (List·Memᴰ·append-cases linked (subst (λ (l : List Tropical). w ∈ l) e q)))
+      where
+        linked : List Tropical
+        linked = map (λ l. link m l .weight) (x .run)
+
+        ends : List Tropical
+        ends = finalWeight (final m (x .end)) ∷ []
+
+        count : length (us ++ vs) ≤ nodes
+        count =
+            omega (arith, ap length e, length-append linked ends, length-map (x .run) (λ l. link m l .weight), run-length m c (x .run) (i .from) (x .end) (i .runs), final-in m (x .end) (i .weight) (i .marked))
+
+        each : (w : Tropical) → (w ∈ linked) ⊎ (w ∈ ends) → Within most w
+        each w (inl q) =
+            let y = mem-map (λ l. link m l .weight) (x .run) q in
+            subst (Within most) (sym (y .2)) (b .onLink (y .0) (run-in m (x .run) (i .from) (x .end) (i .runs) (y .0) (y .1)))
+        each w (inr q) = subst (Within most) (sym (List·Memᴰ·eq-of-singleton q ∙ ap finalWeight (i .marked))) (b .onFinal (x .end) (i .weight) (i .marked))

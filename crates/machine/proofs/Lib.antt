@@ -12,6 +12,7 @@ pub mod Parents
 pub mod Fold
 pub mod Demand
 pub mod Accepted
+pub mod SheetOf
 pub mod Testing
 pub mod SheetFields
 pub mod Bench

@@ -254,6 +254,12 @@ mem-reverse [] h = h
 mem-reverse {A} {a} (x ∷ l) h = elim (List·Memᴰ·append-cases (reverse l) (subst (λ k. a ∈ k) (reverse-cons x l) h)) [ inl q ↦ List·Memᴰ·tail (mem-reverse l q) | inr q ↦ List·Memᴰ·head (List·Memᴰ·eq-of-singleton q) ]
 
 -- ---- by place
+-- inside a list, what would stand past its end does not matter
+pub getD-any : {A : Type 0} (l : List A) (i : ℕ) (d e : A) → i < length l → getD l i d ≡ getD l i e
+getD-any [] i d e h = absurd (omega arith)
+getD-any (x ∷ l) zero d e h = refl
+getD-any (x ∷ l) (suc i) d e h = getD-any l i d e (omega arith)
+
 pub getD-mem : {A : Type 0} (l : List A) (i : ℕ) (d : A) → i < length l → getD l i d ∈ l
 getD-mem [] i d h = absurd (omega arith)
 getD-mem (x ∷ l) zero d h = here x l

@@ -10,7 +10,7 @@ use native.Mathlib.Omega.{arith}
 use lib.Dec.{eqb, leb}
 use lib.ListN.{length}
 use borrow.Author.Tests.{eqb-true, eq-eqb, leb-true, leb-false}
-use Rattle.tropical_weight.specs.Tropical.{_⊗_}
+use Rattle.tropical_weight.specs.Tropical.{Tropical, _⊗_, timesAll}
 use Rattle.tropical_weight.proofs.Semiring.{⊗-assoc, one-⊗, ⊗-one}
 use Rattle.sheet.specs.Machine.{Machine}
 use Rattle.machine.specs.Readings.{link, isAt, IsRun, endFrom, runCost, ways, waysTo}
@@ -73,6 +73,12 @@ module _ (m : Machine) where
   unfolding runCost
   cost-snoc [] l = ⊗-one (link m l .weight) ∙ sym (one-⊗ (link m l .weight))
   cost-snoc (k ∷ r) l = ap (λ x. link m k .weight ⊗ x) (cost-snoc r l) ∙ sym (⊗-assoc (link m k .weight) (runCost m r) (link m l .weight))
+
+  -- the sum of its weights from its front
+  pub times-run : (a : Tropical) (r : List ℕ) → timesAll a (map (λ l. link m l .weight) r) ≡ a ⊗ runCost m r
+  unfolding timesAll runCost
+  times-run a [] = sym (⊗-one a)
+  times-run a (l ∷ r) = times-run (a ⊗ link m l .weight) r ∙ ⊗-assoc a (link m l .weight) (runCost m r)
 
   -- the links of a run tell where it ends
   pub run-ends : (r : List ℕ) (u v : ℕ) → IsRun m u r v → endFrom m u r ≡ v

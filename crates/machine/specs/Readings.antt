@@ -69,6 +69,10 @@ finalWeight (some w) = w
 abbrev pub readingCost : Machine → Reading → Tropical
 readingCost m x = runCost m (x .run) ⊗ finalWeight (final m (x .end))
 
+-- those weights in their order, the final weight last
+abbrev pub readingWeights : Machine → Reading → List Tropical
+readingWeights m x = map (λ l. link m l .weight) (x .run) ++ (finalWeight (final m (x .end)) ∷ [])
+
 -- ---- all of them, by recursion on the link number: where links climb, numbers rise along a run
 -- whether v is the start
 abbrev pub isAt : Option ℕ → ℕ → Bool

@@ -14,6 +14,14 @@ use stored_cases::lines::field;
 use stored_cases::lines::line_end;
 use stored_cases::lines::number;
 use stored_cases::tally;
+use tropical_weight::LINK_LIMIT;
+use tropical_weight::NODE_LIMIT;
+
+// Words of the work area and bytes of the result area: for two nodes more than there may be.
+const CELLS: usize = 8 * (NODE_LIMIT + 2);
+
+// Bytes of a sheet: for a few links more than there may be, and two nodes.
+const SHEET: usize = 16 * (LINK_LIMIT + 4);
 
 // Whether the call answered this number, and where it is 0 so many bytes of distances.
 fn answered(answer: Distances, said: usize, bytes: usize) -> bool {
@@ -36,9 +44,9 @@ fn call(sheet: &[u8], work: &mut [u32], words: usize, result: &mut [u8], room: u
 
 // Whether the call on this sheet does what the line says.
 fn does(line: &[u8], sheet: &[u8]) -> bool {
-    let mut work = [WORK_MARK; 32784];
-    let mut result = [RESULT_MARK; 32784];
-    let mut bytes = [0u8; 32784];
+    let mut work = [WORK_MARK; CELLS];
+    let mut result = [RESULT_MARK; CELLS];
+    let mut bytes = [0u8; CELLS];
     let answer = call(
         sheet,
         &mut work,
@@ -58,7 +66,7 @@ fn does(line: &[u8], sheet: &[u8]) -> bool {
 
 // Whether the case of a line holds.
 fn holds(line: &[u8]) -> bool {
-    let mut sheet = [0u8; 262208];
+    let mut sheet = [0u8; SHEET];
     let n = bytes_of(line, field(line, 5), &mut sheet);
     if n != number(line, 4) {
         return false;

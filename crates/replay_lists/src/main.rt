@@ -16,6 +16,17 @@ use stored_cases::lines::field;
 use stored_cases::lines::line_end;
 use stored_cases::lines::number;
 use stored_cases::tally;
+use tropical_weight::LINK_LIMIT;
+use tropical_weight::NODE_LIMIT;
+
+// Words of the work area: for two nodes with as many links as there may be, n = 2.
+const WORK: usize = 8 * (3 * LINK_LIMIT + 12);
+
+// Bytes of the result area: for the longest chain, n = 2.
+const RESULT: usize = 32 * (NODE_LIMIT + 4);
+
+// Bytes of a sheet: for a few links more than there may be, and two nodes.
+const SHEET: usize = 16 * (LINK_LIMIT + 4);
 
 // Whether the field behind so many spaces has this number.
 fn says(line: &[u8], spaces: u8, n: u32) -> bool {
@@ -64,9 +75,9 @@ fn call(
 
 // Whether the call on this sheet does what the line says.
 fn does(line: &[u8], sheet: &[u8]) -> bool {
-    let mut work = [WORK_MARK; 393312];
-    let mut result = [RESULT_MARK; 131200];
-    let mut bytes = [0u8; 131200];
+    let mut work = [WORK_MARK; WORK];
+    let mut result = [RESULT_MARK; RESULT];
+    let mut bytes = [0u8; RESULT];
     let answer = call(
         sheet,
         number(line, 1) as u32,
@@ -87,7 +98,7 @@ fn does(line: &[u8], sheet: &[u8]) -> bool {
 
 // Whether the case of a line holds.
 fn holds(line: &[u8]) -> bool {
-    let mut sheet = [0u8; 262208];
+    let mut sheet = [0u8; SHEET];
     let n = bytes_of(line, field(line, 9), &mut sheet);
     if n != number(line, 8) {
         return false;

@@ -16,6 +16,10 @@ use stored_cases::bytes::bytes_of;
 use stored_cases::lines::field;
 use stored_cases::lines::line_end;
 use stored_cases::tally;
+use tropical_weight::NODE_LIMIT;
+
+// Bytes of a stored record: front, back in two words, and a word for each node in.
+const RECORD: usize = 12 + 4 * NODE_LIMIT;
 
 // Whether a call answered the kind and the value that stand at an index.
 fn answered(kind: u32, value: u32, made: &[u8], at: usize) -> bool
@@ -44,9 +48,9 @@ fn leaves(q: Queue, made: &[u8], left: Queue) -> bool {
 
 // Whether the case of a line holds.
 fn holds(line: &[u8]) -> bool {
-    let mut before = [0u8; 16396];
+    let mut before = [0u8; RECORD];
     let mut made = [0u8; 1024];
-    let mut after = [0u8; 16396];
+    let mut after = [0u8; RECORD];
     let b = bytes_of(line, field(line, 0), &mut before);
     let m = bytes_of(line, field(line, 1), &mut made);
     let a = bytes_of(line, field(line, 2), &mut after);

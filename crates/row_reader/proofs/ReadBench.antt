@@ -1,8 +1,9 @@
 -- Weights and rows read, by computation. Assumes nothing.
 use mathlib.Core.Path.{_≡_, refl}
 use mathlib.Core.List.{List, [], _∷_}
-use Prim.Native.Nat.{ℕ}
-use lib.IntN.{pos, negsuc}
+use Prim.Native.Nat.{ℕ, _-_}
+use lib.IntN.{pos, negℤ}
+use Rattle.tropical_weight.specs.Limits.{weightLimit}
 use Rattle.text_rows.specs.Fields.{weightOf}
 use Rattle.row_reader.specs.Reading.{weightRead}
 use Rattle.row_reader.specs.declared.values.Weight.{Weight}
@@ -16,16 +17,16 @@ forty : weightRead (weightOf nines) ≡ Weight.Off
 unfolding weightOf
 forty = refl
 
--- -0 is 0; -63.984375 is -4095 units; 64.000001 is off the grid; -.5, 1. and seven decimals are not read
+-- -0 is 0; -127.984375 is a unit short of the limit; 128.000001 is off the grid; -.5, 1. and seven decimals are not read
 minus-zero : weightRead (weightOf (45 ∷ 48 ∷ [])) ≡ Weight.Units (pos 0)
 unfolding weightOf
 minus-zero = refl
 
-least : weightRead (weightOf (45 ∷ 54 ∷ 51 ∷ 46 ∷ 57 ∷ 56 ∷ 52 ∷ 51 ∷ 55 ∷ 53 ∷ [])) ≡ Weight.Units (negsuc 4094)
+unit-short : weightRead (weightOf (45 ∷ 49 ∷ 50 ∷ 55 ∷ 46 ∷ 57 ∷ 56 ∷ 52 ∷ 51 ∷ 55 ∷ 53 ∷ [])) ≡ Weight.Units (negℤ (pos (weightLimit - 1)))
 unfolding weightOf
-least = refl
+unit-short = refl
 
-millionth-more : weightRead (weightOf (54 ∷ 52 ∷ 46 ∷ 48 ∷ 48 ∷ 48 ∷ 48 ∷ 48 ∷ 49 ∷ [])) ≡ Weight.Off
+millionth-more : weightRead (weightOf (49 ∷ 50 ∷ 56 ∷ 46 ∷ 48 ∷ 48 ∷ 48 ∷ 48 ∷ 48 ∷ 49 ∷ [])) ≡ Weight.Off
 unfolding weightOf
 millionth-more = refl
 

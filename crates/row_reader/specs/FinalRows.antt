@@ -5,6 +5,7 @@ use mathlib.Core.Option.{Option, none, some}
 use mathlib.Core.List.{List, [], _∷_}
 use lib.Dec.{ltb, eqb}
 use lib.ListN.{length, getD, set}
+use Rattle.tropical_weight.specs.Limits.{nodeLimit}
 use Rattle.text_rows.specs.Rows.{Row, link, final, finalsOnce}
 use Rattle.row_reader.specs.declared.row.Read.{Read}
 use Rattle.row_reader.specs.declared.row.Read.the-variants as Read
@@ -20,7 +21,7 @@ onceIn (some rs) = finalsOnce rs
 
 -- so many nodes are kept in a pass
 abbrev pub most : ℕ
-most = 4096
+most = nodeLimit
 
 -- the first n of an array, from the last to the first: the kept nodes, falling
 unfoldable pub falling : List ℕ → ℕ → List ℕ

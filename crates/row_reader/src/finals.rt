@@ -9,8 +9,8 @@ use crate::row::Read;
 use crate::row::row_at;
 use crate::survey::end_of;
 
-// So many final nodes are kept in a pass.
-const KEPT: usize = 4096;
+// So many final nodes are kept in a pass: as many as a machine that is searched may have.
+const KEPT: usize = tropical_weight::NODE_LIMIT;
 
 // Every node is below this.
 const NODES: u64 = 0x1_0000_0000;

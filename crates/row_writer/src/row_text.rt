@@ -8,6 +8,7 @@ ghost use Rattle.decimals.specs.Stored.{Puts};
 ghost use Rattle.tropical_weight.specs.Limits.{weightLimit};
 ghost use Rattle.sheet.specs.Sheet.{linkCount, nodeCount, partsOf, readNumber, onGridBits};
 ghost use Rattle.text_rows.specs.Fields.{million};
+ghost use Rattle.row_writer.specs.Room.{partMost, magnitudeMost, unitsMost, weightMost, fieldMost, rowMost};
 ghost use Rattle.text_rows.specs.Written.{partText, magnitudeText, weightText, andNumber, andWeight, linkRow, finalRow};
 use decimals::write::put_decimal;
 use decimals::write::put_text;
@@ -27,9 +28,9 @@ const TENTH: u32 = 100_000;
 // A point and the digits of so many millionths, without the zeros at their end; nothing for 0.
 fn put_part(out: &mut [u8], at: usize, part: u32) -> usize
     requires { ⌜ part < million ⌝ }
-    requires { ⌜ at + 7 ≤ length (now out) ⌝ }
+    requires { ⌜ at + partMost ≤ length (now out) ⌝ }
     ensures { λ r. ⌜ Puts (now (out .entry)) at (partText part) (now (out .exit)) r ⌝ }
-    ensures { λ r. ⌜ r ≤ at + 7 ⌝ }
+    ensures { λ r. ⌜ r ≤ at + partMost ⌝ }
 {
     if part == 0 {
         return at;
@@ -45,12 +46,12 @@ fn put_part(out: &mut [u8], at: usize, part: u32) -> usize
     next
 }
 
-// So many units without their sign. Since a number in decimal asks for ten bytes, so does this.
+// So many units without their sign.
 fn put_magnitude(out: &mut [u8], at: usize, units: u32) -> usize
     requires { ⌜ units ≤ weightLimit ⌝ }
-    requires { ⌜ at + 10 ≤ length (now out) ⌝ }
+    requires { ⌜ at + magnitudeMost ≤ length (now out) ⌝ }
     ensures { λ r. ⌜ Puts (now (out .entry)) at (magnitudeText units) (now (out .exit)) r ⌝ }
-    ensures { λ r. ⌜ r ≤ at + 9 ⌝ }
+    ensures { λ r. ⌜ r ≤ at + magnitudeMost ⌝ }
 {
     let next = put_decimal(out, at, units / UNITS);
     put_part(out, next, units % UNITS * IN_UNIT)
@@ -59,9 +60,9 @@ fn put_magnitude(out: &mut [u8], at: usize, units: u32) -> usize
 // So many units, with a minus sign where negative.
 fn put_units(out: &mut [u8], at: usize, units: i32) -> usize
     requires { ⌜ natAbs units ≤ weightLimit ⌝ }
-    requires { ⌜ at + 11 ≤ length (now out) ⌝ }
+    requires { ⌜ at + unitsMost ≤ length (now out) ⌝ }
     ensures { λ r. ⌜ Puts (now (out .entry)) at (weightText units) (now (out .exit)) r ⌝ }
-    ensures { λ r. ⌜ r ≤ at + 10 ⌝ }
+    ensures { λ r. ⌜ r ≤ at + unitsMost ⌝ }
 {
     let size = tropical_weight::magnitude(units);
     if units < 0 {
@@ -74,9 +75,9 @@ fn put_units(out: &mut [u8], at: usize, units: i32) -> usize
 // A tab and a weight, by its field; nothing for a weight of 0.
 fn put_weight(out: &mut [u8], at: usize, bits: u32) -> usize
     requires { ⌜ onGridBits bits ≡ true ⌝ }
-    requires { ⌜ at + 12 ≤ length (now out) ⌝ }
+    requires { ⌜ at + weightMost ≤ length (now out) ⌝ }
     ensures { λ r. ⌜ Puts (now (out .entry)) at (andWeight bits) (now (out .exit)) r ⌝ }
-    ensures { λ r. ⌜ r ≤ at + 11 ⌝ }
+    ensures { λ r. ⌜ r ≤ at + weightMost ⌝ }
 {
     if bits == 0 {
         return at;
@@ -88,9 +89,9 @@ fn put_weight(out: &mut [u8], at: usize, bits: u32) -> usize
 
 // A tab and a number.
 fn put_number(out: &mut [u8], at: usize, x: u32) -> usize
-    requires { ⌜ at + 11 ≤ length (now out) ⌝ }
+    requires { ⌜ at + fieldMost ≤ length (now out) ⌝ }
     ensures { λ r. ⌜ Puts (now (out .entry)) at (andNumber x) (now (out .exit)) r ⌝ }
-    ensures { λ r. ⌜ r ≤ at + 11 ⌝ }
+    ensures { λ r. ⌜ r ≤ at + fieldMost ⌝ }
 {
     let next = put_text(out, at, b"\t");
     put_decimal(out, next, x)
@@ -100,9 +101,9 @@ fn put_number(out: &mut [u8], at: usize, x: u32) -> usize
 pub fn link_row(sheet: &[u8], v: u32, l: usize, row: &mut [u8]) -> usize
     requires { ⌜ readNumber (now sheet) ≡ 0 ⌝ }
     requires { ⌜ l < linkCount (partsOf (now sheet)) ⌝ }
-    requires { ⌜ 55 ≤ length (now row) ⌝ }
+    requires { ⌜ rowMost ≤ length (now row) ⌝ }
     ensures { λ r. ⌜ Puts (now (row .entry)) 0 (linkRow (partsOf (now (sheet .entry))) v l) (now (row .exit)) r ⌝ }
-    ensures { λ r. ⌜ r ≤ 55 ⌝ }
+    ensures { λ r. ⌜ r ≤ rowMost ⌝ }
 {
     let k = link_at(sheet, l);
     let bits = word(sheet, 16 * l + 8);
@@ -119,9 +120,9 @@ pub fn final_row(sheet: &[u8], links: u32, v: u32, row: &mut [u8]) -> usize
     requires { ⌜ readNumber (now sheet) ≡ 0 ⌝ }
     requires { ⌜ links ≡ linkCount (partsOf (now sheet)) ⌝ }
     requires { ⌜ v < nodeCount (partsOf (now sheet)) ⌝ }
-    requires { ⌜ 55 ≤ length (now row) ⌝ }
+    requires { ⌜ rowMost ≤ length (now row) ⌝ }
     ensures { λ r. ⌜ Puts (now (row .entry)) 0 (finalRow (partsOf (now (sheet .entry))) v) (now (row .exit)) r ⌝ }
-    ensures { λ r. ⌜ r ≤ 55 ⌝ }
+    ensures { λ r. ⌜ r ≤ rowMost ⌝ }
 {
     let from = 16 * (links as usize) + 12 * (v as usize);
     if word(sheet, from + 4) == 0 {

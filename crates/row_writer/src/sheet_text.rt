@@ -10,13 +10,14 @@ ghost use Rattle.sheet.specs.Records.{trailerAt};
 ghost use Rattle.decimals.specs.Stored.{Puts};
 ghost use Rattle.text_rows.specs.Written.{linkRow, finalRow, firstOf, nodeRows, textOf, hasRows};
 ghost use Rattle.row_writer.specs.OtherRows.{otherRows};
+ghost use Rattle.row_writer.specs.Room.{rowMost};
 use crate::row_text::final_row;
 use crate::row_text::link_row;
 use decimals::write::put_text;
 use sheet::tr::Trailer;
 use sheet::words::word;
 
-// Room for any row: a link has at most 55 bytes, see proofs/Lengths.
+// Room for any row: at least `rowMost`.
 const ROW: usize = 64;
 
 // How many links leave node v.
@@ -49,7 +50,7 @@ fn link_length(sheet: &[u8], v: u32, l: usize) -> usize
     requires { ⌜ readNumber (now sheet) ≡ 0 ⌝ }
     requires { ⌜ l < linkCount (partsOf (now sheet)) ⌝ }
     ensures { λ r. ⌜ r ≡ length (linkRow (partsOf (now (sheet .entry))) v l) ⌝ }
-    ensures { λ r. ⌜ r ≤ 55 ⌝ }
+    ensures { λ r. ⌜ r ≤ rowMost ⌝ }
 {
     let mut row = [0u8; ROW];
     link_row(sheet, v, l, &mut row)
@@ -60,7 +61,7 @@ fn final_length(sheet: &[u8], links: u32, v: u32) -> usize
     requires { ⌜ links ≡ linkCount (partsOf (now sheet)) ⌝ }
     requires { ⌜ v < nodeCount (partsOf (now sheet)) ⌝ }
     ensures { λ r. ⌜ r ≡ length (finalRow (partsOf (now (sheet .entry))) v) ⌝ }
-    ensures { λ r. ⌜ r ≤ 55 ⌝ }
+    ensures { λ r. ⌜ r ≤ rowMost ⌝ }
 {
     let mut row = [0u8; ROW];
     final_row(sheet, links, v, &mut row)
@@ -96,7 +97,7 @@ fn node_length(sheet: &[u8], links: u32, v: u32, first: u32) -> usize
     requires { ⌜ v < nodeCount (partsOf (now sheet)) ⌝ }
     requires { ⌜ first ≡ firstOf (partsOf (now sheet)) v ⌝ }
     ensures { λ r. ⌜ r ≡ length (nodeRows (partsOf (now (sheet .entry))) v) ⌝ }
-    ensures { λ r. ⌜ r ≤ 55 * count (partsOf (now (sheet .entry))) v + 55 ⌝ }
+    ensures { λ r. ⌜ r ≤ rowMost * count (partsOf (now (sheet .entry))) v + rowMost ⌝ }
 {
     let count = link_count(sheet, links, v);
     let mut size = 0usize;

@@ -53,9 +53,9 @@ marked-few (some w ∷ fs) = omega (arith, marked-few fs)
 
 module _ (m : Machine) (a : Accepted m) where
   -- ---- from n = 2
-  few-entries : (n : ℕ) → n ≤ listLimit → mostTaken m n ≤ 1 + 4096 + 64 * 16385
+  few-entries : (n : ℕ) → n ≤ listLimit → mostTaken m n ≤ 1 + nodeLimit + listLimit * (linkLimit + 1)
   few-entries n b =
-      let x : n * (length (m .links) + 1) ≤ 64 * (length (m .links) + 1) = mul-le-mul-right (length (m .links) + 1) b in
+      let x : n * (length (m .links) + 1) ≤ listLimit * (length (m .links) + 1) = mul-le-mul-right (length (m .links) + 1) b in
       omega (arith, x, marked-few (m .finals), a .few-nodes, a .few-links)
 
   pub fits : (n : ℕ) → n ≤ listLimit → Fits m (search m n)

@@ -21,11 +21,11 @@ use Rattle.tropical_weight.specs.Grid.{ofT, unitsOf}
 use Rattle.tropical_weight.proofs.Exact.{ofT-fits, bits-back}
 use Rattle.tropical_weight.proofs.Grid.{unitsOf-ofK}
 use Rattle.sheet.specs.Below.{sumBelow, listBelow}
-use Rattle.sheet.specs.Sheet.{noStart, linkCount, nodeCount, ilabel, olabel, linkBits, next, count, mark, finalBits, recordsFit, sheetOf, partsOf}
+use Rattle.sheet.specs.Sheet.{noStart, linkCount, nodeCount, ilabel, olabel, linkBits, next, count, mark, finalBits, recordsFit, verdict, sheetOf, partsOf, readNumber}
 use Rattle.sheet.specs.Machine.{Link, Machine, sourcesBelow, weightOf, startOf, finalOf, linkOf, machineOf, bitsOf, linkFields, leaving, finalFields, nodeFields, startField, partsFor}
 use Rattle.sheet.proofs.Below.{split-at, sumBelow-same, length-listBelow, getD-listBelow}
 use Rattle.sheet.proofs.Writing.{length-sheet}
-use Rattle.sheet.proofs.Round.{Below, parts-back}
+use Rattle.sheet.proofs.Round.{Below, parts-back, number-back}
 use Rattle.sheet.proofs.Sources.{length-sources, source-is}
 
 -- ---- the fields of links and nodes by number
@@ -239,22 +239,26 @@ module _ (m : Machine) (w : Writable m) where
   sums-are : (v : ℕ) → v ≤ length (m .finals) → sumBelow v (count (partsFor m)) ≡ fewer (sourcesOf (m .links)) v
   sums-are v h = sumBelow-same v (count (partsFor m)) (leaving (m .links)) (λ i b. count-is m i (omega arith)) ∙ sum-leaving (m .links) v
 
+  long : length (sourcesOf (m .links)) ≡ length (m .links)
+  long = length-map (m .links) (λ (k : Link). k .source)
+
+  inside : (i : ℕ) → i < length (sourcesOf (m .links)) → getD (sourcesOf (m .links)) i 0 < length (m .finals)
+  inside i h = omega (arith, source-in-list (m .links) i absent (omega (arith, long)), w .each i absent (omega (arith, long)) .source-in)
+
+  all : sumBelow (length (m .finals)) (count (partsFor m)) ≡ length (sourcesOf (m .links))
+  all = sums-are (length (m .finals)) (omega arith) ∙ fewer-all (sourcesOf (m .links)) (length (m .finals)) inside
+
+  -- the nodes' counts add up to the links
+  pub counts-are : sumBelow (nodeCount (partsFor m)) (count (partsFor m)) ≡ linkCount (partsFor m)
+  counts-are = ap (λ (n : ℕ). sumBelow n (count (partsFor m))) (nodes-are m) ∙ all ∙ long ∙ sym (links-are m)
+
   pub sources-are : sourcesBelow (partsFor m) (nodeCount (partsFor m)) ≡ map (λ k. k .source) (m .links)
   sources-are =
       ap (sourcesBelow (partsFor m)) (nodes-are m)
       ∙ sym (ext-getD 0 (sourcesOf (m .links)) (sourcesBelow (partsFor m) (length (m .finals))) (sym (length-sources (partsFor m) (length (m .finals)) ∙ all)) (λ i h. sym (at i h)))
     where
-      long : length (sourcesOf (m .links)) ≡ length (m .links)
-      long = length-map (m .links) (λ (k : Link). k .source)
-
-      inside : (i : ℕ) → i < length (sourcesOf (m .links)) → getD (sourcesOf (m .links)) i 0 < length (m .finals)
-      inside i h = omega (arith, source-in-list (m .links) i absent (omega (arith, long)), w .each i absent (omega (arith, long)) .source-in)
-
       rising : Rising (sourcesOf (m .links))
       rising i j a b = omega (arith, w .by-source i j absent a (omega (arith, long)), source-in-list (m .links) i absent (omega (arith, long)), source-in-list (m .links) j absent (omega (arith, long)))
-
-      all : sumBelow (length (m .finals)) (count (partsFor m)) ≡ length (sourcesOf (m .links))
-      all = sums-are (length (m .finals)) (omega arith) ∙ fewer-all (sourcesOf (m .links)) (length (m .finals)) inside
 
       at : (i : ℕ) → i < length (sourcesOf (m .links)) → getD (sourcesBelow (partsFor m) (length (m .finals))) i 0 ≡ getD (sourcesOf (m .links)) i 0
       at i h =
@@ -277,6 +281,11 @@ module _ (m : Machine) (w : Writable m) where
   pub fields-back : partsOf (sheetOf (partsFor m)) ≡ partsFor m
   unfolding partsFor
   fields-back = parts-back (partsFor m) records-fit (links-below (length (m .finals)) (m .links) (w .each)) (nodes-below (m .links) 0 (m .finals) (omega (arith, w .few-links))) (w .start-fits)
+
+  -- and the reader's verdict on them is that on the fields
+  pub number-is : readNumber (sheetOf (partsFor m)) ≡ verdict (recordsFit (partsFor m)) (partsFor m)
+  unfolding partsFor
+  number-is = number-back (partsFor m) records-fit (links-below (length (m .finals)) (m .links) (w .each)) (nodes-below (m .links) 0 (m .finals) (omega (arith, w .few-links))) (w .start-fits)
 
   pub sheet-length : length (sheetOf (partsFor m)) ≡ 16 * length (m .links) + 12 * length (m .finals) + 20
   sheet-length = length-sheet (partsFor m) records-fit ∙ λ i. 16 * links-are m i + 12 * nodes-are m i + 20

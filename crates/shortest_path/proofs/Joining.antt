@@ -11,7 +11,7 @@ use lib.Dec.{eqb}
 use lib.IntN.{ℤ}
 use lib.ListN.{length, getD}
 use borrow.Author.Tests.{eqb-false}
-use Rattle.tropical_weight.specs.Limits.{weightLimit, listLimit}
+use Rattle.tropical_weight.specs.Limits.{weightLimit, nodeLimit, linkLimit, listLimit}
 use Rattle.tropical_weight.specs.Tropical.{Tropical, fin, inf}
 use Rattle.sheet.specs.declared.tr.Trailer.{Trailer}
 use Rattle.sheet.specs.Sheet.{partsOf, statedLinks}
@@ -86,13 +86,13 @@ module _ (bytes : List ℕ) (below : Below 256 bytes) (ok : inputNumber bytes �
   unfolding finalsAt
   finals-is = counted ∙ (λ i. marked (finalsAt bytes (links-is i) (nodes-is i))) ∙ ap marked (fields-own bytes ok .finals-are)
 
-  pub few-nodes : t .nodes ≤ 4096
+  pub few-nodes : t .nodes ≤ nodeLimit
   few-nodes = omega (arith, nodes-is, a .few-nodes)
 
-  pub few-links : t .links ≤ 16384
+  pub few-links : t .links ≤ linkLimit
   few-links = omega (arith, links-is, a .few-links)
 
-  pub few-finals : finals ≤ 4096
+  pub few-finals : finals ≤ nodeLimit
   few-finals = omega (arith, finals-is, marked-few (m .finals), a .few-nodes)
 
   pub slots-same : (n : ℕ) → slotsOf (t .nodes) (t .links) finals n ≡ slotsFor m n

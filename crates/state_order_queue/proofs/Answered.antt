@@ -99,6 +99,6 @@ last-taken q e =
     ∙ first-turn rest (q .front) (q .front + 1) (omega arith) (set-clear (q .flags) (q .front))
     ∙ first-end rest (q .front + 1) (q .front + 1) (omega arith)
 
--- emptied at the top, the head is 4,096
+-- emptied at the top, the head is the limit on nodes
 pub top-head : (q : Queue) → length (q .flags) ≡ nodeLimit → isValid q ≡ true → q .back ≡ At (q .front) → q .front + 1 ≡ nodeLimit → headAnswer (dequeued q) .node ≡ node.At nodeLimit
 top-head q full valid e top = rw (head-done (dequeued q) (dequeued-valid q full valid)) (ap node.At (last-taken q e ∙ top))

@@ -8,7 +8,7 @@ use Rattle.state_order_queue.specs.declared.Queue.{Queue}
 use Rattle.state_order_queue.specs.Queues.{holds}
 
 pub record Accepted (q : Queue) : Type 0 where
-  -- front is not above 4,096, and back not above 4,095
+  -- front is not above the limit on nodes, and back is below it
   pub front-fits : q .front ≤ nodeLimit
   pub back-fits : (b : ℕ) → q .back ≡ At b → b < nodeLimit
   -- no flag is set outside front to back

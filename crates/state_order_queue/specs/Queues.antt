@@ -29,7 +29,7 @@ emptyFrom front (At back) = ltb back front
 abbrev pub isEmpty : Queue → Bool
 isEmpty q = emptyFrom (q .front) (q .back)
 
--- front is at most 4,096 and back below it; front is 0 where back is none
+-- front is at most the limit on nodes and back below it; front is 0 where back is none
 abbrev pub endsFit : ℕ → Back → Bool
 endsFit front None = eqb front 0
 endsFit front (At back) = leb front nodeLimit && ltb back nodeLimit

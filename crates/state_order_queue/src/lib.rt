@@ -67,7 +67,7 @@ pub struct Tested {
 
 // ---- the tests of a record
 
-// Front is at most 4,096 and back below it; front is 0 where back is none.
+// Front is at most the limit on nodes and back below it; front is 0 where back is none.
 fn ends_fit(front: u32, back: Back) -> bool
     ensures { λ r. ⌜ r ≡ endsFit front back ⌝ }
 {

@@ -2,11 +2,12 @@
 -- on the units of a term whose product is the limit of sums. Assumes nothing.
 use mathlib.Core.Path.{_≡_, refl, sym, ap, _∙_, subst}
 use mathlib.Core.Bool.{Bool, true, false, cond}
-use mathlib.Core.List.{List, [], _∷_, _++_, map, Memᴰ·append-left, List·Memᴰ, List·Memᴰ·head, List·Memᴰ·tail}
-use Prim.Native.Nat.{ℕ, suc, _+_, _*_, _≤_}
+use mathlib.Core.List.{List, [], _∷_, _++_, map, append-nil, Memᴰ·append-left, List·Memᴰ, List·Memᴰ·head, List·Memᴰ·tail, List·Memᴰ·not-nil}
+use Prim.Native.Nat.{ℕ, zero, suc, _+_, _*_, _≤_}
 use native.Mathlib.Nat.{le-trans, le-of-eq, add-mul, mul-le-mul-right, add-zero}
 use native.Mathlib.Omega.{arith}
-use lib.ListN.{length, length-append}
+use lib.ListN.{length, length-append, replicate, length-replicate}
+use lib.IntN.{pos}
 use lib.Ieee.{Float}
 use Rattle.tropical_weight.specs.Limits.{finest, sumLimit, nodeLimit, weightLimit}
 use Rattle.tropical_weight.specs.Tropical.{Tropical, fin, inf, ltT, one, _⊕_, _⊗_, timesAll, Within}
@@ -39,9 +40,15 @@ within-one a = omega arith
 pub terms-⊗ : (most m n : ℕ) (v w : Tropical) → Within (m * most) v → Within (n * most) w → Within ((m + n) * most) (v ⊗ w)
 terms-⊗ most m n v w h l = subst (λ (x : ℕ). Within x (v ⊗ w)) (sym (add-mul m n most)) (within-⊗ (m * most) (n * most) v w h l)
 
--- the limits of document 01 are such limits
+-- the limits on nodes and weights are such limits
 pub limits : nodeLimit * weightLimit ≡ sumLimit
 limits = refl
+
+-- one term again and again
+times-replicate : (most n a : ℕ) → timesAll (fin (pos a)) (replicate n (fin (pos most))) ≡ fin (pos (a + n * most))
+unfolding timesAll
+times-replicate most zero a = ap (λ (k : ℕ). fin (pos k)) (let e : a ≡ a + 0 * most = omega arith in e)
+times-replicate most (suc n) a = times-replicate most n (a + most) ∙ ap (λ (k : ℕ). fin (pos k)) (let e : a + most + n * most ≡ a + suc n * most = omega arith in e)
 
 module _ (nodes most : ℕ) (product : nodes * most ≡ sumLimit) where
   pub terms-within : (n : ℕ) → n ≤ nodes → (v : Tropical) → Within (n * most) v → Within sumLimit v
@@ -64,6 +71,11 @@ module _ (nodes most : ℕ) (product : nodes * most ≡ sumLimit) where
           subst (λ (x : ℕ). Within (x * most) (timesAll (v ⊗ w) ws)) one-more (r .1),
         )
 
+    each-replicate : (n : ℕ) → Each (replicate n (fin (pos most)))
+    each-replicate zero w m = absurd (List·Memᴰ·not-nil m)
+    each-replicate (suc n) w (List·Memᴰ·head e) = subst (Within most) (sym e) (omega arith)
+    each-replicate (suc n) w (List·Memᴰ·tail m) = each-replicate n w m
+
     -- Each partial sum, that of any front us of the terms us ++ vs, is within the limit of sums, and single precision adds it up exactly.
     pub sums-exact : (us vs : List Tropical) → length (us ++ vs) ≤ nodes → Each (us ++ vs)
         → (addAll (ofT j one) (map (ofT j) us) ≡ ofT j (timesAll one us)) × Within sumLimit (timesAll one us)
@@ -71,3 +83,12 @@ module _ (nodes most : ℕ) (product : nodes * most ≡ sumLimit) where
         let few : 0 + length us ≤ nodes = omega (arith, length-append us vs) in
         let r = onto us 0 one few (within-one (0 * most)) (λ w m. each w (Memᴰ·append-left vs m)) in
         (r .0, terms-within (0 + length us) few (timesAll one us) (r .1))
+
+    -- The longest sum: as many terms as there may be, each the largest, come to the limit itself, and single precision adds them up exactly.
+    pub longest-exact : addAll (ofT j one) (map (ofT j) (replicate nodes (fin (pos most)))) ≡ ofT j (fin (pos sumLimit))
+    longest-exact =
+        let terms = replicate nodes (fin (pos most)) in
+        let all : terms ++ [] ≡ terms = append-nil terms in
+        let few : length (terms ++ []) ≤ nodes = omega (arith, ap length all, length-replicate nodes (fin (pos most))) in
+        let each : Each (terms ++ []) = λ w m. each-replicate nodes w (subst (λ (l : List Tropical). List·Memᴰ w l) all m) in
+        sums-exact terms [] few each .0 ∙ ap (ofT j) (times-replicate most nodes 0) ∙ ap (λ (k : ℕ). ofT j (fin (pos k))) (let e : 0 + nodes * most ≡ sumLimit = omega (arith, product) in e)

@@ -1,4 +1,4 @@
--- The unit and the limits of document 01, each in this one place. Definitions only.
+-- The unit and the limits of documents 01 and 02, each in this one place. Definitions only.
 -- The laws are proved over any unit 2 ^ j with j up to `finest`, and over any limits on nodes and weights whose product is `sumLimit`.
 use Prim.Native.Nat.{ℕ, _^_}
 
@@ -12,11 +12,11 @@ finest = 8
 
 -- the most units of a weight, either way
 abbrev pub weightLimit : ℕ
-weightLimit = 4096
+weightLimit = 8192
 
 -- the most nodes of a machine, and so the most terms of a sum along a reading
 abbrev pub nodeLimit : ℕ
-nodeLimit = 4096
+nodeLimit = 2048
 
 -- the most links of a machine
 abbrev pub linkLimit : ℕ

@@ -24,10 +24,10 @@ const UNITS: f32 = (1u32 << UNIT) as f32;
 const UNIT_WEIGHT: f32 = 1.0 / UNITS;
 
 // The most units of a weight, either way.
-pub const WEIGHT_LIMIT: u32 = 4096;
+pub const WEIGHT_LIMIT: u32 = 8192;
 
 // The most nodes of a machine, and so the most terms of a sum along a reading.
-pub const NODE_LIMIT: usize = 4096;
+pub const NODE_LIMIT: usize = 2048;
 
 // The most links of a machine.
 pub const LINK_LIMIT: usize = 16384;

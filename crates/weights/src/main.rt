@@ -4,12 +4,12 @@
 use libc::STDOUT_FILENO;
 
 const PATTERNS: [u32; 28] = [
-    0x4280_0000, // 64
-    0x4280_0800, // 64.015625
-    0xc280_0000, // -64
-    0xc280_0800, // -64.015625
-    0x427f_f000, // 63.984375
-    0x4280_0001, // the first value above 64
+    0x4300_0000, // 128
+    0x4300_0400, // 128.015625
+    0xc300_0000, // -128
+    0xc300_0400, // -128.015625
+    0x42ff_f800, // 127.984375
+    0x4300_0001, // the first value above 128
     0x3c80_0000, // 1 / 64
     0xbc80_0000, // -1 / 64
     0x3c00_0000, // 1 / 128
@@ -29,7 +29,7 @@ const PATTERNS: [u32; 28] = [
     0x7f80_0001, // a signalling NaN
     0xffff_ffff, // a negative NaN
     0x3c80_0001, // the first value above 1 / 64
-    0x42ff_f800, // 127.984375
+    0x4280_0800, // 64.015625
     0x4b00_0000, // 2 ^ 23
     0x0080_0000, // the least normal value
 ];

@@ -2,6 +2,11 @@
 //! numbers wide enough that no sum or product wraps. It shares no code with the library, nor with
 //! what makes the sheets.
 
+/// The most nodes and links, and the most sixty-fourths of a weight, either way.
+const NODES: usize = 2048;
+const LINKS: usize = 16384;
+const UNITS: f64 = 8192.0;
+
 /// A sheet that is laid out as it must be.
 struct Fields {
     links: Vec<[u32; 4]>,
@@ -39,11 +44,11 @@ fn laid_out(sheet: &[u8]) -> Option<Fields> {
     (fields.nodes.iter().all(marked) && counted == links).then_some(fields)
 }
 
-/// Whether these are the bits of a whole number of sixty-fourths, at most 4,096 of them: both the
-/// widening and the product are exact.
+/// Whether these are the bits of a whole number of sixty-fourths within the limit: both the widening
+/// and the product are exact.
 fn on_grid(bits: u32) -> bool {
     let units = f64::from(f32::from_bits(bits)) * 64.0;
-    bits != 0x8000_0000 && units.is_finite() && units.fract() == 0.0 && units.abs() <= 4096.0
+    bits != 0x8000_0000 && units.is_finite() && units.fract() == 0.0 && units.abs() <= UNITS
 }
 
 impl Fields {
@@ -62,7 +67,7 @@ impl Fields {
     }
 
     fn is_small(&self) -> bool {
-        self.nodes.len() <= 4096 && self.links.len() <= 16384
+        self.nodes.len() <= NODES && self.links.len() <= LINKS
     }
 
     fn climbs(&self) -> bool {

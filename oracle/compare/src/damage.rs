@@ -1,13 +1,14 @@
 //! Damage to sheets: fields, lengths, counts that wrap, sizes, n. Each kind of it may meet others in
 //! one sheet, so that the order of the tests shows.
 
+use oracle::machine::{LINKS, NODES};
 use oracle::random::Random;
 use oracle::reference::NONE;
 
 use crate::parts::Parts;
 
-/// Weight bits off the grid: NaN, infinities, negative zero, the least above 0, 1/128, 64 and a
-/// sixty-fourth, 64 and a bit, and the largest.
+/// Weight bits off the grid: NaN, infinities, negative zero, the least above 0, 1/128, 128 and a
+/// sixty-fourth, 128 and a bit, and the largest.
 pub const OFF_GRID: [u32; 10] = [
     0x7FC0_0000,
     0x7F80_0001,
@@ -16,8 +17,8 @@ pub const OFF_GRID: [u32; 10] = [
     0x8000_0000,
     1,
     0x3C00_0000,
-    0x4280_0800,
-    0x4280_0001,
+    0x4300_0400,
+    0x4300_0001,
     0x7F7F_FFFF,
 ];
 
@@ -97,7 +98,7 @@ fn weight(random: &mut Random, parts: &mut Parts) {
 fn next_node(random: &mut Random, parts: &mut Parts) {
     let nodes = parts.nodes.len() as u32;
     if let Some(l) = any(random, parts.links.len()) {
-        let low = random.below(parts.links[l][3] as usize % 4096 + 1) as u32;
+        let low = random.below(parts.links[l][3] as usize % NODES + 1) as u32;
         parts.links[l][3] = random.pick(&[nodes, NONE, 0, low, low]);
     }
 }
@@ -143,12 +144,12 @@ fn wrap_trailer(random: &mut Random, parts: &mut Parts) {
 /// More nodes or links than are allowed, or just as many. New links lead from the last node but one.
 pub fn grow(random: &mut Random, parts: &mut Parts) {
     if random.once_in(2) || parts.nodes.len() < 2 {
-        let count = random.pick(&[4096, 4097, 4097, 4098]);
+        let count = random.pick(&[NODES, NODES + 1, NODES + 1, NODES + 2]);
         let count = parts.nodes.len().max(count);
         parts.nodes.resize(count, [0, 0, 0]);
     } else {
         let last = parts.nodes.len() - 1;
-        let count = random.pick(&[16384, 16385, 16385, 16386]);
+        let count = random.pick(&[LINKS, LINKS + 1, LINKS + 1, LINKS + 2]);
         let more = count - parts.links.len().min(count);
         // the links of the last node stay behind those of the one before
         let own: usize = parts.nodes[last][0] as usize;

@@ -1,8 +1,8 @@
 use mathlib.Core.Path.{_≡_, sym, ap, _∙_}
-use Prim.Native.Nat.{suc}
+use Prim.Native.Nat.{suc, _-_}
 use denote.Ref.{now}
 use borrow.Author.Needs.{needs}
-use Rattle.row_reader.specs.FinalRows.{on, falling, withNew}
+use Rattle.row_reader.specs.FinalRows.{most, on, falling, withNew}
 use Rattle.row_reader.proofs.FinalRows.{final-below, final-behind, final-new, final-stays, final-less}
 use Rattle.row_reader.proofs.finals.with_final.Statement.{statement}
 use Rattle.row_reader.proofs.finals.with_final.Tie as tie
@@ -47,8 +47,8 @@ wide-requires c κs = search needs
 returns-4 : tie.Need-returns-4
 returns-4 c =
     let a = c .before .before .before .before .before .before .args in
-    let full : a .count ≡ suc 4095 = search needs in (
-      ap (on (falling (now (a .kept)) 4095)) (c .before .wide .ensures)
+    let full : a .count ≡ suc (most - 1) = search needs in (
+      ap (on (falling (now (a .kept)) (most - 1))) (c .before .wide .ensures)
           ∙ sym (final-stays (a .first) (a .node) (now (a .kept)) (a .count) (a .limit) (search needs) (search needs) full (search needs) (c .if4 .taken)),
       c .before .before .before .before .before .before .pre .1,
     )
@@ -59,8 +59,8 @@ with-new-requires-2 c κs = search needs
 returns-5 : tie.Need-returns-5
 returns-5 c =
     let a = c .before .before .before .before .before .before .before .before .args in
-    let full : a .count ≡ suc 4095 = search needs in (
-      c .with-new2 .ensures .0 ∙ ap (withNew (a .node) (falling (now (a .kept)) 4095)) (c .before .before .before .wide .ensures)
+    let full : a .count ≡ suc (most - 1) = search needs in (
+      c .with-new2 .ensures .0 ∙ ap (withNew (a .node) (falling (now (a .kept)) (most - 1))) (c .before .before .before .wide .ensures)
           ∙ sym (final-less (a .first) (a .node) (now (a .kept)) (a .count) (a .limit) (search needs) (search needs) full (search needs) (c .before .before .if4 .left)),
       c .with-new2 .ensures .1,
     )

@@ -5,13 +5,14 @@ use lib.ListN.{length, length-append}
 use denote.Ref.{now}
 use borrow.Author.Needs.{needs}
 use Rattle.sheet.specs.Sheet.{linkCount, count, partsOf}
+use Rattle.row_writer.specs.Room.{rowMost}
 use Rattle.row_writer.proofs.Accepted.{link-below}
 use Rattle.row_writer.proofs.Measured.{rowFrom, texts, texts-none, texts-more, length-node}
 use Rattle.row_writer.proofs.sheet_text.node_length.Statement.{statement}
 use Rattle.row_writer.proofs.sheet_text.node_length.Tie as tie
 
 abbrev Inv-loop : tie.InvT-loop
-Inv-loop sheet links v first count size₀ i₀ size i = (i ≤ count) × (size ≡ length (texts (rowFrom (partsOf sheet) v first) i)) × (size ≤ 55 * i)
+Inv-loop sheet links v first count size₀ i₀ size i = (i ≤ count) × (size ≡ length (texts (rowFrom (partsOf sheet) v first) i)) × (size ≤ rowMost * i)
 
 abbrev μ-loop : tie.MeasureT-loop
 μ-loop sheet links v first count size₀ i₀ size i = count - i

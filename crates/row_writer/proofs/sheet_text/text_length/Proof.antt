@@ -8,6 +8,7 @@ use Rattle.sheet.specs.Below.{sumBelow}
 use Rattle.sheet.specs.Sheet.{nodeCount, count, partsOf}
 use Rattle.text_rows.specs.Written.{firstOf, nodeRows}
 use Rattle.text_rows.proofs.HasRows.{start-below}
+use Rattle.row_writer.specs.Room.{rowMost}
 use Rattle.row_writer.proofs.Accepted.{links-are, nodes-are, first-next, first-most}
 use Rattle.row_writer.proofs.Measured.{length-text, sum-more}
 use Rattle.row_writer.proofs.sheet_text.text_length.Statement.{statement}
@@ -15,7 +16,7 @@ use Rattle.row_writer.proofs.sheet_text.text_length.Tie as tie
 
 abbrev Inv-loop : tie.InvT-loop
 Inv-loop sheet t size₀ first₀ v₀ size first v =
-    (v ≤ t .nodes) × (first ≡ firstOf (partsOf sheet) v) × (size ≡ sumBelow v (λ u. length (nodeRows (partsOf sheet) u))) × (size ≤ 55 * firstOf (partsOf sheet) v + 55 * v)
+    (v ≤ t .nodes) × (first ≡ firstOf (partsOf sheet) v) × (size ≡ sumBelow v (λ u. length (nodeRows (partsOf sheet) u))) × (size ≤ rowMost * firstOf (partsOf sheet) v + rowMost * v)
 
 abbrev μ-loop : tie.MeasureT-loop
 μ-loop sheet t size₀ first₀ v₀ size first v = t .nodes - v

@@ -14,6 +14,7 @@ use Rattle.n_shortest.specs.declared.n_best.Places.{Places}
 use Rattle.n_shortest.specs.SearchWords.{Words, afterW, begunW}
 use Rattle.list_machine.specs.TrimWords.{keptCount, listAnswer, listAfter, Listable}
 use Rattle.distance.specs.Held.{reachedIn, distanceIn}
+use Rattle.tropical_weight.specs.Limits.{nodeLimit, linkLimit, listLimit}
 use borrow.Author.Needs.{needs}
 use borrow.Author.Tests.{not-true, not-false}
 use Rattle.shortest_path.proofs.lists.list_many.Statement.{statement}
@@ -21,7 +22,7 @@ use Rattle.shortest_path.proofs.lists.list_many.Tie as tie
 
 -- the sizes, and that the slots lie in the part
 few : (c : tie.After-shared-slice-known) → let args = c .before .args in
-    (args .finals ≤ 4096) × (args .t .links ≤ 16384) × (args .t .nodes ≤ 4096) × (args .n * (args .t .links + 1) ≤ 64 * (args .t .links + 1)) × (8 * (1 + args .finals + args .n * (args .t .links + 1) + (args .t .nodes + 1) + (args .t .links + args .finals)) ≤ length (now (args .part)))
+    (args .finals ≤ nodeLimit) × (args .t .links ≤ linkLimit) × (args .t .nodes ≤ nodeLimit) × (args .n * (args .t .links + 1) ≤ listLimit * (args .t .links + 1)) × (8 * (1 + args .finals + args .n * (args .t .links + 1) + (args .t .nodes + 1) + (args .t .links + args .finals)) ≤ length (now (args .part)))
 few c =
     let root = c .before in
     let args = root .args in (

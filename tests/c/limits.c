@@ -1,0 +1,86 @@
+/* The limits that the header names: each passes, and one more is refused. The longest chain, of as many nodes as there may be with every
+ * weight the largest: its distances and its one reading, by arithmetic in whole numbers. */
+#include <stdio.h>
+#include <stdlib.h>
+#include <string.h>
+#include "yeldmur.h"
+
+enum { NODES = YELDMUR_NODE_LIMIT, LINKS = YELDMUR_LINK_LIMIT, UNITS = YELDMUR_WEIGHT_LIMIT, LIST = YELDMUR_LIST_LIMIT };
+
+/* Room for one node more than the limit. */
+static uint8_t sheet[16 * NODES + 12 * (NODES + 1) + 20], result[64 * NODES];
+static uint32_t work[YELDMUR_SLOT * 8 * NODES];
+static uint64_t size;
+
+static uint32_t word(const uint8_t *at) { return at[0] | at[1] << 8 | at[2] << 16 | (uint32_t)at[3] << 24; }
+
+static uint32_t bits_of(float weight) {
+    uint32_t bits;
+    memcpy(&bits, &weight, sizeof bits);
+    return bits;
+}
+
+static double units_of(uint32_t bits) {
+    float weight;
+    memcpy(&weight, &bits, sizeof weight);
+    return 64.0 * weight;
+}
+
+/* A chain of so many nodes, each weight of so many sixty-fourths, the last node's final weight too. */
+static uint32_t write_chain(uint32_t nodes, int32_t units) {
+    static uint32_t links[4 * NODES], fields[3 * (NODES + 1)];
+    uint32_t bits = bits_of((float)units / 64);
+    for (uint32_t v = 0; v < nodes; v++) {
+        uint32_t last = v + 1 == nodes, link[] = {1, 1, bits, v + 1}, node[] = {!last, last, last ? bits : 0};
+        if (!last) memcpy(links + 4 * v, link, sizeof link);
+        memcpy(fields + 3 * v, node, sizeof node);
+    }
+    return yeldmur_write_sheet(links, 4 * (nodes - 1), fields, 3 * nodes, 0, sheet, sizeof sheet, &size);
+}
+
+static void print_areas(const char *what, uint32_t nodes, uint32_t links, uint32_t n) {
+    uint64_t slots, bytes;
+    printf("%s: %u\n", what, yeldmur_areas_of(nodes, links, nodes, n, &slots, &bytes));
+}
+
+/* Whether the distances are 0, 1, 2 and so on times the weight. */
+static void print_distances(void) {
+    uint32_t values, differ = 0, number = yeldmur_shortest_distance(sheet, size, work, sizeof work / 4, result, sizeof result, &values);
+    if (number) {
+        printf("distances: refused %u\n", number);
+        return;
+    }
+    for (uint32_t v = 0; v < values; v++) differ += word(result + 8 * v) != 1 || units_of(word(result + 8 * v + 4)) != (double)UNITS * v;
+    printf("distances: %u nodes, the last at %.0f, %u differ\n", values, units_of(word(result + 8 * values - 4)) / 64, differ);
+}
+
+/* The sum of every link's weight and of every final weight: there is one reading, and each link is on it. */
+static void print_list(uint32_t n) {
+    uint32_t states, links, taken;
+    uint32_t number = yeldmur_shortest_path(sheet, size, n, work, sizeof work / 4, result, sizeof result, &states, &links, &taken);
+    double cost = 0;
+    if (number) {
+        printf("n = %u: refused %u\n", n, number);
+        return;
+    }
+    for (uint32_t l = 0; l < links; l++) cost += units_of(word(result + 16 * l + 8));
+    for (uint32_t s = 0; s < states; s++) cost += units_of(word(result + 16 * links + 12 * s + 8));
+    printf("n = %u: cost %.0f\n", n, cost / 64);
+}
+
+int main(void) {
+    print_areas("areas at the limits", NODES, LINKS, LIST);
+    print_areas("a node more", NODES + 1, LINKS, LIST);
+    print_areas("a link more", NODES, LINKS + 1, LIST);
+    print_areas("n one more", NODES, LINKS, LIST + 1);
+    printf("a unit more: %u\n", write_chain(2, UNITS + 1));
+    printf("a unit less than the least: %u\n", write_chain(2, -UNITS - 1));
+    printf("the longest chain: %u\n", write_chain(NODES, UNITS));
+    print_distances();
+    print_list(1);
+    print_list(2);
+    printf("a chain of a node more: %u\n", write_chain(NODES + 1, UNITS));
+    print_distances();
+    print_list(1);
+    return 0;
+}
