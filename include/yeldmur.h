@@ -42,11 +42,11 @@ enum {
     /* a weight off the grid: not k/64 for a whole k up to YELDMUR_WEIGHT_LIMIT either way, NaN, an infinity
      * or negative zero */
     YELDMUR_WEIGHT = 4,
-    /* N above 2,048 or T above 16,384 */
+    /* N above YELDMUR_NODE_LIMIT or T above YELDMUR_LINK_LIMIT */
     YELDMUR_LIMITS = 5,
     /* a link that does not lead to a higher node */
     YELDMUR_CLIMB = 6,
-    /* n above 64 */
+    /* n above YELDMUR_LIST_LIMIT */
     YELDMUR_COUNT = 7,
     /* a text without rows, a row that cannot be read or a second final row for a node; tested before all
      * others */

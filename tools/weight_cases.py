@@ -1,7 +1,7 @@
 #!/usr/bin/env python3
 """Writes what crates/weights must print: for each of its bit patterns the whole number of sixty-fourths, or that it is off the grid, and
-where the table of shifts turns. The patterns are the program's own; the grid is that of document 01, with exact fractions, the table that of
-document 02.
+where the table of shifts turns. The patterns are the program's own; the grid is that of documents 01 and 02, with exact fractions, the table
+that of document 02.
 
     python3 tools/weight_cases.py > crates/weights/stdout
 """

@@ -84,7 +84,10 @@ pub fn checks() -> Vec<(&'static str, bool)> {
         ("P4 n = 4", told(&a, 4) == (three(), 11)),
         ("P5 no nodes", (0..=64).all(none)),
         ("P9 n = 64", told(&a, 64) == (three(), 11)),
-        ("P11 chain, distances", distances(&chain()).into_iter().eq(steps)),
+        (
+            "P11 chain, distances",
+            distances(&chain()).into_iter().eq(steps),
+        ),
         ("P11 chain, n = 1", told(&chain(), 1).0 == whole()),
         ("P11 chain, n = 2", told(&chain(), 2).0 == whole()),
         ("ties, n = 1", told(&twice(), 1).0 == [zero(&[0, 2])]),

@@ -82,9 +82,19 @@ fn ways(random: &mut Random, (most_nodes, most_links): (usize, usize)) -> (usize
     }
 }
 
+/// How many links at the most leave a node of a ladder or of layers: where there are as many nodes as may
+/// be, so many that the links can be, too.
+fn widest(nodes: usize) -> usize {
+    if nodes == NODES {
+        LINKS / NODES
+    } else {
+        4
+    }
+}
+
 /// Each node is joined to the next by some parallel links.
 fn ladder(random: &mut Random, nodes: usize, most_links: usize) -> (usize, Vec<Way>) {
-    let most = random.among(1, 4);
+    let most = random.among(1, widest(nodes));
     let nodes = nodes.min(most_links / most + 1);
     let rung = |v| vec![(v, v + 1); random.among(1, most)];
     (nodes, (0..nodes - 1).flat_map(rung).collect())
@@ -100,7 +110,7 @@ fn diamonds(nodes: usize, most_links: usize) -> (usize, Vec<Way>) {
 
 /// Each node of a layer is joined to all of the next layer.
 fn layers(random: &mut Random, nodes: usize, most_links: usize) -> (usize, Vec<Way>) {
-    let width = random.among(2, 4);
+    let width = random.among(2, widest(nodes));
     let nodes = nodes.min(most_links / width);
     let all = |v: usize| (width..2 * width).map(move |to| (v, v / width * width + to));
     (

@@ -1,14 +1,16 @@
 /* The limits that the header names: each passes, and one more is refused. The longest chain, of as many nodes as there may be with every
  * weight the largest: its distances and its one reading, by arithmetic in whole numbers. */
 #include <stdio.h>
-#include <stdlib.h>
 #include <string.h>
 #include "yeldmur.h"
 
 enum { NODES = YELDMUR_NODE_LIMIT, LINKS = YELDMUR_LINK_LIMIT, UNITS = YELDMUR_WEIGHT_LIMIT, LIST = YELDMUR_LIST_LIMIT };
 
-/* Room for one node more than the limit. */
-static uint8_t sheet[16 * NODES + 12 * (NODES + 1) + 20], result[64 * NODES];
+/* Room for the sheet of a chain with one node more than the limit. */
+static uint8_t sheet[16 * NODES + 12 * (NODES + 1) + 20];
+
+/* More than the longest chain takes: 32 bytes a node, and 4 slots a node for n = 2. */
+static uint8_t result[64 * NODES];
 static uint32_t work[YELDMUR_SLOT * 8 * NODES];
 static uint64_t size;
 
@@ -46,7 +48,7 @@ static void print_areas(const char *what, uint32_t nodes, uint32_t links, uint32
 /* Whether the distances are 0, 1, 2 and so on times the weight. */
 static void print_distances(void) {
     uint32_t values, differ = 0, number = yeldmur_shortest_distance(sheet, size, work, sizeof work / 4, result, sizeof result, &values);
-    if (number) {
+    if (number || values == 0) {
         printf("distances: refused %u\n", number);
         return;
     }
@@ -73,8 +75,8 @@ int main(void) {
     print_areas("a node more", NODES + 1, LINKS, LIST);
     print_areas("a link more", NODES, LINKS + 1, LIST);
     print_areas("n one more", NODES, LINKS, LIST + 1);
-    printf("a unit more: %u\n", write_chain(2, UNITS + 1));
-    printf("a unit less than the least: %u\n", write_chain(2, -UNITS - 1));
+    printf("the largest weight and the least: %u %u\n", write_chain(2, UNITS), write_chain(2, -UNITS));
+    printf("a unit beyond: %u %u\n", write_chain(2, UNITS + 1), write_chain(2, -UNITS - 1));
     printf("the longest chain: %u\n", write_chain(NODES, UNITS));
     print_distances();
     print_list(1);

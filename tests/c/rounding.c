@@ -244,7 +244,7 @@ static void compare_denormal(void) {
 }
 
 int main(void) {
-    /* from half the limit on, sums have as many digits as there are */
+    /* above half the limit sums pass 2^23 units, and take all digits of single precision */
     static const uint32_t COUNTS[] = {2, 33, NODES / 2 + 1, NODES / 2 + 2, NODES - 500, NODES};
     for (uint32_t i = 0; i < 6; i++) {
         compare_chain("dear", COUNTS[i], i % 2 ? WIDEST : 2, UNITS - 1, 2, 0);

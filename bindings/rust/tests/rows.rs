@@ -179,8 +179,13 @@ fn a_second_final_row_among_many() {
     let kept = NODE_LIMIT;
     let places: [fn(u32) -> u32; 3] = [|i| i, |i| 9_999 - i, |i| 7 * i % 10_000];
     for place in places {
-        let text: String = (0..10_000).map(|i| format!("{}\n", 1_000 * place(i))).collect();
-        assert_eq!(raw::rows_sheet_bytes(text.as_bytes()), Ok(12 * 9_999_001 + 20));
+        let text: String = (0..10_000)
+            .map(|i| format!("{}\n", 1_000 * place(i)))
+            .collect();
+        assert_eq!(
+            raw::rows_sheet_bytes(text.as_bytes()),
+            Ok(12 * 9_999_001 + 20)
+        );
         for twice in [0, 1, kept - 2, kept - 1, kept, kept + 1, 2 * kept, 9_999] {
             let more = format!("{text}{}\n", 1_000 * twice);
             assert_eq!(raw::rows_sheet_bytes(more.as_bytes()), Err(Refusal::Rows));
@@ -191,7 +196,14 @@ fn a_second_final_row_among_many() {
 #[test]
 fn weights_off_the_grid() {
     let nines = "9".repeat(40);
-    for weight in ["128.000001", "128.015625", "-128.015625", "0.3", "-0.01", "129"] {
+    for weight in [
+        "128.000001",
+        "128.015625",
+        "-128.015625",
+        "0.3",
+        "-0.01",
+        "129",
+    ] {
         let text = format!("0 1 1 1 {weight}\n1\n");
         assert_eq!(refused(text.as_bytes()), 4, "{weight}");
         let text = format!("0 1 1 1\n1 {weight}\n");

@@ -1,4 +1,4 @@
--- Cases P1 to P9 of document 01, by computation on the definitions. Assumes nothing.
+-- Cases P1 to P9, by computation on the definitions. Assumes nothing.
 use mathlib.Core.Path.{_≡_, refl}
 use mathlib.Core.List.{[], _∷_, map}
 use lib.ListN.{length}

@@ -1,7 +1,7 @@
 -- Cases P10 and P11. A chain of any length and weight: its one reading, its distances, what they cost, and its sheet. Assumes nothing.
 use mathlib.Core.Path.{_≡_, refl, sym, ap, _∙_, subst}
 use mathlib.Core.Bool.{Bool, true, false, cond}
-use mathlib.Core.Option.{Option, none, some, Option·some-injective}
+use mathlib.Core.Option.{none, some, Option·some-injective}
 use mathlib.Core.List.{List, [], _∷_, _++_, map, map-map, List·Memᴰ·eq-of-singleton}
 use Prim.Native.Nat.{ℕ, zero, suc, _+_, _*_, _^_, _≤_, _<_, min}
 use native.Mathlib.Omega.{arith}
@@ -182,12 +182,12 @@ module _ (t u : ℕ) where
           ap (λ y. y ∷ []) (List·Memᴰ·eq-of-singleton (subst (λ (l : List Reading). x ∈ l) (readings-are t (fin (pos u))) listed-in))
       go (x ∷ y ∷ l) e f = absurd (omega arith)
 
-  -- For every n, the list that the result holds is the one reading, at as many weights as there are nodes.
+  -- for n from 1 to the limit, the list that the result holds is the one reading
   pub list-is : suc t ≤ nodeLimit → (n : ℕ) → 1 ≤ n → n ≤ listLimit → (rest : List ℕ)
       → map (readingOf (weighed t u)) (listIn n (resultFor (weighed t u) n) rest) ≡ record { run = along t; end = t } ∷ []
   list-is few n lo hi rest = one-listed n _ lo (demand-result (weighed t u) (accepted few) n lo hi rest)
 
-  -- so is its cost
+  -- it costs as many weights as there are nodes
   costs-are : suc t ≤ nodeLimit → (n : ℕ) → 1 ≤ n → n ≤ listLimit → (rest : List ℕ) → costsIn (weighed t u) n rest ≡ fin (pos (suc t * u)) ∷ []
   costs-are few n lo hi rest =
       sym (map-map (readingCost (weighed t u)) (readingOf (weighed t u)) (listIn n (resultFor (weighed t u) n) rest))

@@ -43,14 +43,14 @@ costsListed bytes n rest =
     let made = resultOf bytes n .machine in
     map (λ run. readingCost (machine bytes) (readingOf (machine bytes) run)) (listOf n (length (made .finals)) (length (made .links)) (answerOf bytes n ++ rest))
 
--- N = 2,048 passes, 2,049: 5
+-- N = 2,048 passes, 2,049: 5, of tests 1 to 6, with which both calls begin
 pub record P10 : Type 0 where
   pub passes : inputNumber (chainSheet 2048) ≡ 0
   pub refused : inputNumber (chainSheet 2049) ≡ 5
 
--- the chain of 2,048 nodes with every weight 128, the last node's final weight too: cost 262,144, in sixty-fourths
+-- the chain of 2,048 nodes with every weight 128, the last node's final weight too: cost 262,144; here costs are in sixty-fourths
 pub record P11 : Type 0 where
-  -- for every n from 1 one reading is listed, at that cost
+  -- for n from 1 to 64 one reading is listed, at that cost
   pub costs : (n : ℕ) → 1 ≤ n → n ≤ listLimit → (rest : List ℕ) → costsListed (chainSheet 2048) n rest ≡ fin (pos (262144 * 64)) ∷ []
   -- node v is v weights away from the start
   pub distances : (v : ℕ) → v < 2048 → distance (machine (chainSheet 2048)) v ≡ reached (pos (v * (128 * 64)))

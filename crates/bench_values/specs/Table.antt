@@ -1,4 +1,4 @@
--- Cases P1 to P9 of document 01: one table of what the calls tell and what the document states. Definitions only.
+-- Cases P1 to P9 of document 01, P1 as request (b) and P7 as request (d) of document 02 has it: one table of what the calls tell and what the documents state. Definitions only.
 use mathlib.Core.List.{List, [], _∷_, map}
 use Prim.Native.Nat.{ℕ, _*_}
 use lib.IntN.{pos}
