@@ -135,8 +135,14 @@ module _ (t u : ℕ) where
 
 -- ---- what is asked of a machine
 module _ (t u : ℕ) where
+  links-count : length (weighed t u .links) ≡ t
+  links-count = links-are t (fin (pos u))
+
+  nodes-count : length (weighed t u .finals) ≡ suc t
+  nodes-count = nodes-are t (fin (pos u))
+
   at : (l : ℕ) → l < length (weighed t u .links) → link (weighed t u) l ≡ chainLink (fin (pos u)) l
-  at l h = link-is t (fin (pos u)) l (omega (arith, links-are t (fin (pos u))))
+  at l h = link-is t (fin (pos u)) l (omega (arith, links-count))
 
   source-at : (l : ℕ) → l < length (weighed t u .links) → link (weighed t u) l .source ≡ l
   source-at l h = ap (λ (k : Link). k .source) (at l h)
@@ -146,16 +152,19 @@ module _ (t u : ℕ) where
 
   -- a final weight is the chain's
   weight-is : (v : ℕ) (w : Tropical) → final (weighed t u) v ≡ some w → w ≡ fin (pos u)
-  weight-is v w e = go (eqb v t) (sym (final-is t (fin (pos u)) v (omega (arith, final-in (weighed t u) v w e, nodes-are t (fin (pos u))))) ∙ e)
+  weight-is v w e = go (eqb v t) (sym (final-is t (fin (pos u)) v (omega (arith, final-in (weighed t u) v w e, nodes-count))) ∙ e)
     where
       go : (b : Bool) → cond b (some (fin (pos u))) none ≡ some w → w ≡ fin (pos u)
       go true e = sym (Option·some-injective (fin (pos u)) w e)
       go false e = let z : _≡_ {A = ℕ} 0 1 = cc in absurd (omega arith)
 
+  labels : (l : ℕ) → l < length (weighed t u .links) → (link (weighed t u) l .ilabel < 2 ^ 32) × (link (weighed t u) l .olabel < 2 ^ 32)
+  labels l h = (omega (arith, ap (λ (k : Link). k .ilabel) (at l h)), omega (arith, ap (λ (k : Link). k .olabel) (at l h)))
+
   pub climbs : Climbs (weighed t u)
   climbs = record {
     rises = λ l h. omega (arith, source-at l h, next-at l h);
-    inside = λ l h. omega (arith, next-at l h, links-are t (fin (pos u)), nodes-are t (fin (pos u)));
+    inside = λ l h. omega (arith, next-at l h, links-count, nodes-count);
     sorted = λ k l h b. omega (arith, source-at k (omega arith), source-at l b);
   }
 
@@ -166,9 +175,9 @@ module _ (t u : ℕ) where
   accepted few = record {
     climbs = climbs;
     finite = finite;
-    labels = λ l h. (omega (arith, ap (λ (k : Link). k .ilabel) (at l h)), omega (arith, ap (λ (k : Link). k .olabel) (at l h)));
-    few-nodes = omega (arith, nodes-are t (fin (pos u)));
-    few-links = omega (arith, links-are t (fin (pos u)));
+    labels = labels;
+    few-nodes = omega (arith, nodes-count);
+    few-links = omega (arith, links-count);
   }
 
   -- a list that meets demand 3 holds the one reading
@@ -196,18 +205,18 @@ module _ (t u : ℕ) where
   -- ---- its sheet
   readable : suc t < 2 ^ 28 → u ≤ weightLimit → Readable (weighed t u)
   readable few small = record {
-    source-in = λ l h. omega (arith, source-at l h, links-are t (fin (pos u)), nodes-are t (fin (pos u)));
+    source-in = λ l h. omega (arith, source-at l h, links-count, nodes-count);
     next-in = climbs .inside;
     sorted = climbs .sorted;
-    labels = λ l h. (omega (arith, ap (λ (k : Link). k .ilabel) (at l h)), omega (arith, ap (λ (k : Link). k .olabel) (at l h)));
+    labels = labels;
     finite = finite;
     small = record {
       onLink = λ l h. subst (Within weightLimit) (sym (ap (λ (k : Link). k .weight) (at l h))) small;
       onFinal = λ v w e. subst (Within weightLimit) (sym (weight-is v w e)) small;
     };
-    starts = λ v e. omega (arith, Option·some-injective 0 v (sym (start-is t (fin (pos u))) ∙ e), nodes-are t (fin (pos u)));
-    few-nodes = omega (arith, nodes-are t (fin (pos u)));
-    few-links = omega (arith, links-are t (fin (pos u)));
+    starts = λ v e. omega (arith, Option·some-injective 0 v (sym (start-is t (fin (pos u))) ∙ e), nodes-count);
+    few-nodes = omega (arith, nodes-count);
+    few-links = omega (arith, links-count);
   }
 
 -- ---- the cases
