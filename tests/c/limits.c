@@ -1,5 +1,5 @@
 /* The limits that the header names: each passes, and one more is refused. The longest chain, of as many nodes as there may be with every
- * weight the largest: its distances and its one reading, by arithmetic in whole numbers. */
+ * weight the largest: its distances and the cost of its one reading, added up in double precision, which has these numbers exactly. */
 #include <stdio.h>
 #include <string.h>
 #include "yeldmur.h"

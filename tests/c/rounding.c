@@ -8,7 +8,7 @@
 #include <xmmintrin.h>
 #include "yeldmur.h"
 
-enum { NODES = YELDMUR_NODE_LIMIT, UNITS = YELDMUR_WEIGHT_LIMIT, WIDEST = 8, MOST = 10, FLUSHED = 0x8040 };
+enum { NODES = YELDMUR_NODE_LIMIT, UNITS = YELDMUR_WEIGHT_LIMIT, WIDEST = YELDMUR_LINK_LIMIT / NODES, MOST = 10, FLUSHED = 0x8040 };
 
 /* A chain of nodes with parallel links. Weights are in sixty-fourths. */
 static uint32_t nodes, links, first[NODES + 1];

@@ -7,7 +7,7 @@
 #include <string.h>
 #include "yeldmur.h"
 
-enum { NODES = YELDMUR_NODE_LIMIT, WIDTH = 8, LINKS = WIDTH * (NODES - 1), STACK = 1 << 20, PAINT = 0xa5 };
+enum { NODES = YELDMUR_NODE_LIMIT, WIDTH = YELDMUR_LINK_LIMIT / NODES, LINKS = WIDTH * (NODES - 1), STACK = 1 << 20, PAINT = 0xa5 };
 
 static uint32_t link_words[4 * LINKS], node_words[3 * NODES];
 static uint8_t sheet[16 * LINKS + 12 * NODES + 20], *result;

@@ -31,7 +31,7 @@ pub fn list(sheet: &Sheet, n: u32) -> Result<List<'_>, Refusal> {
 /// A work area and a result area that grow as a sheet needs them and are kept, so that calls in a loop allocate
 /// only where a sheet needs more than those before it. What a call leaves in them does not touch the next.
 ///
-/// For n = 64 and a sheet at the limits the two take about 35 MB each.
+/// For n = 64 and a sheet at the limits the two take about 34 MB each.
 #[derive(Default)]
 pub struct Areas {
     work: Vec<u32>,
