@@ -15,7 +15,7 @@
  * changes nothing. The calls leave the floating-point environment as it is, and raise no flag.
  *
  * Each call returns 0 or the number of a refusal. A refusal leaves the numbers behind `size`,
- * `values`, `states`, `links`, `taken`, `slots` and `bytes` as they were. In 1 to 20 no area changes.
+ * `values`, `states`, `links`, `taken`, `slots`, `bytes` and those of the calls that read back as they were. In 1 to 20 no area changes.
  * From then on, 21 included, the work slots needed are left zero and those beyond keep their value.
  * With 21 the result area keeps its bytes; bytes past an answer keep their value.
  *
@@ -57,7 +57,12 @@ enum {
      * and for n = 1; otherwise N + T + 2 x F + 2 + n x (T + 1) */
     YELDMUR_WORK = 20,
     /* result area shorter than this very answer */
-    YELDMUR_RESULT = 21
+    YELDMUR_RESULT = 21,
+    /* a result that is no answer: it cannot be read back as the list, or the distances, that it is said to
+     * hold */
+    YELDMUR_NO_ANSWER = 30,
+    /* no reading, distance, link or node has this number */
+    YELDMUR_ABSENT = 31
 };
 
 /* The limits: the most nodes and links of a sheet that is searched, the most sixty-fourths of a weight
@@ -138,6 +143,47 @@ uint32_t yeldmur_shortest_path(const uint8_t *sheet, size_t sheet_bytes, uint32_
                                uint32_t *work, size_t work_words,
                                uint8_t *result, size_t result_bytes,
                                uint32_t *states, uint32_t *links, uint32_t *taken);
+
+/* How many readings the result of yeldmur_shortest_path for n holds, `states` and `links` being the counts
+ * that it told: tests 7, then 30. A result is no answer where it is shorter than these counts say, or has
+ * more than n readings. What follows the answer's bytes is not looked at. `count` becomes how many there
+ * are, n at the most. */
+uint32_t yeldmur_readings(const uint8_t *result, size_t result_bytes, uint32_t n,
+                          uint32_t states, uint32_t links, uint32_t *count);
+
+/* Reading k, from 0 and cheapest first, of the result of yeldmur_shortest_path on this sheet and n: tests 1
+ * to 7, then 30 as yeldmur_readings gives it, 31 where k is not below the count, 30 where the way of reading
+ * k leaves the result or is no reading of the sheet, then 21 where `run` is too short for it. `run` begins
+ * with the numbers of its links in the sheet, from the start on; YELDMUR_NODE_LIMIT words are always enough.
+ * `count` becomes how many links there are, `cost` the sum of their weights and the final weight, in
+ * sixty-fourths, and `end` the node where it ends. Of a result that is the answer of this sheet and n these
+ * are those of the list. Of any other, what is told is still a reading of the sheet at its cost. */
+uint32_t yeldmur_reading(const uint8_t *sheet, size_t sheet_bytes, uint32_t n,
+                         const uint8_t *result, size_t result_bytes, uint32_t states, uint32_t links,
+                         uint32_t k, uint32_t *run, size_t run_words,
+                         uint32_t *count, int32_t *cost, uint32_t *end);
+
+/* The distance of a node, from the result of yeldmur_shortest_distance, which told `values`: tests 30 where
+ * the result is shorter than so many values, 31 where the node is not below `values`, then 30 where its two
+ * words are no distance. `reached` becomes 1 and `cost` the distance in sixty-fourths, or both become 0
+ * where the node is unreached. Negative zero, which a caller that rounds downward may find where weights
+ * cancel, is no distance. */
+uint32_t yeldmur_distance(const uint8_t *result, size_t result_bytes, uint32_t values, uint32_t node,
+                          uint32_t *reached, int32_t *cost);
+
+/* Reads a sheet, tests 1 to 4, and tells its counts: N, T and F, and its start or YELDMUR_NONE. */
+uint32_t yeldmur_sheet_counts(const uint8_t *sheet, size_t sheet_bytes,
+                              uint32_t *nodes, uint32_t *links, uint32_t *finals, uint32_t *start);
+
+/* The fields of a link of a sheet that has passed tests 1 to 4, by its number from 0: 31 past the last. The
+ * links of a node follow those of the node before. */
+uint32_t yeldmur_link(const uint8_t *sheet, size_t sheet_bytes, uint32_t number,
+                      uint32_t *ilabel, uint32_t *olabel, uint32_t *weight_bits, uint32_t *next);
+
+/* The fields of a node of a sheet that has passed tests 1 to 4, by its number from 0: 31 past the last. `links`
+ * becomes how many leave it, `mark` 0 or 1, `weight_bits` those of its final weight, 0 where the mark is 0. */
+uint32_t yeldmur_node(const uint8_t *sheet, size_t sheet_bytes, uint32_t number,
+                      uint32_t *links, uint32_t *mark, uint32_t *weight_bits);
 
 /* The areas for yeldmur_shortest_path on this sheet and n: tests 1 to 7. `slots` becomes the work slots
  * that it needs, `bytes` as many as its result has at the most: with a work area of YELDMUR_SLOT x slots

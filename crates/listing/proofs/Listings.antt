@@ -1,35 +1,38 @@
 -- The list that a result area holds, line by line. Assumes nothing.
 use mathlib.Core.Path.{_≡_, refl, sym, ap, _∙_, subst}
 use mathlib.Core.List.{List, [], _∷_, _++_, map, append-assoc, append-nil}
-use Prim.Native.Nat.{ℕ, zero, suc, _+_, _≤_, _<_}
+use Prim.Native.Nat.{ℕ, zero, suc, _+_, _*_, _≤_, _<_}
 use native.Mathlib.Nat.{add-zero}
 use native.Mathlib.Omega.{arith}
 use lib.IntN.{ℤ}
 use lib.ListN.{length, getD, take, drop, length-map}
-use lib.Seq.{sets, take-all}
-use Rattle.tropical_weight.specs.Limits.{listLimit}
-use Rattle.tropical_weight.specs.Tropical.{fin}
-use Rattle.sheet.specs.declared.tr.Trailer.{Trailer}
+use lib.Seq.{sets, take-all, getD-take}
 use Rattle.sheet.specs.Machine.{Machine, machine}
+use Rattle.sheet.proofs.Fields.{length-read, read-fits}
 use Rattle.sheet.proofs.Round.{Below}
-use Rattle.machine.specs.Readings.{link, readings, readingOf, readingCost, IsReading}
+use Rattle.machine.specs.Readings.{link, readingOf, readingCost, IsReading}
 use Rattle.machine.proofs.Lists.{map-same}
-use Rattle.machine.proofs.Runs.{run-in}
-use Rattle.machine.proofs.SheetFields.{fields-own}
+use Rattle.machine.proofs.Runs.{run-in, run-length}
+use Rattle.machine.proofs.Readings.{final-in}
+use Rattle.machine.proofs.Accepted.{input-read}
+use Rattle.machine.proofs.SheetFields.{sheet-fields, fields-own}
 use Rattle.search.specs.ListMachine.{resultFor, resultBytes}
 use Rattle.search.specs.Listed.{listOf}
-use Rattle.search.proofs.Lists.{Accepted, accepted, listIn, demand-result}
-use Rattle.search.proofs.Results.{empty-back}
+use Rattle.search.proofs.Lists.{Accepted, accepted}
 use Rattle.search.proofs.Sizes.{rest-same}
 use Rattle.shortest_path.specs.Outcome.{answerOf}
-use Rattle.shortest_path.proofs.Joining.{zero-empty}
 use Rattle.decimals.specs.Stored.{Puts}
+use Rattle.read_back.specs.declared.count.Counted.{Counted}
+use Rattle.read_back.specs.declared.count.Counted.the-variants as Counted
+use Rattle.read_back.specs.declared.reading.Told.{Told}
+use Rattle.read_back.specs.declared.reading.Told.the-variants as Told
+use Rattle.read_back.specs.Answers.{unitsIn, readingTold}
+use Rattle.read_back.specs.Promise.{IsAnswer, CountsList, ReadsList}
+use Rattle.read_back.proofs.Ways.{stored-front}
+use Rattle.read_back.proofs.RunCosts.{link-in-sheet}
+use Rattle.read_back.proofs.Answering.{list-same, answer-few, answer-reading}
 use Rattle.listing.specs.Text.{labelsOf, lineOf}
-use Rattle.listing.specs.Ways.{readingCount, readingNumbers, Readable}
-use Rattle.listing.specs.Held.{Held}
-use Rattle.listing.specs.Printed.{unitsIn, listFor, readingLine, readingLines}
-use Rattle.listing.proofs.Turns.{stored-front}
-use Rattle.listing.proofs.Walks.{ReadsBack, result-reads, listed-reading}
+use Rattle.listing.specs.Printed.{sheetMost, runMost, listFor, readingLine, readingLines}
 
 -- one line more
 lines-more : (m : Machine) (rank : ℕ) (runs : List (List ℕ)) (k : ℕ) → k < length runs
@@ -62,62 +65,92 @@ module _ (m : Machine) (runs : List (List ℕ)) where
   pub lines-all : (k count : ℕ) → count ≡ length runs → k ≤ count → count ≤ k → readingLines m 1 (take k runs) ≡ readingLines m 1 runs
   lines-all k count e a b = ap (readingLines m 1) (take-all k runs (omega (arith, e)))
 
-module _ (sheet : List ℕ) (below : Below 256 sheet) (t : Trailer) (n : ℕ) (result : List ℕ) (nodes links : ℕ) (h : Held sheet t n result nodes links) where
+-- what is told of a reading, by its values
+pub told-parts : (m : Machine) (way : List ℕ) (count : ℕ) (cost : ℤ) (end : ℕ) → Told.Reading count cost end ≡ readingTold m way → (count ≡ length way) × (cost ≡ unitsIn (readingCost m (readingOf m way)))
+told-parts m way count cost end e = let a : count ≡ length way = cc in let b : cost ≡ unitsIn (readingCost m (readingOf m way)) = cc in (a, b)
+
+pub told-reading : (m : Machine) (way : List ℕ) (k : ℕ) → Told.Refused k ≡ readingTold m way → ⊥
+told-reading m way k e = let z : _≡_ {A = ℕ} 0 1 = cc in omega arith
+
+pub counted-readings : (count : ℕ) (list : List (List ℕ)) → Counted.Readings count ≡ Counted.Readings (length list) → count ≡ length list
+counted-readings count list e = let z : count ≡ length list = cc in z
+
+pub counted-refused : (k : ℕ) (list : List (List ℕ)) → Counted.Refused k ≡ Counted.Readings (length list) → ⊥
+counted-refused k list e = let z : _≡_ {A = ℕ} 0 1 = cc in omega arith
+
+module _ (sheet : List ℕ) (below : Below 256 sheet) (n : ℕ) (result : List ℕ) (nodes links : ℕ) (h : IsAnswer sheet n result nodes links) where
   abbrev m : Machine
   m = machine sheet
 
   a : Accepted m
   a = accepted sheet below (h .accepted)
 
-  abbrev rest : List ℕ
-  rest = drop (length (answerOf sheet n)) result
-
-  list-same : listIn n (resultFor m n) rest ≡ listFor m n
-  list-same = let r = resultFor m n in rest-same m a n (h .few) rest [] ∙ ap (listOf n (length (r .machine .finals)) (length (r .machine .links))) (append-nil (resultBytes r))
-
-  back : ReadsBack n (resultFor m n) rest
-  back = result-reads m a n (h .few) rest
-
-  pub held-readable : Readable result nodes links n
-  held-readable =
+  -- the list read from the result, whatever follows it
+  list-is : listOf n nodes links result ≡ listFor m n
+  list-is =
       let r = resultFor m n in
-      subst (λ (l : List ℕ). Readable l nodes links n) (sym (h .bytes))
-      (subst (λ (k : ℕ). Readable (resultBytes r ++ rest) k links n) (sym (h .nodes-are))
-      (subst (λ (k : ℕ). Readable (resultBytes r ++ rest) (length (r .machine .finals)) k n) (sym (h .links-are)) (back .readable)))
+      list-same sheet below n result nodes links h ∙ rest-same m a n (h .few) (drop (length (answerOf sheet n)) result) []
+      ∙ ap (listOf n (length (r .machine .finals)) (length (r .machine .links))) (append-nil (resultBytes r))
 
-  pub held-count : readingCount result nodes links n ≡ length (listFor m n)
-  held-count = (λ i. readingCount (h .bytes i) (h .nodes-are i) (h .links-are i) n) ∙ back .counts ∙ ap length list-same
-
-  pub held-numbers : (k : ℕ) → k < length (listFor m n) → readingNumbers result nodes links n k ≡ getD (listFor m n) k []
-  held-numbers k b =
-      (λ i. readingNumbers (h .bytes i) (h .nodes-are i) (h .links-are i) n k)
-      ∙ back .each k (omega (arith, ap length list-same)) ∙ ap (λ (l : List (List ℕ)). getD l k []) list-same
+  pub held-count : (told : Counted) → CountsList result n nodes links told → told ≡ Counted.Readings (length (listFor (machine sheet) n))
+  held-count told c = c sheet below h ∙ ap (λ (l : List (List ℕ)). Counted.Readings (length l)) list-is
 
   -- at most n readings
-  pub held-few : length (listFor m n) ≤ n
-  held-few = go n (h .few) list-same
-    where
-      go : (n : ℕ) → n ≤ listLimit → listIn n (resultFor m n) rest ≡ listFor m n → length (listFor m n) ≤ n
-      go zero b e = omega (arith, ap length (sym e ∙ ap (λ r. listIn 0 r rest) (zero-empty m) ∙ empty-back 0 rest))
-      go (suc k) b e = omega (arith, ap length e, demand-result m a (suc k) (omega arith) b rest .size, length-map (listIn (suc k) (resultFor m (suc k)) rest) (readingOf m))
-
-  pub held-reading : (k : ℕ) → k < length (listFor m n) → IsReading m (readingOf m (getD (listFor m n) k []))
-  held-reading k b =
-      subst (λ (l : List (List ℕ)). IsReading m (readingOf m (getD l k []))) list-same
-      (listed-reading m a n (omega (arith, held-few)) (h .few) rest k (omega (arith, ap length list-same)))
+  pub held-few : length (listFor (machine sheet) n) ≤ n
+  held-few = omega (arith, answer-few sheet below n result nodes links h, ap length list-is)
 
   -- ---- the line of reading k
-  module _ (k : ℕ) (b : k < length (listFor m n)) (old run : List ℕ) (count : ℕ) (counted : count ≡ length (readingNumbers result nodes links n k)) (stored : run ≡ sets old 0 (readingNumbers result nodes links n k)) (room : count ≤ length old) where
-    pub front-is : take count run ≡ getD (listFor m n) k []
-    front-is =
-        (λ i. take (counted i) (stored i))
-        ∙ stored-front old (readingNumbers result nodes links n k) (omega (arith, counted)) ∙ held-numbers k b
+  module _ (k : ℕ) (b : k < length (listFor (machine sheet) n)) where
+    abbrev way : List ℕ
+    way = getD (listFor m n) k []
 
-    pub front-reading : IsReading m (readingOf m (take count run))
-    front-reading = subst (λ (l : List ℕ). IsReading m (readingOf m l)) (sym front-is) (held-reading k b)
+    in-list : k < length (listOf n nodes links result)
+    in-list = omega (arith, b, ap length list-is)
 
-    labels-are : labelsOf sheet (take count run) ≡ map (λ (l : ℕ). link m l .ilabel) (take count run)
-    labels-are = map-same _ _ (take count run) (λ l q. fields-own sheet (h .accepted) .ilabel-at l (run-in m (take count run) (front-reading .from) (readingOf m (take count run) .end) (front-reading .runs) l q))
+    way-is : getD (listOf n nodes links result) k [] ≡ way
+    way-is = ap (λ (l : List (List ℕ)). getD l k []) list-is
 
-    pub line-is : (rank : ℕ) (cost : ℤ) → fin cost ≡ readingCost m (readingOf m (take count run)) → lineOf rank cost (labelsOf sheet (take count run)) ≡ readingLine m rank (getD (listFor m n) k [])
-    line-is rank cost e = (λ i. lineOf rank (unitsIn (e i)) (labels-are i)) ∙ ap (readingLine m rank) front-is
+    pub held-reading : IsReading (machine sheet) (readingOf (machine sheet) (getD (listFor (machine sheet) n) k []))
+    held-reading = subst (λ (r : List ℕ). IsReading m (readingOf m r)) way-is (answer-reading sheet below n result nodes links h k in-list)
+
+    -- it has fewer links than there are nodes
+    pub held-short : length sheet ≤ sheetMost → length (getD (listFor (machine sheet) n) k []) ≤ runMost
+    held-short s =
+        let i = held-reading in
+        omega (
+          arith,
+          s,
+          run-length m (a .climbs) way (i .from) (readingOf m way .end) (i .runs),
+          final-in m (readingOf m way .end) (i .weight) (i .marked),
+          sheet-fields sheet (h .accepted) .nodes-are,
+          length-read sheet (read-fits sheet (input-read sheet (h .accepted) .0)),
+        )
+
+    -- what is told of it, and its numbers at the area's front
+    pub held-told : (old : List ℕ) (told : Told) (run : List ℕ) → length sheet ≤ sheetMost → length old ≡ runMost → ReadsList sheet n result nodes links k old told run
+        → (told ≡ readingTold (machine sheet) (getD (listFor (machine sheet) n) k [])) × (run ≡ sets old 0 (getD (listFor (machine sheet) n) k []))
+    held-told old told run s size c =
+        let r = c h in-list (omega (arith, held-short s, size, ap length way-is)) in
+        (r .0 ∙ ap (readingTold m) way-is, r .1 ∙ ap (sets old 0) way-is)
+
+    module _ (old run : List ℕ) (count : ℕ) (counted : count ≡ length (getD (listFor (machine sheet) n) k [])) (stored : run ≡ sets old 0 (getD (listFor (machine sheet) n) k [])) (room : count ≤ length old) where
+      pub front-is : take count run ≡ getD (listFor (machine sheet) n) k []
+      front-is = (λ i. take (counted i) (stored i)) ∙ stored-front old way (omega (arith, counted, room))
+
+      front-reading : IsReading m (readingOf m (take count run))
+      front-reading = subst (λ (l : List ℕ). IsReading m (readingOf m l)) (sym front-is) held-reading
+
+      -- its links are in the sheet
+      pub front-in : (i : ℕ) → i < count → 16 * getD run i 0 + 16 ≤ length sheet
+      front-in i c =
+          omega (
+            arith,
+            link-in-sheet sheet below (h .accepted) (take count run) front-reading i (omega (arith, c, counted, ap length front-is)),
+            getD-take count run i 0 c,
+          )
+
+      labels-are : labelsOf sheet (take count run) ≡ map (λ (l : ℕ). link m l .ilabel) (take count run)
+      labels-are = map-same _ _ (take count run) (λ l q. fields-own sheet (h .accepted) .ilabel-at l (run-in m (take count run) (front-reading .from) (readingOf m (take count run) .end) (front-reading .runs) l q))
+
+      pub line-is : (rank : ℕ) → lineOf rank (unitsIn (readingCost (machine sheet) (readingOf (machine sheet) (getD (listFor (machine sheet) n) k [])))) (labelsOf sheet (take count run)) ≡ readingLine (machine sheet) rank (getD (listFor (machine sheet) n) k [])
+      line-is rank = ap (lineOf rank (unitsIn (readingCost m (readingOf m way)))) (labels-are ∙ ap (map (λ (l : ℕ). link m l .ilabel)) front-is)

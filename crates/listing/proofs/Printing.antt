@@ -9,9 +9,7 @@ use lib.Dec.{ltb, eqb}
 use lib.ListN.{length, getD, take, drop}
 use lib.Seq.{drop-append-seam, take-all}
 use borrow.Author.Tests.{lt-ltb, le-ltb, ne-eqb, eqb-true, eqb-false}
-use Rattle.sheet.specs.declared.tr.Trailer.{Trailer}
 use Rattle.sheet.specs.Machine.{Machine, machine}
-use Rattle.sheet.specs.Records.{trailerAt}
 use Rattle.sheet.proofs.Fields.{length-read, read-fits}
 use Rattle.sheet.proofs.Round.{Below}
 use Rattle.machine.specs.Input.{inputNumber}
@@ -25,9 +23,9 @@ use Rattle.list_answer.specs.declared.Listed.the-variants.{Made, Refused}
 use Rattle.shortest_path.specs.Outcome.{resultOf, answerOf, slotsNeeded, testedNumber, listNumber, listBy, listAnswer, resultAfter}
 use Rattle.list_answer.proofs.SlotsNeeded.{slots-many}
 use Rattle.shortest_path.proofs.Outcomes.{tested-input, tested-last, tested-zero, number-input, number-areas}
+use Rattle.read_back.specs.Promise.{IsAnswer}
 use Rattle.listing.specs.Text.{refusedLine}
-use Rattle.listing.specs.Held.{Held}
-use Rattle.listing.specs.Printed.{sheetMost, listMost, runMost, listingNumber, listingText, printedFor, printed}
+use Rattle.listing.specs.Printed.{sheetMost, listMost, listingNumber, listingText, printedFor, printed}
 
 -- ---- the number, by what was tested
 module _ (n : ℕ) (sheet : List ℕ) where
@@ -58,10 +56,6 @@ module _ (n : ℕ) (sheet : List ℕ) where
     pub printed-listed : inputNumber sheet ≡ 0 → listingText (machine sheet) n ≡ printedFor n sheet
     printed-listed e = sym (ap (λ (j : ℕ). cond (eqb j 0) (listingText (machine sheet) n) (refusedLine j)) (few-number ∙ tested-last sheet n 0 e (omega arith)))
 
--- an accepted sheet has a trailer
-pub in-sheet-trailer : (sheet : List ℕ) → inputNumber sheet ≡ 0 → 20 ≤ length sheet
-in-sheet-trailer sheet e = omega (arith, length-read sheet (read-fits sheet (input-read sheet e .0)))
-
 -- ---- the areas are long enough
 abbrev pub workWords : ℕ
 workWords = 10240
@@ -91,22 +85,22 @@ module _ (sheet : List ℕ) (below : Below 256 sheet) (n : ℕ) (short : length 
         go (suc zero) p = omega (arith, layout)
         go (suc (suc k)) p = omega (arith, layout, p, marked-few (m .finals), slots-many (length (m .finals)) (length (m .links)) (marked (m .finals)) (suc (suc k)) (omega arith))
 
-    pub sizes : (length (answerOf sheet n) ≤ resultBytesMost) × (length (resultOf sheet n .machine .finals) ≤ runMost)
-    sizes = go n few product
+    size : length (answerOf sheet n) ≤ resultBytesMost
+    size = go n few product
       where
-        go : (n : ℕ) → n ≤ listMost → n * (length (m .links) + 1) ≤ listMost * (length (m .links) + 1) → (length (answerOf sheet n) ≤ resultBytesMost) × (length (resultOf sheet n .machine .finals) ≤ runMost)
-        go zero b p = let s = zero-holds m a in (omega (arith, result-length (resultFor m 0) (s .storable), s .few-nodes, s .few-links), omega (arith, s .few-nodes))
-        go (suc zero) b p = let s = one-holds m a in (omega (arith, layout, result-length (resultFor m 1) (s .storable), s .few-nodes, s .few-links), omega (arith, layout, s .few-nodes))
+        go : (n : ℕ) → n ≤ listMost → n * (length (m .links) + 1) ≤ listMost * (length (m .links) + 1) → length (answerOf sheet n) ≤ resultBytesMost
+        go zero b p = let s = zero-holds m a in omega (arith, result-length (resultFor m 0) (s .storable), s .few-nodes, s .few-links)
+        go (suc zero) b p = let s = one-holds m a in omega (arith, layout, result-length (resultFor m 1) (s .storable), s .few-nodes, s .few-links)
         go (suc (suc k)) b p =
             let n = suc (suc k) in
             let s = many-holds m a n (omega arith) (omega arith) in
-            (omega (arith, layout, p, marked-few (m .finals), result-length (resultFor m n) (s .storable), s .few-nodes, s .few-links), omega (arith, layout, p, marked-few (m .finals), s .few-nodes))
+            omega (arith, layout, p, marked-few (m .finals), result-length (resultFor m n) (s .storable), s .few-nodes, s .few-links)
 
     pub number-none : listNumber sheet n workWords resultBytesMost ≡ 0
     number-none =
         number-areas sheet n workWords resultBytesMost e (omega (arith, few))
         ∙ ap {B = ℕ} (λ (b : Bool). cond b 20 (cond (ltb resultBytesMost (length (answerOf sheet n))) 21 0)) (le-ltb 1280 (slotsNeeded sheet n) slots-few)
-        ∙ ap {B = ℕ} (λ (b : Bool). cond b 21 0) (le-ltb resultBytesMost (length (answerOf sheet n)) (sizes .0))
+        ∙ ap {B = ℕ} (λ (b : Bool). cond b 21 0) (le-ltb resultBytesMost (length (answerOf sheet n)) size)
 
   number-input-is : listNumber sheet n workWords resultBytesMost ≡ inputNumber sheet
   number-input-is = go (eqb (inputNumber sheet) 0) refl
@@ -137,10 +131,9 @@ module _ (sheet : List ℕ) (below : Below 256 sheet) (n : ℕ) (short : length 
       go true q h = record { passed = sym number-input-is ∙ eqb-true (listNumber sheet n workWords resultBytesMost) 0 q; nodes-are = cc; links-are = cc; taken-is = cc }
 
   -- the result area then holds the list
-  pub held : (t : Trailer) → t ≡ trailerAt sheet → (nodes links taken : ℕ) → IsMade nodes links taken → (old result : List ℕ) → length old ≡ resultBytesMost → result ≡ resultAfter sheet n workWords old → Held sheet t n result nodes links
-  held t same nodes links taken is old result size e = record {
+  pub held : (nodes links taken : ℕ) → IsMade nodes links taken → (old result : List ℕ) → length old ≡ resultBytesMost → result ≡ resultAfter sheet n workWords old → IsAnswer sheet n result nodes links
+  held nodes links taken is old result size e = record {
     accepted = is .passed;
-    trailer = same;
     few = omega (arith, few);
     bytes = whole ∙ ap (λ (l : List ℕ). answerOf sheet n ++ l) (sym (ap (drop (length (answerOf sheet n))) whole ∙ drop-append-seam (answerOf sheet n) (drop (length (answerOf sheet n)) old)));
     nodes-are = is .nodes-are;

@@ -1,4 +1,2 @@
 pub mod Text
-pub mod Ways
 pub mod Printed
-pub mod Held

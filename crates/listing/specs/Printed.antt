@@ -3,14 +3,13 @@ use mathlib.Core.Bool.{cond}
 use mathlib.Core.List.{List, [], _∷_, _++_, map}
 use Prim.Native.Nat.{ℕ, suc, _+_, _*_}
 use lib.Dec.{ltb, eqb}
-use lib.IntN.{ℤ, pos}
 use lib.ListN.{length}
-use Rattle.tropical_weight.specs.Tropical.{Tropical, fin, inf}
 use Rattle.sheet.specs.Machine.{Machine, machine}
 use Rattle.machine.specs.Readings.{link, readingOf, readingCost}
 use Rattle.search.specs.ListMachine.{resultFor, resultBytes}
 use Rattle.search.specs.Listed.{listOf}
 use Rattle.shortest_path.specs.Outcome.{testedNumber}
+use Rattle.read_back.specs.Answers.{unitsIn}
 use Rattle.listing.specs.Text.{firstLine, refusedLine, lineOf}
 
 -- the most bytes of a sheet, and the largest n, that the program lists
@@ -20,9 +19,9 @@ sheetMost = 4096
 abbrev pub listMost : ℕ
 listMost = 4
 
--- at the most, the states of a list for such an n and sheet, and so the links of a reading; and the bytes of a line
+-- at the most, the nodes of such a sheet, and so the links of a reading; and the bytes of a line
 abbrev pub runMost : ℕ
-runMost = 1032
+runMost = 340
 
 abbrev pub lineMost : ℕ
 lineMost = 23 + 11 * runMost
@@ -35,11 +34,6 @@ textMost = 49152
 unfoldable pub listingNumber : ℕ → List ℕ → ℕ
 unfolding testedNumber
 listingNumber n sheet = cond (ltb sheetMost (length sheet)) 20 (testedNumber sheet n (cond (ltb listMost n) 20 0))
-
--- the units of a cost; no reading's cost is infinite
-abbrev pub unitsIn : Tropical → ℤ
-unitsIn (fin k) = k
-unitsIn inf = pos 0
 
 module _ (m : Machine) where
   -- the list for n, read from the result alone

@@ -9,14 +9,16 @@ ghost use Rattle.sheet.specs.Machine.{machine as machineFor};
 ghost use Rattle.shortest_path.specs.Outcome.{testedNumber};
 ghost use Rattle.decimals.specs.Stored.{Puts};
 ghost use Rattle.listing.specs.Text.{firstLine};
-ghost use Rattle.listing.specs.Held.{Held};
-ghost use Rattle.listing.specs.Printed.{sheetMost, listMost, runMost, lineMost, textMost, listFor, readingLine, readingLines, printedFor, printed};
+ghost use Rattle.read_back.specs.Promise.{IsAnswer};
+ghost use Rattle.listing.specs.Printed.{sheetMost, listMost, lineMost, textMost, listFor, readingLine, readingLines, printedFor, printed};
 use crate::text;
-use crate::ways;
 use list_answer::Listed;
 use machine::input::input;
+use read_back::count::Counted;
+use read_back::count::count_readings;
+use read_back::reading::Told;
+use read_back::reading::reading;
 use sheet::read::Tested;
-use sheet::tr::Trailer;
 use tropical_weight::LIST_LIMIT;
 
 // The most bytes of a sheet, and the largest n, that the areas are long enough for.
@@ -24,17 +26,17 @@ const SHEET_MOST: usize = 4096;
 
 const LIST_MOST: u32 = 4;
 
-// The words of the work area, the bytes of the result area, and the links of a reading, at the most.
+// The words of the work area, the bytes of the result area, and the nodes of such a sheet, at the most: a
+// reading has fewer links.
 const WORK: usize = 10240;
 
 const RESULT: usize = 36864;
 
-const RUN: usize = 1032;
+const RUN: usize = 340;
 
 // The line of reading k, from 0, of a list.
 fn put_reading(
     sheet: &[u8],
-    t: Trailer,
     n: u32,
     result: &[u8],
     nodes: u32,
@@ -43,20 +45,20 @@ fn put_reading(
     out: &mut [u8],
     at: usize,
 ) -> usize
-    requires { ⌜ Held (now sheet) t n (now result) nodes links × (k < length (listFor (machineFor (now sheet)) n)) ⌝ }
-    requires { ⌜ (nodes ≤ runMost) × (at + lineMost ≤ length (now out)) ⌝ }
+    requires { ⌜ IsAnswer (now sheet) n (now result) nodes links × (k < length (listFor (machineFor (now sheet)) n)) ⌝ }
+    requires { ⌜ (length (now sheet) ≤ sheetMost) × (at + lineMost ≤ length (now out)) ⌝ }
     ensures { λ r. ⌜ Puts (now (out .entry)) at (readingLine (machineFor (now (sheet .entry))) (k + 1) (getD (listFor (machineFor (now (sheet .entry))) n) k [])) (now (out .exit)) r × (r ≤ at + lineMost) ⌝ }
 {
     let mut run = [0u32; RUN];
-    let count = ways::run_of(result, nodes, links, n, k, &mut run);
-    let cost = ways::cost_of(sheet, t, &run, count);
-    text::put_line(sheet, &run, count, k + 1, cost, out, at)
+    match reading(sheet, n, result, nodes, links, k, &mut run) {
+        Told::Reading(count, cost, _) => text::put_line(sheet, &run, count, k + 1, cost, out, at),
+        Told::Refused(_) => at,
+    }
 }
 
 // A line for each reading of a list, in its order.
 fn put_readings(
     sheet: &[u8],
-    t: Trailer,
     n: u32,
     result: &[u8],
     nodes: u32,
@@ -65,14 +67,14 @@ fn put_readings(
     out: &mut [u8],
     at: usize,
 ) -> usize
-    requires { ⌜ Held (now sheet) t n (now result) nodes links × (count ≡ length (listFor (machineFor (now sheet)) n)) ⌝ }
-    requires { ⌜ (nodes ≤ runMost) × (count ≤ listMost) × (at + lineMost * count ≤ length (now out)) ⌝ }
+    requires { ⌜ IsAnswer (now sheet) n (now result) nodes links × (count ≡ length (listFor (machineFor (now sheet)) n)) ⌝ }
+    requires { ⌜ (length (now sheet) ≤ sheetMost) × (count ≤ listMost) × (at + lineMost * count ≤ length (now out)) ⌝ }
     ensures { λ r. ⌜ Puts (now (out .entry)) at (readingLines (machineFor (now (sheet .entry))) 1 (listFor (machineFor (now (sheet .entry))) n)) (now (out .exit)) r × (r ≤ at + lineMost * count) ⌝ }
 {
     let mut next = at;
     let mut k = 0u32;
     while k < count {
-        next = put_reading(sheet, t, n, result, nodes, links, k, out, next);
+        next = put_reading(sheet, n, result, nodes, links, k, out, next);
         k += 1;
     }
     next
@@ -81,7 +83,6 @@ fn put_readings(
 // The text of a list, with so many entries taken.
 fn put_list(
     sheet: &[u8],
-    t: Trailer,
     n: u32,
     result: &[u8],
     nodes: u32,
@@ -89,12 +90,16 @@ fn put_list(
     taken: u32,
     out: &mut [u8],
 ) -> usize
-    requires { ⌜ Held (now sheet) t n (now result) nodes links × (n ≤ listMost) × (nodes ≤ runMost) × (textMost ≤ length (now out)) ⌝ }
+    requires { ⌜ IsAnswer (now sheet) n (now result) nodes links × (n ≤ listMost) × (length (now sheet) ≤ sheetMost) × (textMost ≤ length (now out)) ⌝ }
     ensures { λ r. ⌜ Puts (now (out .entry)) 0 (firstLine (length (listFor (machineFor (now (sheet .entry))) n)) taken ++ readingLines (machineFor (now (sheet .entry))) 1 (listFor (machineFor (now (sheet .entry))) n)) (now (out .exit)) r × (r ≤ textMost) ⌝ }
 {
-    let count = ways::count_readings(result, nodes, links, n);
-    let next = text::put_first_line(out, 0, count, taken);
-    put_readings(sheet, t, n, result, nodes, links, count, out, next)
+    match count_readings(result, n, nodes, links) {
+        Counted::Readings(count) => {
+            let next = text::put_first_line(out, 0, count, taken);
+            put_readings(sheet, n, result, nodes, links, count, out, next)
+        }
+        Counted::Refused(_) => 0,
+    }
 }
 
 // The text for a sheet and an n that the areas are long enough for.
@@ -107,8 +112,7 @@ fn put_few(sheet: &[u8], n: u32, out: &mut [u8]) -> usize
     match shortest_path::shortest_path(sheet, n, &mut work, &mut result) {
         Listed::Refused(k) => text::put_refused(out, 0, k),
         Listed::Made(nodes, links, taken) => {
-            let t = sheet::tr::trailer_of(sheet);
-            put_list(sheet, t, n, &result, nodes, links, taken, out)
+            put_list(sheet, n, &result, nodes, links, taken, out)
         }
     }
 }

@@ -47,7 +47,7 @@ module _ (m : Machine) (x : Reading) where
   pub nodes-long : length (wayBack m x .finals) ≡ suc (length (x .run))
   nodes-long = ap suc (length-replicate {A = Option Tropical} (length (x .run)) none)
 
-  link-at : (l : ℕ) (d : Link) → l < length (x .run) → getD (wayBack m x .links) l d ≡ moved (link m (getD (reverse (x .run)) l 0)) (suc l) l
+  pub link-at : (l : ℕ) (d : Link) → l < length (x .run) → getD (wayBack m x .links) l d ≡ moved (link m (getD (reverse (x .run)) l 0)) (suc l) l
   link-at l d h = back-at m 1 (reverse (x .run)) l d (omega (arith, length-reverse (x .run))) ∙ ap₂ (moved (link m (getD (reverse (x .run)) l 0))) (let z : 1 + l ≡ suc l = omega arith in z) (let z : 1 + l - 1 ≡ l = omega arith in z)
 
   source-at : (l : ℕ) (d : Link) → l < length (x .run) → getD (wayBack m x .links) l d .source ≡ suc l
@@ -57,7 +57,7 @@ module _ (m : Machine) (x : Reading) where
   words-are = map-map wordFor some (reverse (x .run)) ∙ map-id (reverse (x .run))
 
 module _ (m : Machine) (x : Reading) (f : OneFits m x) where
-  word-fits : (l : ℕ) → l < length (x .run) → getD (reverse (x .run)) l 0 < noStart
+  pub word-fits : (l : ℕ) → l < length (x .run) → getD (reverse (x .run)) l 0 < noStart
   word-fits l h = f .inputs (getD (reverse (x .run)) l 0) (mem-reverse (x .run) (getD-mem (reverse (x .run)) l 0 (omega (arith, length-reverse (x .run)))))
 
   pub best-storable : Storable (bestResult m x)

@@ -1,2 +1,4 @@
 pub mod Telling
 pub mod Room
+pub mod Numbered
+pub mod ReadBack

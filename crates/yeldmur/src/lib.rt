@@ -3,13 +3,22 @@
 // numbers behind its references keep their values.
 ghost use mathlib.Core.Path.{_≡_};
 ghost use mathlib.Core.Bool.{cond};
-ghost use Prim.Native.Nat.{ℕ, _≤_};
+ghost use mathlib.Core.List.{List, [], _∷_};
+ghost use Prim.Native.Nat.{ℕ, _≤_, _<_};
 ghost use lib.Dec.{eqb};
 ghost use lib.ListN.{length};
 ghost use Rattle.tropical_weight.specs.Limits.{nodeLimit, linkLimit, listLimit};
 ghost use Rattle.sheet.specs.Sheet.{readNumber, writeNumber};
 ghost use Rattle.sheet.specs.Answers.{parts, written, writtenOver, ReadBack};
-ghost use Rattle.sheet.specs.Machine.{machine as machineFor};
+ghost use Rattle.sheet.specs.Machine.{machine as machineFor, linkFields};
+ghost use Rattle.sheet.specs.Reading.{nextLink};
+ghost use Rattle.machine.specs.Readings.{link as linkOf};
+ghost use Rattle.machine.specs.Distance.{distance as distanceFor};
+ghost use Rattle.sheet_fields.specs.Counts.{countsOf};
+ghost use Rattle.sheet_fields.specs.Nodes.{nextNode};
+ghost use Rattle.sheet_fields.specs.Fields.{fieldsOfNode};
+ghost use Rattle.read_distance.specs.Told.{distanceTold};
+ghost use Rattle.read_distance.specs.Promise.{Holds, asTold};
 ghost use Rattle.text_rows.specs.Convert.{rowsNumber, sheetOver};
 ghost use Rattle.text_rows.specs.Written.{textNumber, textOver};
 ghost use Rattle.rows.specs.Answers.{sheetAnswer, sheetMeasured, textAnswer, textMeasured, Made, Returned, NoText};
@@ -17,14 +26,22 @@ ghost use Rattle.shortest_distance.specs.Outcome.{distanceNumber, distanceAnswe
 ghost use Rattle.shortest_distance.specs.Promise.{Least};
 ghost use Rattle.shortest_path.specs.Outcome.{slotsNeeded, testedNumber, listNumber, listAnswer, workAfter, resultAfter};
 ghost use Rattle.shortest_path.specs.Promise.{Keeps};
-ghost use Rattle.yeldmur.specs.Told.{writtenTold, convertedTold, distancesTold, listedTold};
+ghost use Rattle.read_back.specs.Answers.{countNumber, countAnswer, readingNumber, readingAnswer, runAfter};
+ghost use Rattle.read_back.specs.Promise.{IsTrue};
+ghost use Rattle.yeldmur.specs.Told.{writtenTold, convertedTold, distancesTold, listedTold, countedTold, toldReading, CountTold, ReadingTold, nodeDistanceTold, countsTold, linkTold, nodeTold, numbered};
 ghost use Rattle.list_answer.specs.ListAnswer.{slotsOf};
 ghost use Rattle.yeldmur.specs.Areas.{measuredNumber, bytesOf, bytesEnough, Enough, countsNumber, finalsOf, Serves};
 use list_answer::Listed;
+use read_back::count::Counted;
+use read_back::reading::Told;
+use read_distance::DistanceTold;
 use rows::converted::Converted;
 use sheet::read::Tested;
+use sheet::reader::Step;
 use sheet::refusal;
 use sheet::write::Written;
+use sheet_fields::counts::SheetCounts;
+use sheet_fields::nodes::NodeStep;
 use shortest_distance::Distances;
 use tropical_weight::LINK_LIMIT;
 use tropical_weight::LIST_LIMIT;
@@ -175,6 +192,61 @@ pub extern "C" fn yeldmur_shortest_path(
     }
 }
 
+// How many readings the result of a list for n holds, whose machine has so many states and links: 7, then
+// 30.
+#[no_mangle]
+pub extern "C" fn yeldmur_readings(
+    result: &[u8],
+    n: u32,
+    states: u32,
+    links: u32,
+    count: &mut u32,
+) -> u32
+    ensures { λ r. ⌜ r ≡ countNumber (now (result .entry)) n states links ⌝ }
+    ensures { λ r. ⌜ (r, now (count .exit)) ≡ countedTold (countAnswer (now (result .entry)) n states links) (now (count .entry)) ⌝ }
+    ensures { λ r. ⌜ CountTold (now (result .entry)) n states links r (now (count .exit)) ⌝ }
+{
+    match read_back::count::count_readings(result, n, states, links) {
+        Counted::Readings(readings) => {
+            *count = readings;
+            0
+        }
+        Counted::Refused(k) => k,
+    }
+}
+
+// Reading k, from 0, of the list for n of a sheet, from its result: the numbers of its links, its cost in
+// units and the node where it ends. 1 to 7, 30, 31, 30 and 21.
+#[no_mangle]
+pub extern "C" fn yeldmur_reading(
+    sheet: &[u8],
+    n: u32,
+    result: &[u8],
+    states: u32,
+    links: u32,
+    k: u32,
+    run: &mut [u32],
+    count: &mut u32,
+    cost: &mut i32,
+    end: &mut u32,
+) -> u32
+    ensures { λ r. ⌜ r ≡ readingNumber (now (sheet .entry)) n (now (result .entry)) states links k (length (now (run .entry))) ⌝ }
+    ensures { λ r. ⌜ (r, now (count .exit), now (cost .exit), now (end .exit)) ≡ toldReading (readingAnswer (now (sheet .entry)) n (now (result .entry)) states links k (length (now (run .entry)))) (now (count .entry)) (now (cost .entry)) (now (end .entry)) ⌝ }
+    ensures { λ _. ⌜ now (run .exit) ≡ runAfter (now (sheet .entry)) n (now (result .entry)) states links k (now (run .entry)) ⌝ }
+    ensures { λ r. ⌜ (r ≡ 0 → IsTrue (machineFor (now (sheet .entry))) (now (count .exit)) (now (cost .exit)) (now (end .exit)) (now (run .exit))) ⌝ }
+    ensures { λ r. ⌜ ReadingTold (now (sheet .entry)) n (now (result .entry)) states links k (now (run .entry)) r (now (count .exit)) (now (cost .exit)) (now (end .exit)) (now (run .exit)) ⌝ }
+{
+    match read_back::reading::reading(sheet, n, result, states, links, k, run) {
+        Told::Reading(numbers, units, node) => {
+            *count = numbers;
+            *cost = units;
+            *end = node;
+            0
+        }
+        Told::Refused(number) => number,
+    }
+}
+
 // The bytes that a list for n takes at the most.
 fn bytes_enough(nodes: u32, links: u32, finals: u32, n: u32) -> u32
     requires { ⌜ (nodes ≤ nodeLimit) × (links ≤ linkLimit) × (finals ≤ nodes) × (n ≤ listLimit) ⌝ }
@@ -245,5 +317,110 @@ pub extern "C" fn yeldmur_areas(sheet: &[u8], n: u32, slots: &mut u64, bytes: &m
             let finals = machine::finals::count_finals(sheet, t.links, t.nodes);
             yeldmur_areas_of(t.nodes, t.links, finals, n, slots, bytes)
         }
+    }
+}
+
+// The distance of a node, from the result of yeldmur_shortest_distance, which told so many values: 30,
+// 31 and 30.
+#[no_mangle]
+pub extern "C" fn yeldmur_distance(
+    result: &[u8],
+    values: u32,
+    node: u32,
+    reached: &mut u32,
+    cost: &mut i32,
+) -> u32
+    ensures { λ r. ⌜ (r, now (reached .exit), now (cost .exit)) ≡ nodeDistanceTold (distanceTold (now (result .entry)) values node) (now (reached .entry)) (now (cost .entry)) ⌝ }
+    ensures { λ r. ⌜ ((sheet : List ℕ) → Holds sheet values (now (result .entry)) → node < values → (r, now (reached .exit), now (cost .exit)) ≡ nodeDistanceTold (asTold (distanceFor (machineFor sheet) node)) (now (reached .entry)) (now (cost .entry))) ⌝ }
+{
+    match read_distance::distance_at(result, values, node) {
+        DistanceTold::Reached(units) => {
+            *reached = 1;
+            *cost = units;
+            0
+        }
+        DistanceTold::Unreached => {
+            *reached = 0;
+            *cost = 0;
+            0
+        }
+        DistanceTold::Refused(k) => k,
+    }
+}
+
+// Tests 1 to 4 of a byte string as a sheet, and its counts: N, T and F, and its start.
+#[no_mangle]
+pub extern "C" fn yeldmur_sheet_counts(
+    sheet: &[u8],
+    nodes: &mut u32,
+    links: &mut u32,
+    finals: &mut u32,
+    start: &mut u32,
+) -> u32
+    ensures { λ r. ⌜ r ≡ readNumber (now (sheet .entry)) ⌝ }
+    ensures { λ r. ⌜ (r, now (nodes .exit), now (links .exit), now (finals .exit), now (start .exit)) ≡ countsTold (countsOf (now (sheet .entry))) (now (nodes .entry)) (now (links .entry)) (now (finals .entry)) (now (start .entry)) ⌝ }
+{
+    match sheet_fields::counts::counts(sheet) {
+        SheetCounts::Told {
+            nodes: n,
+            links: t,
+            finals: f,
+            start: s,
+        } => {
+            *nodes = n;
+            *links = t;
+            *finals = f;
+            *start = s;
+            0
+        }
+        SheetCounts::Refused(k) => k,
+    }
+}
+
+// The fields of a link by its number, or 31.
+#[no_mangle]
+pub extern "C" fn yeldmur_link(
+    sheet: &[u8],
+    number: u32,
+    ilabel: &mut u32,
+    olabel: &mut u32,
+    weight_bits: &mut u32,
+    next: &mut u32,
+) -> u32
+    ensures { λ r. ⌜ r ∷ now (ilabel .exit) ∷ now (olabel .exit) ∷ now («weight_bits» .exit) ∷ now (next .exit) ∷ [] ≡ linkTold (nextLink (now (sheet .entry)) number) (now (ilabel .entry) ∷ now (olabel .entry) ∷ now («weight_bits» .entry) ∷ now (next .entry) ∷ []) ⌝ }
+    ensures { λ r. ⌜ (readNumber (now (sheet .entry)) ≡ 0 → r ∷ now (ilabel .exit) ∷ now (olabel .exit) ∷ now («weight_bits» .exit) ∷ now (next .exit) ∷ [] ≡ numbered number (length (machineFor (now (sheet .entry)) .links)) (linkFields (linkOf (machineFor (now (sheet .entry))) number)) (now (ilabel .entry) ∷ now (olabel .entry) ∷ now («weight_bits» .entry) ∷ now (next .entry) ∷ [])) ⌝ }
+{
+    match sheet::reader::link_or_end(sheet, number as usize) {
+        Step::Link(link) => {
+            *ilabel = link.ilabel;
+            *olabel = link.olabel;
+            *weight_bits = tropical_weight::to_bits(link.weight);
+            *next = link.nextstate;
+            0
+        }
+        Step::End => sheet_fields::refusal::ABSENT,
+    }
+}
+
+// The fields of a node by its number, or 31.
+#[no_mangle]
+pub extern "C" fn yeldmur_node(
+    sheet: &[u8],
+    number: u32,
+    links: &mut u32,
+    mark: &mut u32,
+    weight_bits: &mut u32,
+) -> u32
+    ensures { λ r. ⌜ r ∷ now (links .exit) ∷ now (mark .exit) ∷ now («weight_bits» .exit) ∷ [] ≡ nodeTold (nextNode (now (sheet .entry)) number) (now (links .entry) ∷ now (mark .entry) ∷ now («weight_bits» .entry) ∷ []) ⌝ }
+    ensures { λ r. ⌜ (readNumber (now (sheet .entry)) ≡ 0 → r ∷ now (links .exit) ∷ now (mark .exit) ∷ now («weight_bits» .exit) ∷ [] ≡ numbered number (length (machineFor (now (sheet .entry)) .finals)) (fieldsOfNode (machineFor (now (sheet .entry))) number) (now (links .entry) ∷ now (mark .entry) ∷ now («weight_bits» .entry) ∷ [])) ⌝ }
+{
+    match sheet_fields::nodes::node_or_end(sheet, number as usize) {
+        NodeStep::Node(node) => {
+            *links = node.links;
+            *mark = node.mark;
+            *weight_bits = tropical_weight::to_bits(node.weight);
+            0
+        }
+        NodeStep::End => sheet_fields::refusal::ABSENT,
     }
 }

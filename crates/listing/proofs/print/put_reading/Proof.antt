@@ -1,78 +1,113 @@
-use borrow.Author.Needs.{needs, sfits-of}
-use Prim.Native.Nat.{ℕ, _+_, _*_, _≤_}
-use mathlib.Core.Path.{ap, _∙_, subst}
-use mir.Syntax.{w32}
-use mir.Val.{toZ, ofZ}
-use mir.ValLaws.{toZ-ofZ}
+use mathlib.Core.Path.{_≡_, sym, ap, _∙_}
+use Prim.Native.Nat.{ℕ, _+_, _≤_, _<_}
 use native.Mathlib.Omega.{arith}
-use lib.ListN.{length, take}
-use lib.Seq.{getD-take, length-take-le}
+use mathlib.Core.List.{[]}
+use lib.IntN.{ℤ}
+use lib.ListN.{length, getD, take, replicate, length-replicate}
+use mir.Syntax.{w32}
+use mir.Val.{SFits}
+use mir.ValLaws.{toZ-ofZ}
 use denote.Ref.{now}
-use Rattle.tropical_weight.specs.Tropical.{fin}
-use Rattle.decimals.proofs.Storing.{puts-same}
-use Rattle.listing.proofs.RunCosts.{link-in-sheet}
-use Rattle.listing.proofs.Listings.{held-readable, held-count, held-few, front-reading, line-is}
+use Rattle.sheet.specs.Machine.{machine}
+use Rattle.sheet.proofs.Round.{Below}
+use Rattle.listing.specs.Text.{firstLine, lineOf, labelsOf}
+use Rattle.listing.specs.Printed.{listMost, runMost, listFor}
+use Rattle.decimals.proofs.Storing.{puts-same, puts-then}
+use Rattle.listing.proofs.Listings.{told-parts, told-reading, counted-readings, counted-refused, held-count, held-few, held-short, held-told, front-in, line-is}
 use borrow.Author.Needs.{needs}
 use Rattle.listing.proofs.print.put_reading.Statement.{statement}
 use Rattle.listing.proofs.print.put_reading.Tie as tie
 
-slice-aggregate-run-of : tie.Need-slice-aggregate-run-of
-slice-aggregate-run-of c = search needs
+slice-aggregate-reading : tie.Need-slice-aggregate-reading
+slice-aggregate-reading c = search needs
 
-run-of-requires : tie.Need-run-of-requires
-run-of-requires c κs =
-    let root = c .before .before .before .before in
-    let a = root .args in
-    (held-readable (now (a .sheet)) (λ i. omega (arith, c .before .before .before .shared-slice-known .given i)) (a .t) (a .n) (now (a .result)) (a .nodes) (a .links) (root .pre .0 .0), omega (arith, root .pre .0 .1, held-count (now (a .sheet)) (λ i. omega (arith, c .before .before .before .shared-slice-known .given i)) (a .t) (a .n) (now (a .result)) (a .nodes) (a .links) (root .pre .0 .0)), root .pre .1 .0)
+reading-requires : tie.Need-reading-requires
+reading-requires c κs = search needs
 
-slice-aggregate-cost-of : tie.Need-slice-aggregate-cost-of
-slice-aggregate-cost-of c = search needs
-
-cost-of-requires : tie.Need-cost-of-requires
-cost-of-requires c κs =
-    let root = c .before .before .before .before .before .before .before in
-    let a = root .args in
-    (root .pre .0 .0 .accepted, root .pre .0 .0 .trailer, omega (arith, c .before .before .run-of .ensures .2, root .pre .1 .0), front-reading (now (a .sheet)) (λ i. omega (arith, c .before .before .before .before .before .before .shared-slice-known .given i)) (a .t) (a .n) (now (a .result)) (a .nodes) (a .links) (root .pre .0 .0) (a .k) (root .pre .0 .1) _ _ (c .before .before .run-of .result) (c .before .before .run-of .ensures .0) (c .before .before .run-of .ensures .1) (omega (arith, c .before .before .run-of .ensures .2, root .pre .1 .0)))
+enum-known-count : tie.Need-enum-known-count
+enum-known-count c = search needs
 
 slice-aggregate-put-line : tie.Need-slice-aggregate-put-line
 slice-aggregate-put-line c = search needs
 
 add-put-line : tie.Need-add-put-line
 add-put-line c =
-    let root = c .before .before .before .before .before .before .before .before .before in
-    let a = root .args in
-    omega (arith, root .pre .0 .1, held-few (now (a .sheet)) (λ i. omega (arith, c .before .before .before .before .before .before .before .before .shared-slice-known .given i)) (a .t) (a .n) (now (a .result)) (a .nodes) (a .links) (root .pre .0 .0), root .pre .0 .0 .few)
+    let r = c .before .before .before .before .before .before .before .before .before .before in
+    let a = r .args in
+    let below : Below 256 (now (a .sheet)) = λ i. omega (arith, c .before .before .before .before .before .before .before .before .before .shared-slice-known .given i) in
+    omega (arith, r .pre .0 .1, held-few (now (a .sheet)) below (a .n) (now (a .result)) (a .nodes) (a .links) (r .pre .0 .0), r .pre .0 .0 .few)
 
 put-line-requires : tie.Need-put-line-requires
 put-line-requires c κs =
-    let root = c .before .before .before .before .before .before .before .before .before .before in
-    let a = root .args in
-    let count = c .before .before .before .before .before .run-of .result in
-    let run = c .before .before .before .before .before .run-of .last .1 .1 .1 .1 .1 .0 in
-    let few : count ≤ length run = omega (arith, c .before .before .before .before .before .run-of .ensures .2, root .pre .1 .0) in
-    let reading = front-reading (now (a .sheet)) (λ i. omega (arith, c .before .before .before .before .before .before .before .before .before .shared-slice-known .given i)) (a .t) (a .n) (now (a .result)) (a .nodes) (a .links) (root .pre .0 .0) (a .k) (root .pre .0 .1) _ _ (c .before .before .before .before .before .run-of .result) (c .before .before .before .before .before .run-of .ensures .0) (c .before .before .before .before .before .run-of .ensures .1) (omega (arith, c .before .before .before .before .before .run-of .ensures .2, root .pre .1 .0)) in
-    (few, ((λ i b. subst (λ (l : ℕ). 16 * l + 16 ≤ length (now (a .sheet))) (getD-take count run i 0 b) (link-in-sheet (now (a .sheet)) (λ i. omega (arith, c .before .before .before .before .before .before .before .before .before .shared-slice-known .given i)) (root .pre .0 .0 .accepted) (take count run) reading i (omega (arith, length-take-le count run few)))), omega (arith, c .before .before .before .before .before .run-of .ensures .2, root .pre .1)))
+    let r = c .before .before .before .before .before .before .before .before .before .before .before in
+    let a = r .args in
+    let m = machine (now (a .sheet)) in
+    let below : Below 256 (now (a .sheet)) = λ i. omega (arith, c .before .before .before .before .before .before .before .before .before .before .shared-slice-known .given i) in
+    let h = r .pre .0 .0 in
+    let k = r .pre .0 .1 in
+    let back = c .before .before .before .before .before .before .reading in
+    let run = back .last .1 .1 .1 .1 .1 .1 .0 in
+    let size = length-replicate {A = ℕ} runMost 0 in
+    let told = held-told (now (a .sheet)) below (a .n) (now (a .result)) (a .nodes) (a .links) h (a .k) k (replicate runMost 0) (back .result) run (r .pre .1 .0) size (back .ensures .1 .1 .0) in
+    let given = c .before .before .before .count .given in
+    let parts = told-parts m (getD (listFor m (a .n)) (a .k) []) (given .0 .0) (given .0 .1 .0) (given .0 .1 .1 .0) (sym (given .1) ∙ told .0) in
+    let short : given .0 .0 ≤ runMost = omega (arith, parts .0, held-short (now (a .sheet)) below (a .n) (now (a .result)) (a .nodes) (a .links) h (a .k) k (r .pre .1 .0)) in
+    let room : given .0 .0 ≤ length {A = ℕ} (replicate runMost 0) = omega (arith, short, size) in
+    (omega (arith, room, size, back .kept .1 .1 .1 .1 .1 .1 .0), (front-in (now (a .sheet)) below (a .n) (now (a .result)) (a .nodes) (a .links) h (a .k) k (replicate runMost 0) run (given .0 .0) (parts .0) (told .1) room, omega (arith, short, r .pre .1 .1)))
+
+enum-told : tie.Need-enum-told
+enum-told c = search needs
 
 same-length : tie.Need-same-length
 same-length c = search needs
 
 returns : tie.Need-returns
 returns c =
-    let root = c .before .before .before .before .before .before .before .before .before .before .before .before .before in
-    let a = root .args in
+    let r = c .before .before .before .before .before .before .before .before .before .before .before .before .before .before in
+    let a = r .args in
+    let m = machine (now (a .sheet)) in
+    let below : Below 256 (now (a .sheet)) = λ i. omega (arith, c .before .before .before .before .before .before .before .before .before .before .before .before .before .shared-slice-known .given i) in
+    let h = r .pre .0 .0 in
+    let k = r .pre .0 .1 in
+    let back = c .before .before .before .before .before .before .before .before .before .reading in
+    let run = back .last .1 .1 .1 .1 .1 .1 .0 in
+    let size = length-replicate {A = ℕ} runMost 0 in
+    let told = held-told (now (a .sheet)) below (a .n) (now (a .result)) (a .nodes) (a .links) h (a .k) k (replicate runMost 0) (back .result) run (r .pre .1 .0) size (back .ensures .1 .1 .0) in
+    let given = c .before .before .before .before .before .before .count .given in
+    let parts = told-parts m (getD (listFor m (a .n)) (a .k) []) (given .0 .0) (given .0 .1 .0) (given .0 .1 .1 .0) (sym (given .1) ∙ told .0) in
+    let short : given .0 .0 ≤ runMost = omega (arith, parts .0, held-short (now (a .sheet)) below (a .n) (now (a .result)) (a .nodes) (a .links) h (a .k) k (r .pre .1 .0)) in
+    let room : given .0 .0 ≤ length {A = ℕ} (replicate runMost 0) = omega (arith, short, size) in
     let e = c .before .before .put-line .ensures in
-    (puts-same (line-is (now (a .sheet)) (λ i. omega (arith, c .before .before .before .before .before .before .before .before .before .before .before .before .shared-slice-known .given i)) (a .t) (a .n) (now (a .result)) (a .nodes) (a .links) (root .pre .0 .0) (a .k) (root .pre .0 .1) _ _ (c .before .before .before .before .before .before .before .before .run-of .result) (c .before .before .before .before .before .before .before .before .run-of .ensures .0) (c .before .before .before .before .before .before .before .before .run-of .ensures .1) (omega (arith, c .before .before .before .before .before .before .before .before .run-of .ensures .2, root .pre .1 .0)) (a .k + 1) (toZ w32 (ofZ w32 (c .before .before .before .before .before .cost-of .result))) (ap fin (toZ-ofZ w32 (c .before .before .before .before .before .cost-of .result) (sfits-of (c .before .before .before .before .before .cost-of .ok))) ∙ c .before .before .before .before .before .cost-of .ensures)) (e .0), omega (arith, e .1, c .before .before .before .before .before .before .before .before .run-of .ensures .2, root .pre .1 .0))
+    let line = line-is (now (a .sheet)) below (a .n) (now (a .result)) (a .nodes) (a .links) h (a .k) k (replicate runMost 0) run (given .0 .0) (parts .0) (told .1) room (a .k + 1) in
+    let fits : SFits w32 (given .0 .1 .0) = search needs in
+    let cost = toZ-ofZ w32 (given .0 .1 .0) fits in
+    (puts-same (ap (λ (z : ℤ). lineOf (a .k + 1) z (labelsOf (now (a .sheet)) (take (given .0 .0) run))) (cost ∙ parts .1) ∙ line) (e .0), omega (arith, e .1, short))
+
+returns-2 : tie.Need-returns-2
+returns-2 c =
+    let r = c .before .before .before .before .before .before .before .before in
+    let a = r .args in
+    let m = machine (now (a .sheet)) in
+    let below : Below 256 (now (a .sheet)) = λ i. omega (arith, c .before .before .before .before .before .before .before .shared-slice-known .given i) in
+    let h = r .pre .0 .0 in
+    let k = r .pre .0 .1 in
+    let back = c .before .before .before .reading in
+    let run = back .last .1 .1 .1 .1 .1 .1 .0 in
+    let size = length-replicate {A = ℕ} runMost 0 in
+    let told = held-told (now (a .sheet)) below (a .n) (now (a .result)) (a .nodes) (a .links) h (a .k) k (replicate runMost 0) (back .result) run (r .pre .1 .0) size (back .ensures .1 .1 .0) in
+    absurd (told-reading m (getD (listFor m (a .n)) (a .k) []) _ (sym (c .enum-told .given .1) ∙ told .0))
 
 pub put-reading-spec : {M : Type 1} → statement M
 put-reading-spec =
     tie.close
     (tie.spec
-    slice-aggregate-run-of
-    run-of-requires
-    slice-aggregate-cost-of
-    cost-of-requires
+    slice-aggregate-reading
+    reading-requires
+    enum-known-count
     slice-aggregate-put-line
     add-put-line
     put-line-requires
+    enum-told
     same-length
-    returns)
+    returns
+    returns-2)

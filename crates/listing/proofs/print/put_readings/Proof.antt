@@ -15,11 +15,11 @@ use Rattle.listing.proofs.print.put_readings.Statement.{statement}
 use Rattle.listing.proofs.print.put_readings.Tie as tie
 
 abbrev Inv-loop : tie.InvT-loop
-Inv-loop sheet t n result nodes links count out₀ at next₀ k₀ out next k =
+Inv-loop sheet n result nodes links count out₀ at next₀ k₀ out next k =
     (k ≤ count) × (length out ≡ length out₀) × (next ≤ at + lineMost * k) × Puts out₀ at (readingLines (machine sheet) 1 (take k (listFor (machine sheet) n))) out next
 
 abbrev μ-loop : tie.MeasureT-loop
-μ-loop sheet t n result nodes links count out₀ at next₀ k₀ out next k = count - k
+μ-loop sheet n result nodes links count out₀ at next₀ k₀ out next k = count - k
 
 loop-holds : tie.Need-loop-holds Inv-loop μ-loop
 loop-holds c =
@@ -45,7 +45,7 @@ loop-again c =
     let turn = c .before .before .before .before .before .loop in
     let e = c .before .before .put-reading .ensures in
     let b : turn .k < length (listFor (machine (now (a .sheet))) (a .n)) = omega (arith, c .before .before .before .before .loop-test .taken, root .pre .0 .1) in
-    (omega (arith, c .before .before .before .before .loop-test .taken), c .before .before .put-reading .kept .1 .1 .1 .1 .1 .1 .1 .0 ∙ turn .inv .1, omega (arith, e .1, turn .inv .2), puts-same (lines-next (machine (now (a .sheet))) (listFor (machine (now (a .sheet))) (a .n)) (turn .k) b) (puts-then (turn .inv .3) (e .0)))
+    (omega (arith, c .before .before .before .before .loop-test .taken), c .before .before .put-reading .kept .1 .1 .1 .1 .1 .1 .0 ∙ turn .inv .1, omega (arith, e .1, turn .inv .2), puts-same (lines-next (machine (now (a .sheet))) (listFor (machine (now (a .sheet))) (a .n)) (turn .k) b) (puts-then (turn .inv .3) (e .0)))
 
 same-length : tie.Need-same-length Inv-loop μ-loop
 same-length c = search needs

@@ -1,0 +1,4 @@
+pub mod Counting
+pub mod Leaving
+pub mod Passed
+pub mod Bench
