@@ -1,5 +1,5 @@
 /* The limits that the header names: each passes, and one more is refused. The longest chain, of as many nodes as there may be with every
- * weight the largest: its distances and the cost of its one reading, added up in double precision, which has these numbers exactly. */
+ * weight the largest: its distances and the cost of its one reading. */
 #include <stdio.h>
 #include <string.h>
 #include "yeldmur.h"
@@ -14,18 +14,10 @@ static uint8_t result[64 * NODES];
 static uint32_t work[YELDMUR_SLOT * 8 * NODES];
 static uint64_t size;
 
-static uint32_t word(const uint8_t *at) { return at[0] | at[1] << 8 | at[2] << 16 | (uint32_t)at[3] << 24; }
-
 static uint32_t bits_of(float weight) {
     uint32_t bits;
     memcpy(&bits, &weight, sizeof bits);
     return bits;
-}
-
-static double units_of(uint32_t bits) {
-    float weight;
-    memcpy(&weight, &bits, sizeof weight);
-    return 64.0 * weight;
 }
 
 /* A chain of so many nodes, each weight of so many sixty-fourths, the last node's final weight too. */
@@ -52,22 +44,23 @@ static void print_distances(void) {
         printf("distances: refused %u\n", number);
         return;
     }
-    for (uint32_t v = 0; v < values; v++) differ += word(result + 8 * v) != 1 || units_of(word(result + 8 * v + 4)) != (double)UNITS * v;
-    printf("distances: %u nodes, the last at %.0f, %u differ\n", values, units_of(word(result + 8 * values - 4)) / 64, differ);
+    int32_t cost = 0;
+    for (uint32_t v = 0; v < values; v++) {
+        uint32_t reached = 0;
+        differ += yeldmur_distance(result, sizeof result, values, v, &reached, &cost) || !reached || cost != UNITS * (int32_t)v;
+    }
+    printf("distances: %u nodes, the last at %d, %u differ\n", values, cost / 64, differ);
 }
 
-/* The sum of every link's weight and of every final weight: there is one reading, and each link is on it. */
+/* The one reading, which has each link of the chain. */
 static void print_list(uint32_t n) {
-    uint32_t states, links, taken;
+    static uint32_t run[NODES];
+    uint32_t states, links, taken, count, end;
+    int32_t cost;
     uint32_t number = yeldmur_shortest_path(sheet, size, n, work, sizeof work / 4, result, sizeof result, &states, &links, &taken);
-    double cost = 0;
-    if (number) {
-        printf("n = %u: refused %u\n", n, number);
-        return;
-    }
-    for (uint32_t l = 0; l < links; l++) cost += units_of(word(result + 16 * l + 8));
-    for (uint32_t s = 0; s < states; s++) cost += units_of(word(result + 16 * links + 12 * s + 8));
-    printf("n = %u: cost %.0f\n", n, cost / 64);
+    if (!number) number = yeldmur_reading(sheet, size, n, result, sizeof result, states, links, 0, run, NODES, &count, &cost, &end);
+    if (number) printf("n = %u: refused %u\n", n, number);
+    else printf("n = %u: %u links to node %u, %d sixty-fourths\n", n, count, end, cost);
 }
 
 int main(void) {

@@ -1,5 +1,5 @@
 /* Calls the library in every rounding mode, with denormal numbers kept and flushed to zero: each answer must be the one of the default
- * environment, cell by cell, and its costs those worked out here. The one difference is a distance of 0 in which weights cancel: rounding
+ * environment, cell by cell, and its costs those worked out here, also as the library reads them back. The one difference is a distance of 0 in which weights cancel: rounding
  * downward it is negative zero. All arithmetic of this program is in integers, so that no compiler can assume a mode for it. */
 #include <fenv.h>
 #include <stdio.h>
@@ -175,6 +175,35 @@ static void drop_signs(struct answer *a) {
     }
 }
 
+/* What the library reads back in this environment: the costs worked out here. */
+static void read_distances(const struct answer *a, int mode, uint32_t flushed) {
+    int32_t costs[MOST], cost;
+    for (uint32_t v = 0; v < nodes; v += nodes > 64 ? nodes / 7 : 1) {
+        uint32_t reached;
+        enter(mode, flushed);
+        uint32_t number = yeldmur_distance(a->result, bytes, a->counts[0], v, &reached, &cost);
+        leave(mode, flushed);
+        cheapest(1, v, costs);
+        if (number || !reached || cost != costs[0]) fail("another distance read back");
+    }
+}
+
+static void read_list(const struct answer *a, uint32_t n, int mode, uint32_t flushed) {
+    static uint32_t run[NODES];
+    uint32_t readings, count, end;
+    int32_t costs[MOST], cost;
+    enter(mode, flushed);
+    uint32_t number = yeldmur_readings(a->result, bytes, n, a->counts[0], a->counts[1], &readings);
+    leave(mode, flushed);
+    if (number || readings != cheapest(n, nodes - 1, costs)) fail("another count read back");
+    for (uint32_t k = 0; k < readings; k++) {
+        enter(mode, flushed);
+        number = yeldmur_reading(sheet, size, n, a->result, bytes, a->counts[0], a->counts[1], k, run, NODES, &count, &cost, &end);
+        leave(mode, flushed);
+        if (number || count + 1 != nodes || end + 1 != nodes || cost != costs[k] + final_weight) fail("another reading read back");
+    }
+}
+
 static struct answer lent(void) {
     struct answer a = {0, {0, 0, 0}, malloc(4 * YELDMUR_SLOT * slots), malloc(bytes)};
     if (!a.work || !a.result) fail("no memory");
@@ -198,6 +227,8 @@ static void compare(uint32_t n) {
             printf("n = %u, rounding %s, denormal numbers %s: ", n, MODES[m / 2].name, m % 2 ? "flushed" : "kept");
             fail("another answer");
         }
+        if (n == 0) read_distances(&other, MODES[m / 2].mode, m % 2 ? FLUSHED : 0);
+        else read_list(&other, n, MODES[m / 2].mode, m % 2 ? FLUSHED : 0);
     }
     free(plain.work), free(plain.result), free(other.work), free(other.result);
 }

@@ -11,7 +11,7 @@ enum { NODES = YELDMUR_NODE_LIMIT, WIDTH = YELDMUR_LINK_LIMIT / NODES, LINKS = W
 
 static uint32_t link_words[4 * LINKS], node_words[3 * NODES];
 static uint8_t sheet[16 * LINKS + 12 * NODES + 20], *result;
-static uint32_t n, *work;
+static uint32_t n, *work, values, states, links, taken, run_area[NODES];
 static uint64_t size, slots, bytes;
 
 /* The most that rows of this sheet can take: 56 bytes a link, 23 a final node. */
@@ -44,13 +44,30 @@ static void areas(void) {
 }
 
 static void distances(void) {
-    uint32_t values;
     if (yeldmur_shortest_distance(sheet, size, work, YELDMUR_SLOT * slots, result, bytes, &values)) exit(1);
 }
 
+static void read_distance(void) {
+    uint32_t reached;
+    int32_t cost;
+    if (yeldmur_distance(result, bytes, values, NODES - 1, &reached, &cost)) exit(1);
+}
+
 static void list(void) {
-    uint32_t states, links, taken;
     if (yeldmur_shortest_path(sheet, size, n, work, YELDMUR_SLOT * slots, result, bytes, &states, &links, &taken)) exit(1);
+}
+
+static void read_list(void) {
+    uint32_t readings, count, end;
+    int32_t cost;
+    if (yeldmur_readings(result, bytes, n, states, links, &readings)) exit(1);
+    if (yeldmur_reading(sheet, size, n, result, bytes, states, links, readings - 1, run_area, NODES, &count, &cost, &end)) exit(1);
+}
+
+static void fields(void) {
+    uint32_t a, b, c, d;
+    if (yeldmur_sheet_counts(sheet, size, &a, &b, &c, &d)) exit(1);
+    if (yeldmur_link(sheet, size, LINKS - 1, &a, &b, &c, &d) || yeldmur_node(sheet, size, NODES - 1, &a, &b, &c)) exit(1);
 }
 
 static void *run(void *call) {
@@ -85,7 +102,8 @@ static void make_links(uint32_t dear) {
 
 static const struct { void (*call)(void); const char *name; } CALLS[] = {
     {write_sheet, "writing"}, {read_sheet, "reading"}, {to_rows, "sheet to rows"}, {to_sheet, "rows to sheet"},
-    {areas, "areas"}, {distances, "distances"}, {list, "lists"}};
+    {areas, "areas"}, {distances, "distances"}, {read_distance, "distances read back"}, {list, "lists"}, {read_list, "lists read back"},
+    {fields, "fields of a sheet"}};
 
 enum { COUNT = sizeof CALLS / sizeof *CALLS };
 

@@ -3,7 +3,8 @@
 //! A *sheet* is a machine of nodes and links, as bytes. A *reading* is a run of links from its start to a final node; its cost
 //! is the sum of its weights and the final weight. Of every sheet that it accepts, and for every n from 1 to 64, the library is
 //! proved to list as many readings as the smaller of n and the number of readings: each once, in order of cost, and none left out
-//! that is cheaper. What this crate adds, memory for the areas and the reading of results, is plain Rust with tests.
+//! that is cheaper. Results and sheets are read back by the library's own calls, which are proved too. What this crate adds, memory for the
+//! areas and for what is read back, is plain Rust with tests.
 //!
 //! ```
 //! use yeldmur::{distances, list, Refusal, Sheet};
@@ -22,8 +23,9 @@
 //! assert_eq!(list.taken(), 11);
 //! let costs: Vec<i32> = list.readings().map(|reading| reading.cost()).collect();
 //! assert_eq!(costs, [112, 112, 144]); // in sixty-fourths
-//! let third: Vec<u32> = list.readings().nth(2).unwrap().links().map(|link| link.ilabel).collect();
-//! assert_eq!(third, [1, 5, 4]);
+//! let third = list.reading(2).unwrap();
+//! let labels: Vec<u32> = third.links().map(|link| link.ilabel).collect();
+//! assert_eq!((labels, third.end()), (vec![1, 5, 4], 3));
 //! # Ok(())
 //! # }
 //! ```
@@ -54,11 +56,13 @@ pub mod raw;
 mod refusal;
 mod rows;
 mod sheet;
+mod units;
 
 pub use limits::{LINK_LIMIT, LIST_LIMIT, NODE_LIMIT, WEIGHT_LIMIT};
 pub use list::{distances, list, Areas, List, Reading};
 pub use refusal::Refusal;
 pub use sheet::{Link, Sheet};
+pub use units::units;
 
 // has the examples in both README.md files run as tests
 #[cfg(doctest)]

@@ -1,19 +1,19 @@
-//! Distances and lists of readings, in areas that this crate makes.
+//! Distances and lists of readings, in areas that this crate makes. The library reads its own results back: this module keeps what it tells.
 #![forbid(unsafe_code)]
 
 use std::borrow::Cow;
 use std::fmt;
 
-use crate::layout::{distance, node_place, units, unless_none, weight, word, DISTANCE, LINK};
-use crate::raw::{self, Listed};
+use crate::raw::{self, Listed, ReadBack};
+use crate::units::weight;
 use crate::{Link, Refusal, Sheet};
 
 /// The distances of a sheet's nodes: one value per node up to the highest reached, `None` for an unreached one. Without
 /// a start there are none. Refusals 5 and 6.
 pub fn distances(sheet: &Sheet) -> Result<Vec<Option<f32>>, Refusal> {
     let mut areas = Areas::new();
-    let values = areas.distances(sheet)?.collect();
-    Ok(values)
+    areas.find_distances(sheet)?;
+    Ok(areas.values)
 }
 
 /// The n cheapest readings of a sheet, n up to 64, cheapest first. Refusals 5 to 7.
@@ -25,17 +25,24 @@ pub fn list(sheet: &Sheet, n: u32) -> Result<List<'_>, Refusal> {
     let mut result = areas.result;
     result.truncate(listed.result_len());
     result.shrink_to_fit();
-    Ok(List::new(sheet, n, listed, Cow::Owned(result)))
+    Ok(List {
+        sheet,
+        listed,
+        result: Cow::Owned(result),
+        read: Cow::Owned(areas.read),
+    })
 }
 
-/// A work area and a result area that grow as a sheet needs them and are kept, so that calls in a loop allocate
-/// only where a sheet needs more than those before it. What a call leaves in them does not touch the next.
+/// A work area and a result area that grow as a sheet needs them and are kept, with what was read back from the result, so that calls in
+/// a loop allocate only where a sheet needs more than those before it. What a call leaves in them does not touch the next.
 ///
 /// For n = 64 and a sheet at the limits the two take about 34 MB each.
 #[derive(Default)]
 pub struct Areas {
     work: Vec<u32>,
     result: Vec<u8>,
+    values: Vec<Option<f32>>,
+    read: ReadList,
 }
 
 impl Areas {
@@ -49,23 +56,38 @@ impl Areas {
         &mut self,
         sheet: &Sheet,
     ) -> Result<impl ExactSizeIterator<Item = Option<f32>> + '_, Refusal> {
-        // n = 1 needs the same slots, and its result has more bytes for each node than a distance
-        self.fit(sheet, 1);
-        let count = raw::shortest_distance(sheet.bytes(), &mut self.work, &mut self.result)?;
-        let result = &self.result;
-        Ok((0..count as usize).map(move |node| distance(result, DISTANCE * node)))
+        self.find_distances(sheet)?;
+        Ok(self.values.iter().copied())
     }
 
     /// As [`list`], in these areas, which the list borrows.
     pub fn list<'a>(&'a mut self, sheet: &'a Sheet, n: u32) -> Result<List<'a>, Refusal> {
         let listed = self.make(sheet, n)?;
-        let result = Cow::Borrowed(&self.result[..listed.result_len()]);
-        Ok(List::new(sheet, n, listed, result))
+        Ok(List {
+            sheet,
+            listed,
+            result: Cow::Borrowed(&self.result[..listed.result_len()]),
+            read: Cow::Borrowed(&self.read),
+        })
+    }
+
+    fn find_distances(&mut self, sheet: &Sheet) -> Result<(), Refusal> {
+        // n = 1 needs the same slots, and its result has more bytes for each node than a distance
+        self.fit(sheet, 1);
+        let count = raw::shortest_distance(sheet.bytes(), &mut self.work, &mut self.result)?;
+        self.values.clear();
+        for node in 0..count {
+            let cost = raw::distance(&self.result, count, node)?;
+            self.values.push(cost.map(weight));
+        }
+        Ok(())
     }
 
     fn make(&mut self, sheet: &Sheet, n: u32) -> Result<Listed, Refusal> {
         self.fit(sheet, n);
-        raw::shortest_path(sheet.bytes(), n, &mut self.work, &mut self.result)
+        let listed = raw::shortest_path(sheet.bytes(), n, &mut self.work, &mut self.result)?;
+        self.read.fill(sheet, n, &self.result, listed)?;
+        Ok(listed)
     }
 
     // Neither 20 nor 21 can come in areas of this size. Where the counts or n are refused the areas stay as they are: the call that
@@ -94,28 +116,49 @@ impl fmt::Debug for Areas {
     }
 }
 
-/// A list of readings: a machine that holds them, and for each link of it the input link that it repeats.
+// A list as the library reads it back: the runs of its readings, one behind the other, and for each where its run begins and what else
+// is told of it. Each call tests the sheet anew, so that a reading is read back once and kept.
+#[derive(Clone, Default)]
+struct ReadList {
+    runs: Vec<u32>,
+    told: Vec<(usize, ReadBack)>,
+}
+
+impl ReadList {
+    // The library is proved to read its own answers back. A refusal here would be a fault in this crate or in memory, and goes to the
+    // caller as any other: a list with a gap must not look like a whole one.
+    fn fill(
+        &mut self,
+        sheet: &Sheet,
+        n: u32,
+        result: &[u8],
+        listed: Listed,
+    ) -> Result<(), Refusal> {
+        self.runs.clear();
+        self.told.clear();
+        for k in 0..raw::readings(result, n, listed)? {
+            let first = self.runs.len();
+            // links climb, so that a reading has fewer of them than there are nodes
+            self.runs.resize(first + sheet.node_count() as usize, 0);
+            let run = &mut self.runs[first..];
+            let told = raw::reading(sheet.bytes(), n, result, listed, k, run)?;
+            self.runs.truncate(first + told.links);
+            self.told.push((first, told));
+        }
+        Ok(())
+    }
+}
+
+/// A list of readings, cheapest first.
 #[derive(Clone)]
 pub struct List<'a> {
     sheet: &'a Sheet,
-    n: u32,
     listed: Listed,
-    readings: u32,
     result: Cow<'a, [u8]>,
+    read: Cow<'a, ReadList>,
 }
 
-impl<'a> List<'a> {
-    fn new(sheet: &'a Sheet, n: u32, listed: Listed, result: Cow<'a, [u8]>) -> List<'a> {
-        let readings = count_readings(n, listed, &result);
-        List {
-            sheet,
-            n,
-            listed,
-            readings,
-            result,
-        }
-    }
-
+impl List<'_> {
     /// How many entries the search has taken; 0 for n below 2, and where there is no reading.
     pub fn taken(&self) -> u32 {
         self.listed.taken
@@ -123,24 +166,25 @@ impl<'a> List<'a> {
 
     /// How many readings there are.
     pub fn len(&self) -> usize {
-        self.readings as usize
+        self.read.told.len()
     }
 
     /// Whether there are none.
     pub fn is_empty(&self) -> bool {
-        self.readings == 0
+        self.len() == 0
     }
 
     /// The readings, cheapest first.
     pub fn readings(
         &self,
     ) -> impl ExactSizeIterator<Item = Reading<'_>> + DoubleEndedIterator + '_ {
-        (0..self.readings).map(|place| self.reading_at(place))
+        self.read.told.iter().map(|told| self.reading_of(told))
     }
 
     /// The reading at a place, from 0, or none past the last.
     pub fn reading(&self, place: usize) -> Option<Reading<'_>> {
-        (place < self.len()).then(|| self.reading_at(place as u32))
+        let told = self.read.told.get(place)?;
+        Some(self.reading_of(told))
     }
 
     /// The machine that holds the readings, laid out as a sheet. [`Sheet::read`] takes it; its links do not climb.
@@ -148,66 +192,17 @@ impl<'a> List<'a> {
         &self.result[..self.listed.machine_len()]
     }
 
-    /// For each link of the machine the number of the input link that it repeats, or none.
-    pub fn words(&self) -> impl ExactSizeIterator<Item = Option<u32>> + '_ {
-        (0..self.listed.links).map(|link| self.repeats(link))
-    }
-
     /// The whole answer: the bytes of the machine, then a word for each link of it.
     pub fn result(&self) -> &[u8] {
         &self.result
     }
 
-    fn reading_at(&self, place: u32) -> Reading<'_> {
-        Reading { list: self, place }
-    }
-
-    // The state that a reading's way ends at: with n = 1 the states count from there.
-    fn last(&self) -> u32 {
-        if self.n == 1 {
-            0
-        } else {
-            1
+    fn reading_of(&self, &(first, told): &(usize, ReadBack)) -> Reading<'_> {
+        Reading {
+            sheet: self.sheet,
+            numbers: &self.read.runs[first..first + told.links],
+            told,
         }
-    }
-
-    // The first state of a reading's way from which each state has just one link: with n = 1 the machine's start, else the
-    // state that the start's link for this place leads to. That link repeats none and weighs nothing.
-    fn first(&self, place: u32) -> u32 {
-        if self.n == 1 {
-            self.listed.states - 1
-        } else {
-            self.next(place)
-        }
-    }
-
-    // The only link of a state on a way, not the last. With n = 1 states from 1 have one each; else the links of the start,
-    // state 0, stand first, the last state, 1, has none, and those from 2 have one each.
-    fn only_link(&self, state: u32) -> u32 {
-        if self.n == 1 {
-            state - 1
-        } else {
-            self.readings + state - 2
-        }
-    }
-
-    fn next(&self, link: u32) -> u32 {
-        word(&self.result, LINK * link as usize + 12)
-    }
-
-    fn weight(&self, link: u32) -> f32 {
-        weight(&self.result, LINK * link as usize + 8)
-    }
-
-    fn final_weight(&self, state: u32) -> f32 {
-        weight(&self.result, node_place(self.listed.links, state) + 8)
-    }
-
-    fn repeats(&self, link: u32) -> Option<u32> {
-        unless_none(word(
-            &self.result,
-            self.listed.machine_len() + 4 * link as usize,
-        ))
     }
 }
 
@@ -220,50 +215,34 @@ impl fmt::Debug for List<'_> {
     }
 }
 
-// A machine that is not empty holds one reading with n = 1, else one for each link of its start, state 0.
-fn count_readings(n: u32, listed: Listed, result: &[u8]) -> u32 {
-    if listed.states == 0 {
-        0
-    } else if n == 1 {
-        1
-    } else {
-        word(result, node_place(listed.links, 0))
-    }
-}
-
 /// One reading of a list: a way from the start of its sheet to a final node.
 #[derive(Clone, Copy)]
 pub struct Reading<'a> {
-    list: &'a List<'a>,
-    place: u32,
+    sheet: &'a Sheet,
+    numbers: &'a [u32],
+    told: ReadBack,
 }
 
 impl<'a> Reading<'a> {
     /// What it costs, in sixty-fourths: the sum of the weights of its links and of the final weight.
     pub fn cost(&self) -> i32 {
-        let list = self.list;
-        let along: i32 = self.way().map(|link| units(list.weight(link))).sum();
-        along + units(list.final_weight(list.last()))
+        self.told.cost
+    }
+
+    /// The node where it ends, a final one.
+    pub fn end(&self) -> u32 {
+        self.told.end
     }
 
     /// The numbers of its links in the sheet, from the start on. There may be none.
-    pub fn numbers(&self) -> impl Iterator<Item = u32> + 'a {
-        let list = self.list;
-        self.way().filter_map(move |link| list.repeats(link))
+    pub fn numbers(&self) -> impl ExactSizeIterator<Item = u32> + DoubleEndedIterator + 'a {
+        self.numbers.iter().copied()
     }
 
     /// Its links as the sheet has them, from the start on. There may be none.
-    pub fn links(&self) -> impl Iterator<Item = Link> + 'a {
-        let sheet = self.list.sheet;
-        self.numbers().filter_map(move |number| sheet.link(number))
-    }
-
-    // The links of the list's machine that it lies along.
-    fn way(&self) -> Way<'a> {
-        Way {
-            list: self.list,
-            state: self.list.first(self.place),
-        }
+    pub fn links(&self) -> impl ExactSizeIterator<Item = Link> + DoubleEndedIterator + 'a {
+        let sheet = self.sheet;
+        self.numbers().map(move |number| sheet.link_at(number))
     }
 }
 
@@ -271,25 +250,8 @@ impl fmt::Debug for Reading<'_> {
     fn fmt(&self, f: &mut fmt::Formatter<'_>) -> fmt::Result {
         f.debug_struct("Reading")
             .field("cost", &self.cost())
-            .field("numbers", &self.numbers().collect::<Vec<_>>())
+            .field("numbers", &self.numbers)
+            .field("end", &self.end())
             .finish()
-    }
-}
-
-struct Way<'a> {
-    list: &'a List<'a>,
-    state: u32,
-}
-
-impl Iterator for Way<'_> {
-    type Item = u32;
-
-    fn next(&mut self) -> Option<u32> {
-        if self.state == self.list.last() {
-            return None;
-        }
-        let link = self.list.only_link(self.state);
-        self.state = self.list.next(link);
-        Some(link)
     }
 }

@@ -6,7 +6,7 @@
 #![forbid(unsafe_code)]
 
 use crate::ffi;
-use crate::layout::{LINK, NODE, TRAILER};
+use crate::layout::{unless_none, LINK, NODE, TRAILER};
 use crate::Refusal;
 
 /// The 32-bit words of a slot of the work area.
@@ -49,6 +49,30 @@ impl Listed {
     pub fn result_len(&self) -> usize {
         self.machine_len() + 4 * self.links as usize
     }
+}
+
+/// What is told of a reading besides the numbers of its links.
+#[derive(Clone, Copy, Debug, PartialEq, Eq)]
+pub struct ReadBack {
+    /// How many links it has: their numbers stand first in the run.
+    pub links: usize,
+    /// What it costs, in sixty-fourths.
+    pub cost: i32,
+    /// The node where it ends.
+    pub end: u32,
+}
+
+/// The counts of a sheet, and its start.
+#[derive(Clone, Copy, Debug, PartialEq, Eq, Hash)]
+pub struct Counts {
+    /// How many nodes there are.
+    pub nodes: u32,
+    /// How many links there are.
+    pub links: u32,
+    /// How many nodes are final.
+    pub finals: u32,
+    /// The start, or none.
+    pub start: Option<u32>,
 }
 
 fn told(number: u32) -> Result<(), Refusal> {
@@ -139,6 +163,107 @@ pub fn shortest_path(
         links,
         taken,
     })
+}
+
+/// How many readings the result of [`shortest_path`] for n holds: tests 7, then 30 where the result is shorter than the counts told
+/// say, or has more than n readings. What follows the answer's bytes is not looked at.
+pub fn readings(result: &[u8], n: u32, listed: Listed) -> Result<u32, Refusal> {
+    let mut count = 0;
+    told(ffi::readings(
+        result,
+        n,
+        listed.states,
+        listed.links,
+        &mut count,
+    ))?;
+    Ok(count)
+}
+
+/// Reading k, from 0 and cheapest first, of the result of [`shortest_path`] on this sheet and n: tests 1 to 7, then 30 as [`readings`]
+/// gives it, 31 where k is not below the count, 30 where its way leaves the result or is no reading of the sheet, then 21 where the run
+/// is too short for it. The run begins with the numbers of its links; [`NODE_LIMIT`](crate::NODE_LIMIT) words are always enough.
+///
+/// Of any result that is not refused, what is told is a reading of the sheet at its cost.
+pub fn reading(
+    sheet: &[u8],
+    n: u32,
+    result: &[u8],
+    listed: Listed,
+    k: u32,
+    run: &mut [u32],
+) -> Result<ReadBack, Refusal> {
+    let (mut count, mut cost, mut end) = (0, 0, 0);
+    told(ffi::reading(
+        sheet,
+        n,
+        result,
+        listed.states,
+        listed.links,
+        k,
+        run,
+        &mut count,
+        &mut cost,
+        &mut end,
+    ))?;
+    Ok(ReadBack {
+        links: count as usize,
+        cost,
+        end,
+    })
+}
+
+/// The distance of a node in sixty-fourths, or none where it is unreached, from the result of [`shortest_distance`], which told so
+/// many values: tests 30 where the result is shorter than these, 31 where the node is not below their number, then 30 where its two
+/// words are no distance.
+pub fn distance(result: &[u8], values: u32, node: u32) -> Result<Option<i32>, Refusal> {
+    let (mut reached, mut cost) = (0, 0);
+    told(ffi::distance(result, values, node, &mut reached, &mut cost))?;
+    Ok((reached == 1).then_some(cost))
+}
+
+/// Reads a sheet, tests 1 to 4, and tells its counts.
+pub fn sheet_counts(sheet: &[u8]) -> Result<Counts, Refusal> {
+    let (mut nodes, mut links, mut finals, mut start) = (0, 0, 0, 0);
+    told(ffi::sheet_counts(
+        sheet,
+        &mut nodes,
+        &mut links,
+        &mut finals,
+        &mut start,
+    ))?;
+    Ok(Counts {
+        nodes,
+        links,
+        finals,
+        start: unless_none(start),
+    })
+}
+
+/// The four words of a link of a sheet that has passed tests 1 to 4, as [`write_sheet`] takes them: 31 past the last.
+pub fn link(sheet: &[u8], number: u32) -> Result<[u32; 4], Refusal> {
+    let [mut ilabel, mut olabel, mut weight_bits, mut next] = [0; 4];
+    told(ffi::link(
+        sheet,
+        number,
+        &mut ilabel,
+        &mut olabel,
+        &mut weight_bits,
+        &mut next,
+    ))?;
+    Ok([ilabel, olabel, weight_bits, next])
+}
+
+/// The three words of a node of a sheet that has passed tests 1 to 4, as [`write_sheet`] takes them: 31 past the last.
+pub fn node(sheet: &[u8], number: u32) -> Result<[u32; 3], Refusal> {
+    let [mut links, mut mark, mut weight_bits] = [0; 3];
+    told(ffi::node(
+        sheet,
+        number,
+        &mut links,
+        &mut mark,
+        &mut weight_bits,
+    ))?;
+    Ok([links, mark, weight_bits])
 }
 
 /// The areas that a list for n is made in: tests 1 to 7. Those for n = 1 are long enough for distances, too.

@@ -1,4 +1,4 @@
-//! The refusals, with the numbers and words of the requirements.
+//! The refusals, with the numbers and words of the requirements, and those of the calls that read answers back.
 #![forbid(unsafe_code)]
 
 use std::error::Error;
@@ -35,9 +35,13 @@ pub enum Refusal {
     WorkArea,
     /// 21: result area shorter than this very answer.
     ResultArea,
+    /// 30: a result that is no answer: it cannot be read back as the list, or the distances, that it is said to hold.
+    NoAnswer,
+    /// 31: no reading, distance, link or node has this number.
+    Absent,
 }
 
-const ALL: [Refusal; 11] = [
+const ALL: [Refusal; 13] = [
     Refusal::Layout,
     Refusal::Start,
     Refusal::Next,
@@ -49,10 +53,12 @@ const ALL: [Refusal; 11] = [
     Refusal::NoRows,
     Refusal::WorkArea,
     Refusal::ResultArea,
+    Refusal::NoAnswer,
+    Refusal::Absent,
 ];
 
 impl Refusal {
-    /// The number that the requirements give it.
+    /// Its number.
     pub fn number(self) -> u32 {
         match self {
             Refusal::Layout => 1,
@@ -66,6 +72,8 @@ impl Refusal {
             Refusal::NoRows => 9,
             Refusal::WorkArea => 20,
             Refusal::ResultArea => 21,
+            Refusal::NoAnswer => 30,
+            Refusal::Absent => 31,
         }
     }
 
@@ -74,7 +82,8 @@ impl Refusal {
         ALL.into_iter().find(|refusal| refusal.number() == number)
     }
 
-    fn words(self) -> &'static str {
+    /// What it means.
+    pub fn words(self) -> &'static str {
         match self {
             Refusal::Layout => {
                 "length, offsets, a count or offset too big for its field, marks, \
@@ -92,6 +101,8 @@ impl Refusal {
             Refusal::NoRows => "a sheet that has no rows",
             Refusal::WorkArea => "work area shorter than needed",
             Refusal::ResultArea => "result area shorter than this very answer",
+            Refusal::NoAnswer => "a result that is no answer",
+            Refusal::Absent => "no reading, distance, link or node has this number",
         }
     }
 }

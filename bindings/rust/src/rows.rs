@@ -34,7 +34,7 @@ impl Sheet {
     pub fn from_rows(text: &[u8]) -> Result<Sheet, Refusal> {
         let mut bytes = area(raw::rows_sheet_bytes(text)?)?;
         raw::rows_to_sheet(text, &mut bytes)?;
-        Ok(Sheet::passed(bytes))
+        Sheet::read(bytes)
     }
 
     /// The text rows of a sheet, which convert to that very sheet. Refusal 9 where it has none.

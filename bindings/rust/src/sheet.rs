@@ -3,8 +3,8 @@
 
 use std::fmt;
 
-use crate::layout::{node_place, unless_none, weight, word, LINK, NODE, NONE, TRAILER};
-use crate::raw;
+use crate::layout::{LINK, NODE, NONE, TRAILER};
+use crate::raw::{self, Counts};
 use crate::Refusal;
 
 /// A link: the node that it leaves, two labels, a weight and the node that it leads to.
@@ -29,18 +29,22 @@ pub struct Link {
 #[derive(Clone, PartialEq, Eq, Hash)]
 pub struct Sheet {
     bytes: Vec<u8>,
+    counts: Counts,
     // the number of each node's first link, from which a link's source is found
     firsts: Vec<u32>,
-    // how many nodes are final
-    finals: u32,
 }
 
 impl Sheet {
     /// Takes bytes that are laid out as a sheet. Refusals 1 to 4.
     pub fn read(bytes: impl Into<Vec<u8>>) -> Result<Sheet, Refusal> {
         let bytes = bytes.into();
-        raw::read_sheet(&bytes)?;
-        Ok(Sheet::passed(bytes))
+        let counts = raw::sheet_counts(&bytes)?;
+        let firsts = firsts(&bytes, counts.nodes)?;
+        Ok(Sheet {
+            bytes,
+            counts,
+            firsts,
+        })
     }
 
     /// Writes a sheet: its links, a final weight or none for each node, and the start or none. Refusals 1 to 4.
@@ -64,18 +68,7 @@ impl Sheet {
             start,
             &mut bytes,
         )?;
-        Ok(Sheet::passed(bytes))
-    }
-
-    // Of bytes that have passed tests 1 to 4.
-    pub(crate) fn passed(bytes: Vec<u8>) -> Sheet {
-        let firsts = firsts(&bytes);
-        let finals = final_count(&bytes);
-        Sheet {
-            bytes,
-            firsts,
-            finals,
-        }
+        Sheet::read(bytes)
     }
 
     /// The sheet's bytes.
@@ -90,22 +83,22 @@ impl Sheet {
 
     /// How many nodes there are.
     pub fn node_count(&self) -> u32 {
-        node_count(&self.bytes)
+        self.counts.nodes
     }
 
     /// How many links there are.
     pub fn link_count(&self) -> u32 {
-        link_count(&self.bytes)
+        self.counts.links
     }
 
     /// How many nodes are final, reached or not.
     pub fn final_count(&self) -> u32 {
-        self.finals
+        self.counts.finals
     }
 
     /// The start, or none.
     pub fn start(&self) -> Option<u32> {
-        unless_none(word(&self.bytes, self.bytes.len() - 4))
+        self.counts.start
     }
 
     /// The link with a number, or none past the last.
@@ -132,20 +125,22 @@ impl Sheet {
         (0..self.node_count()).map(|node| self.final_at(node))
     }
 
-    fn link_at(&self, number: u32) -> Link {
-        let at = LINK * number as usize;
+    pub(crate) fn link_at(&self, number: u32) -> Link {
+        let [ilabel, olabel, weight_bits, next] =
+            raw::link(&self.bytes, number).expect("the sheet has a link with this number");
         Link {
             source: self.source(number),
-            ilabel: word(&self.bytes, at),
-            olabel: word(&self.bytes, at + 4),
-            weight: weight(&self.bytes, at + 8),
-            next: word(&self.bytes, at + 12),
+            ilabel,
+            olabel,
+            weight: f32::from_bits(weight_bits),
+            next,
         }
     }
 
     fn final_at(&self, node: u32) -> Option<f32> {
-        let at = node_place(self.link_count(), node);
-        (word(&self.bytes, at + 4) == 1).then(|| weight(&self.bytes, at + 8))
+        let [_, mark, weight_bits] =
+            raw::node(&self.bytes, node).expect("the sheet has a node with this number");
+        (mark == 1).then(|| f32::from_bits(weight_bits))
     }
 
     // The last node whose first link is not past this one: the nodes after it begin later, and a node without links
@@ -171,31 +166,14 @@ impl fmt::Debug for Sheet {
     }
 }
 
-fn node_count(bytes: &[u8]) -> u32 {
-    word(bytes, bytes.len() - 12)
-}
-
-fn link_count(bytes: &[u8]) -> u32 {
-    word(bytes, bytes.len() - 8)
-}
-
-// A mark is 0 or 1.
-fn final_count(bytes: &[u8]) -> u32 {
-    let links = link_count(bytes);
-    (0..node_count(bytes))
-        .map(|node| word(bytes, node_place(links, node) + 4))
-        .sum()
-}
-
 // The bytes have passed test 1, so that the counts add up to the link count and the sum fits.
-fn firsts(bytes: &[u8]) -> Vec<u32> {
-    let links = link_count(bytes);
+fn firsts(bytes: &[u8], nodes: u32) -> Result<Vec<u32>, Refusal> {
     let mut next = 0;
-    (0..node_count(bytes))
+    (0..nodes)
         .map(|node| {
             let first = next;
-            next += word(bytes, node_place(links, node));
-            first
+            next += raw::node(bytes, node)?[0];
+            Ok(first)
         })
         .collect()
 }

@@ -5,8 +5,8 @@ mod common;
 
 use std::collections::HashSet;
 
-use common::{link, readings, Random};
-use yeldmur::{distances, Areas, Link, Sheet, WEIGHT_LIMIT};
+use common::{link, readings, walked, Random};
+use yeldmur::{distances, units, Areas, Link, Sheet, WEIGHT_LIMIT};
 
 struct Machine {
     links: Vec<Link>,
@@ -80,10 +80,6 @@ impl Found {
     }
 }
 
-fn units(weight: f32) -> i32 {
-    (weight * 64.0) as i32
-}
-
 fn check(machine: &Machine, ns: impl IntoIterator<Item = u32>) {
     let sheet = machine.sheet();
     let found = machine.all();
@@ -147,19 +143,8 @@ fn a_large_machine() {
         assert_eq!(list.len(), n as usize);
         for (reading, cost) in list.readings().zip(&longest) {
             assert_eq!(reading.cost(), *cost);
-            assert_eq!(cost_of(&machine, reading.numbers()), *cost);
+            let numbers: Vec<u32> = reading.numbers().collect();
+            assert_eq!(walked(&sheet, &numbers), Some((*cost, reading.end())));
         }
     }
-}
-
-// The cost of a run by the machine's own links, which must hang together from the start to a final node.
-fn cost_of(machine: &Machine, numbers: impl Iterator<Item = u32>) -> i32 {
-    let (mut node, mut cost) = (machine.start, 0);
-    for number in numbers {
-        let link = machine.links[number as usize];
-        assert_eq!(link.source, node);
-        node = link.next;
-        cost += units(link.weight);
-    }
-    cost + units(machine.finals[node as usize].unwrap())
 }

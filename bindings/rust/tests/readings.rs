@@ -12,7 +12,8 @@ fn a_reading_without_links() {
     for n in [1, 2, 64] {
         assert_eq!(readings(&sheet, n), [(-16, vec![])]);
         let list = list(&sheet, n).unwrap();
-        assert_eq!(list.reading(0).unwrap().links().count(), 0);
+        let only = list.reading(0).unwrap();
+        assert_eq!((only.links().len(), only.end()), (0, 1));
     }
     // a start alone at node 1: the node below it is unreached
     assert_eq!(distances(&sheet).unwrap(), [None, Some(0.0)]);
@@ -110,6 +111,9 @@ fn iterators() {
     assert_eq!(list.readings().len(), 3);
     assert_eq!(list.readings().next_back().unwrap().cost(), 144);
     assert!(list.reading(3).is_none());
+    let third = list.reading(2).unwrap();
+    assert_eq!((third.numbers().len(), third.links().len()), (3, 3));
+    assert_eq!(third.numbers().next_back(), Some(4));
     for reading in list.readings() {
         let numbers: Vec<u32> = reading.numbers().collect();
         let links: Vec<_> = numbers.iter().map(|&l| a.link(l).unwrap()).collect();
@@ -117,7 +121,7 @@ fn iterators() {
     }
     assert_eq!(
         format!("{:?}", list.readings().last().unwrap()),
-        "Reading { cost: 144, numbers: [0, 3, 4] }"
+        "Reading { cost: 144, numbers: [0, 3, 4], end: 3 }"
     );
     let copy = list.clone();
     assert_eq!(copy.result(), list.result());

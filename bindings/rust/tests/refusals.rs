@@ -134,7 +134,7 @@ fn raw_calls_change_nothing() {
 fn numbers_and_words() {
     for number in 0..100 {
         let refusal = Refusal::from_number(number);
-        let known = matches!(number, 1..=9 | 20 | 21);
+        let known = matches!(number, 1..=9 | 20 | 21 | 30 | 31);
         assert_eq!(refusal.is_some(), known);
         assert_eq!(refusal.map(Refusal::number), known.then_some(number));
     }
@@ -143,6 +143,15 @@ fn numbers_and_words() {
         climb.to_string(),
         "refused 6: a link that does not lead to a higher node"
     );
+    assert_eq!(
+        Refusal::NoAnswer.to_string(),
+        "refused 30: a result that is no answer"
+    );
+    assert_eq!(
+        Refusal::Absent.to_string(),
+        "refused 31: no reading, distance, link or node has this number"
+    );
+    assert_eq!(Refusal::Climb.words(), &climb.to_string()[11..]);
     assert_eq!(
         Refusal::Layout.to_string(),
         "refused 1: length, offsets, a count or offset too big for its field, marks, an absent final's weight field \

@@ -32,13 +32,9 @@ fn p2_the_best() {
     let list = list(&a, 1).unwrap();
     assert_eq!((list.len(), list.taken()), (1, 0));
     assert_eq!(readings(&a, 1), [(112, vec![0, 2])]);
-    let labels: Vec<u32> = list
-        .reading(0)
-        .unwrap()
-        .links()
-        .map(|link| link.ilabel)
-        .collect();
-    assert_eq!(labels, [1, 3]);
+    let best = list.reading(0).unwrap();
+    let labels: Vec<u32> = best.links().map(|link| link.ilabel).collect();
+    assert_eq!((labels, best.end()), (vec![1, 3], 3));
     // the final node is state 0, and states count up to the start
     #[rustfmt::skip]
     let machine = bytes(&[
@@ -48,7 +44,6 @@ fn p2_the_best() {
         0, 32, 3, 2, 2, // trailer
     ]);
     assert_eq!(list.machine(), machine);
-    assert_eq!(list.words().collect::<Vec<_>>(), [Some(2), Some(0)]);
     assert_eq!(list.result(), [machine, bytes(&[2, 0])].concat());
 }
 
@@ -64,10 +59,9 @@ fn two() {
     let finals: Vec<Option<f32>> = machine.finals().collect();
     assert_eq!(finals[1], Some(0.0));
     assert_eq!(finals.iter().flatten().count(), 1);
-    assert_eq!(list.words().len(), machine.link_count() as usize);
     assert_eq!(
         list.result().len(),
-        list.machine().len() + 4 * list.words().len()
+        list.machine().len() + 4 * machine.link_count() as usize
     );
 }
 

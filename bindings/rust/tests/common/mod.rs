@@ -3,7 +3,7 @@
 // each test program uses a part of this
 #![allow(dead_code)]
 
-use yeldmur::{Link, Sheet};
+use yeldmur::{units, Link, Sheet};
 
 /// The word for no start and no input link.
 pub const NONE: u32 = 0xFFFF_FFFF;
@@ -67,6 +67,20 @@ pub fn readings(sheet: &Sheet, n: u32) -> Vec<(i32, Vec<u32>)> {
     list.readings()
         .map(|reading| (reading.cost(), reading.numbers().collect()))
         .collect()
+}
+
+/// The cost and the end of a run by the sheet's own links, which must hang together from the start to a final node; else none.
+pub fn walked(sheet: &Sheet, run: &[u32]) -> Option<(i32, u32)> {
+    let (mut node, mut cost) = (sheet.start()?, 0);
+    for &number in run {
+        let link = sheet.link(number)?;
+        if link.source != node {
+            return None;
+        }
+        node = link.next;
+        cost += units(link.weight);
+    }
+    Some((cost + units(sheet.final_weight(node)?), node))
 }
 
 /// A chain of so many nodes, with one weight on every link and on the last node.
