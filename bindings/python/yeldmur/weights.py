@@ -1,0 +1,35 @@
+"""Weights and costs as numbers. A weight is k/64 for a whole k, which Python's float holds exactly."""
+from __future__ import annotations
+
+from ctypes import c_float, c_uint32
+from decimal import Decimal
+from fractions import Fraction
+from typing import Union
+
+Weight = Union[int, float, Fraction, Decimal]
+
+_NAN = 0x7FC00000
+
+
+def decimal(units: int) -> Decimal:
+    """Sixty-fourths as an exact decimal.
+
+    >>> print(decimal(112), decimal(-1))
+    1.75 -0.015625
+    """
+    return Decimal(units / 64)
+
+
+def weight_of(bits: int) -> float:
+    """The weight that has these bits in single precision."""
+    return c_float.from_buffer(c_uint32(bits)).value
+
+
+def bits_of(weight: Weight) -> int:
+    """The bits of a weight in single precision. Where that does not hold it exactly the weight is off the grid:
+    it becomes a NaN, which the library refuses with 4, and is not rounded to a weight that it would take."""
+    try:
+        held = c_float(weight)  # type: ignore[arg-type]  # it takes whatever has __float__
+    except OverflowError:
+        return _NAN
+    return c_uint32.from_buffer(held).value if held.value == weight else _NAN
