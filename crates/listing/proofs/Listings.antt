@@ -5,7 +5,7 @@ use Prim.Native.Nat.{ℕ, zero, suc, _+_, _*_, _≤_, _<_}
 use native.Mathlib.Nat.{add-zero}
 use native.Mathlib.Omega.{arith}
 use lib.IntN.{ℤ}
-use lib.ListN.{length, getD, take, drop, length-map}
+use lib.ListN.{length, getD, take, drop}
 use lib.Seq.{sets, take-all, getD-take}
 use Rattle.sheet.specs.Machine.{Machine, machine}
 use Rattle.sheet.proofs.Fields.{length-read, read-fits}

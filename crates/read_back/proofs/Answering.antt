@@ -2,12 +2,11 @@
 use mathlib.Core.Path.{_≡_, refl, sym, ap, _∙_, subst}
 use mathlib.Core.Bool.{Bool, true, false, not, _&&_, cond}
 use mathlib.Core.Option.{Option, none, some}
-use mathlib.Core.List.{List, [], _∷_, _++_}
-use Prim.Native.Nat.{ℕ, zero, suc, _+_, _≤_, _<_}
+use mathlib.Core.List.{List, []}
+use Prim.Native.Nat.{ℕ, zero, suc, _≤_, _<_}
 use native.Mathlib.Omega.{arith}
 use lib.Dec.{eqb, leb, ltb}
-use lib.IntN.{ℤ}
-use lib.ListN.{length, getD, take, drop, length-map}
+use lib.ListN.{length, getD, drop, length-map}
 use lib.Seq.{sets, length-sets}
 use borrow.Author.Tests.{lt-ltb, le-ltb, le-leb, lt-leb, leb-true, ltb-true, ltb-false, ne-eqb, eqb-true, eqb-false}
 use Rattle.tropical_weight.specs.Limits.{listLimit}
@@ -20,7 +19,7 @@ use Rattle.machine.specs.Readings.{IsReading, readingOf, readingCost}
 use Rattle.machine.specs.Input.{inputNumber}
 use Rattle.machine.proofs.Distance.{reading-finite}
 use Rattle.machine.proofs.Accepted.{passes, finite-machine}
-use Rattle.search.specs.ListMachine.{resultFor, resultBytes}
+use Rattle.search.specs.ListMachine.{resultFor}
 use Rattle.search.specs.Listed.{listOf}
 use Rattle.search.proofs.Results.{empty-back}
 use Rattle.search.proofs.Lists.{Accepted, accepted, listIn, demand-result}

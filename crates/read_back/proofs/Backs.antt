@@ -25,7 +25,7 @@ use Rattle.search.specs.States.{kept, stateOf, later, entryLink, listMachine, l
 use Rattle.search.proofs.Numbered.{Numbered}
 use Rattle.search.proofs.Entries.{numbered}
 use Rattle.search.proofs.Mirror.{run-first}
-use Rattle.search.proofs.OnWays.{cameFrom, OnWay, way-listed, way-from, kept-at, kept-place, state-lt, state-in}
+use Rattle.search.proofs.OnWays.{cameFrom, OnWay, way-listed, way-from, kept-at, state-lt}
 use Rattle.search.proofs.Trims.{trimmed-is}
 use Rattle.search.proofs.Results.{Storable, parts-read, words-read, result-long, empty-storable, empty-back}
 use Rattle.search.proofs.Readback.{inputOf, Fits, links-long, nodes-long, link-start, link-entry, entry-next, repeat-entry, list-storable, list-back}
@@ -34,7 +34,7 @@ use Rattle.search.proofs.BackOne as One
 use Rattle.search.proofs.Lists.{listIn, Accepted, fits, one-fits, some-listed, demand-result}
 use Rattle.list_machine.specs.TrimWords.{nodeWords}
 use Rattle.list_machine.proofs.Writings.{nodes-is}
-use Rattle.read_back.specs.Way.{nextAt, told, toldBefore, answerBytes, numberAt, startLinks, countIn, lastState, linksBefore, startState, firstState, onlyLink, falls, wayFrom, wayOf}
+use Rattle.read_back.specs.Way.{nextAt, told, toldBefore, answerBytes, numberAt, startLinks, countIn, startState, onlyLink, wayFrom, wayOf}
 use Rattle.read_back.proofs.Ways.{told-none, told-some, way-end, way-next}
 
 word-take : (bytes : List ℕ) (size at : ℕ) → at + 4 ≤ size → word (take size bytes) at ≡ word bytes at

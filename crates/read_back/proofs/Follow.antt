@@ -1,6 +1,6 @@
 -- The test of a run as a reading tells just the readings, and a walk over a sheet, link by link, makes that test. Assumes nothing.
 use mathlib.Core.Path.{_≡_, refl, sym, ap, _∙_, subst}
-use mathlib.Core.Logic.{_⊎_, inl, inr}
+use mathlib.Core.Logic.{inl, inr}
 use mathlib.Core.Bool.{Bool, true, false, not, _&&_, cond}
 use mathlib.Core.Option.{Option, none, some}
 use mathlib.Core.List.{List, [], _∷_, _++_}
@@ -20,13 +20,11 @@ use Rattle.sheet.specs.Machine.{Machine, machine}
 use Rattle.sheet.proofs.Apart.{both}
 use Rattle.sheet.proofs.Below.{split-at}
 use Rattle.machine.specs.Readings.{link, final, nodeOr, IsRun, IsReading, readingOf, endFrom}
-use Rattle.machine.specs.Input.{inputNumber}
 use Rattle.machine.proofs.Runs.{run-ends}
 use Rattle.machine.proofs.SheetFields.{SheetFields, sheet-fields, next-first, first-in, marked-final, unmarked-final}
 use Rattle.read_back.specs.declared.walk.Walk.{Walk}
-use Rattle.read_back.specs.declared.way.Shape.{Shape}
-use Rattle.read_back.specs.Way.{told, toldBefore, startLinks}
-use Rattle.read_back.specs.Follows.{leaves, follows, isMarked, endsAt, endsFrom, readsTo, runBy, ifReading}
+use Rattle.read_back.specs.Way.{toldBefore, startLinks}
+use Rattle.read_back.specs.Follows.{leaves, follows, isMarked, endsAt, endsFrom, readsTo}
 use Rattle.read_back.specs.Walks.{Walking, lost, onTo, wentOn, endedBy, outcome, Found, shapeOf}
 use Rattle.read_back.proofs.Ways.{told-none, told-some}
 

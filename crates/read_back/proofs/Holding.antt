@@ -5,12 +5,11 @@ use mathlib.Core.Option.{Option, none, some}
 use mathlib.Core.List.{List}
 use Prim.Native.Nat.{ℕ, _+_, _*_, _≤_, _<_}
 use native.Mathlib.Omega.{arith}
-use lib.Dec.{eqb}
 use lib.IntN.{ℤ}
 use lib.ListN.{length, take}
 use lib.Seq.{sets, length-sets}
 use borrow.Author.Tests.{eq-eqb, ne-eqb}
-use Rattle.tropical_weight.specs.Tropical.{Tropical, fin}
+use Rattle.tropical_weight.specs.Tropical.{fin}
 use Rattle.sheet.specs.declared.tr.Trailer.{Trailer}
 use Rattle.sheet.specs.Sheet.{noStart, partsOf, statedLinks, statedNodes, trailerField}
 use Rattle.sheet.specs.Records.{trailerAt, firstLink}
@@ -27,9 +26,9 @@ use Rattle.read_back.specs.declared.reading.Told.the-variants as Told
 use Rattle.read_back.specs.Way.{firstState, wayOf}
 use Rattle.read_back.specs.Follows.{follows, endsAt, endsFrom, readsTo, runBy, ifReading}
 use Rattle.read_back.specs.Walks.{Walking, endedBy, outcome, Found, shapeOf, wayIn}
-use Rattle.read_back.specs.Answers.{unitsIn, heldReading, readingTold, runIn}
+use Rattle.read_back.specs.Answers.{unitsIn, readingTold, runIn}
 use Rattle.read_back.proofs.Ways.{stored-front}
-use Rattle.read_back.proofs.Follow.{Reads, reads-is}
+use Rattle.read_back.proofs.Follow.{reads-is}
 
 -- ---- what a walk from the start finds
 module _ (m : Machine) where

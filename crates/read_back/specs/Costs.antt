@@ -1,8 +1,7 @@
 -- Mirrors the code: the cost of a run in f32, and the node where it ends, by the words of a sheet. A reader need not believe it: laws tie it to Readings of crate machine (proofs/RunCosts).
 -- Definitions only.
-use mathlib.Core.List.{List, [], _∷_, map}
+use mathlib.Core.List.{List, map}
 use Prim.Native.Nat.{ℕ, _+_, _*_}
-use lib.ListN.{length, getD}
 use lib.Ieee.{Float, binary32, ofBits}
 use Rattle.tropical_weight.specs.Limits.{unit}
 use Rattle.tropical_weight.specs.Tropical.{one}

@@ -1,7 +1,7 @@
 -- Mirrors the code: a walk over the links of a sheet, link by link. A reader need not believe it: laws tie it to Follows (proofs/Follow).
 -- Definitions only.
 use mathlib.Core.Path.{_≡_}
-use mathlib.Core.Bool.{Bool, true, false, cond}
+use mathlib.Core.Bool.{true, false, cond}
 use mathlib.Core.Option.{Option, none, some}
 use mathlib.Core.List.{List}
 use Prim.Native.Nat.{ℕ, _+_, _≤_, _<_}

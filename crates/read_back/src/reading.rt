@@ -6,7 +6,7 @@ ghost use lib.ListN.{length};
 ghost use Rattle.sheet.specs.Machine.{machine as machineFor};
 ghost use Rattle.sheet.specs.Records.{trailerAt};
 ghost use Rattle.machine.specs.Input.{inputNumber};
-ghost use Rattle.read_back.specs.Way.{answerBytes, countIn, isList};
+ghost use Rattle.read_back.specs.Way.{answerBytes};
 ghost use Rattle.read_back.specs.Answers.{heldReading, heldTold, heldAfter, readingAnswer, runAfter};
 ghost use Rattle.read_back.specs.Promise.{ReadsList, TellsTrue};
 use crate::cost::cost_of;

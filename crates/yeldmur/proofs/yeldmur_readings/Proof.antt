@@ -1,5 +1,4 @@
-use mathlib.Core.Path.{_≡_, sym, ap, _∙_}
-use Prim.Native.Nat.{ℕ}
+use mathlib.Core.Path.{sym, ap}
 use denote.Ref.{now}
 use Rattle.read_back.specs.declared.count.Counted.{Counted}
 use Rattle.yeldmur.specs.Told.{countedTold}

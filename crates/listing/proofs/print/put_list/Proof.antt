@@ -1,17 +1,13 @@
-use mathlib.Core.Path.{_≡_, sym, ap, _∙_}
-use Prim.Native.Nat.{ℕ, _+_, _≤_, _<_}
+use mathlib.Core.Path.{sym, ap, _∙_}
+use Prim.Native.Nat.{ℕ, _≤_}
 use native.Mathlib.Omega.{arith}
-use lib.IntN.{ℤ}
-use lib.ListN.{length}
-use mir.Syntax.{w32}
-use mir.ValLaws.{toZ-ofZ}
 use denote.Ref.{now}
 use Rattle.sheet.specs.Machine.{machine}
 use Rattle.sheet.proofs.Round.{Below}
-use Rattle.listing.specs.Text.{firstLine, lineOf, labelsOf}
-use Rattle.listing.specs.Printed.{listMost, runMost, listFor}
+use Rattle.listing.specs.Text.{firstLine}
+use Rattle.listing.specs.Printed.{listMost, listFor}
 use Rattle.decimals.proofs.Storing.{puts-same, puts-then}
-use Rattle.listing.proofs.Listings.{told-parts, told-reading, counted-readings, counted-refused, held-count, held-few, held-short, held-told, front-in, line-is}
+use Rattle.listing.proofs.Listings.{counted-readings, counted-refused, held-count, held-few}
 use borrow.Author.Needs.{needs}
 use Rattle.listing.proofs.print.put_list.Statement.{statement}
 use Rattle.listing.proofs.print.put_list.Tie as tie

@@ -1,5 +1,5 @@
-use mathlib.Core.Path.{_≡_, sym, ap, _∙_}
-use Prim.Native.Nat.{ℕ, _+_, _≤_, _<_}
+use mathlib.Core.Path.{sym, ap, _∙_}
+use Prim.Native.Nat.{ℕ, _+_, _≤_}
 use native.Mathlib.Omega.{arith}
 use mathlib.Core.List.{[]}
 use lib.IntN.{ℤ}
@@ -10,10 +10,10 @@ use mir.ValLaws.{toZ-ofZ}
 use denote.Ref.{now}
 use Rattle.sheet.specs.Machine.{machine}
 use Rattle.sheet.proofs.Round.{Below}
-use Rattle.listing.specs.Text.{firstLine, lineOf, labelsOf}
-use Rattle.listing.specs.Printed.{listMost, runMost, listFor}
-use Rattle.decimals.proofs.Storing.{puts-same, puts-then}
-use Rattle.listing.proofs.Listings.{told-parts, told-reading, counted-readings, counted-refused, held-count, held-few, held-short, held-told, front-in, line-is}
+use Rattle.listing.specs.Text.{lineOf, labelsOf}
+use Rattle.listing.specs.Printed.{runMost, listFor}
+use Rattle.decimals.proofs.Storing.{puts-same}
+use Rattle.listing.proofs.Listings.{told-parts, told-reading, held-few, held-short, held-told, front-in, line-is}
 use borrow.Author.Needs.{needs}
 use Rattle.listing.proofs.print.put_reading.Statement.{statement}
 use Rattle.listing.proofs.print.put_reading.Tie as tie

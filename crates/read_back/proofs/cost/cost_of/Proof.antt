@@ -1,7 +1,7 @@
-use mathlib.Core.Path.{_≡_, sym, ap, _∙_}
-use Prim.Native.Nat.{ℕ, _+_, _*_, _≤_, _<_}
+use mathlib.Core.Path.{ap, _∙_}
+use Prim.Native.Nat.{_+_, _*_}
 use native.Mathlib.Omega.{arith}
-use lib.ListN.{length, getD, take}
+use lib.ListN.{take}
 use lib.Seq.{length-take-le, getD-take}
 use lib.Ieee.{binary32, ofBits}
 use mir.Syntax.{w32}

@@ -1,12 +1,10 @@
-use mathlib.Core.Path.{_≡_, refl, sym, ap, _∙_, subst}
-use mathlib.Core.Bool.{true, false}
-use mathlib.Core.Option.{Option, none, some}
+use mathlib.Core.Path.{_≡_, refl, sym, ap, _∙_}
+use mathlib.Core.Option.{Option, some}
 use mathlib.Core.List.{List}
-use Prim.Native.Nat.{ℕ, _+_, _≤_, _<_}
+use Prim.Native.Nat.{ℕ}
 use native.Mathlib.Omega.{arith}
 use lib.IntN.{ℤ}
-use lib.ListN.{length, take}
-use lib.Seq.{sets}
+use lib.ListN.{length}
 use borrow.Author.Tests.{not-true, not-false}
 use mir.Syntax.{w32}
 use mir.ValLaws.{toZ-ofZ}
@@ -16,9 +14,9 @@ use Rattle.read_back.specs.declared.way.Shape.{Shape}
 use Rattle.read_back.specs.declared.reading.Told.the-variants as Told
 use Rattle.read_back.specs.Way.{wayOf}
 use Rattle.read_back.specs.Follows.{ifReading}
-use Rattle.read_back.specs.Walks.{outcome, Found, wayIn}
-use Rattle.read_back.specs.Answers.{heldReading, runIn}
-use Rattle.read_back.proofs.Holding.{none-held, HeldBy, held-not, held-by, links-at, start-none, start-some, first-asked, begun, way-same, cost-asked, told-is, stored-is}
+use Rattle.read_back.specs.Walks.{wayIn}
+use Rattle.read_back.specs.Answers.{runIn}
+use Rattle.read_back.proofs.Holding.{none-held, held-not, held-by, links-at, start-none, start-some, first-asked, begun, way-same, cost-asked, told-is, stored-is}
 use Rattle.read_back.proofs.Answering.{held-none, held-short, held-some}
 use borrow.Author.Needs.{needs, sfits-of}
 use Rattle.read_back.proofs.reading.held.Statement.{statement}

@@ -1,14 +1,11 @@
-use mathlib.Core.Path.{_≡_, refl, sym, ap, _∙_, subst}
-use mathlib.Core.List.{List}
-use Prim.Native.Nat.{ℕ, _≤_, _<_}
+use mathlib.Core.Path.{sym, _∙_}
 use native.Mathlib.Omega.{arith}
 use lib.ListN.{length}
 use denote.Ref.{now}
 use Rattle.sheet.proofs.Round.{Below}
 use Rattle.machine.specs.Input.{inputNumber}
 use Rattle.machine.proofs.Testing.{accepted-number, refused-number}
-use Rattle.read_back.specs.Answers.{countNumber}
-use Rattle.read_back.proofs.Answering.{list-long, count-refused, counts-given, number-counts, number-absent, answer-input, Answered, answered, answered-held}
+use Rattle.read_back.proofs.Answering.{list-long, count-refused, counts-given, number-counts, number-absent, answer-input, answered, answered-held}
 use borrow.Author.Needs.{needs}
 use Rattle.read_back.proofs.reading.reading.Statement.{statement}
 use Rattle.read_back.proofs.reading.reading.Tie as tie

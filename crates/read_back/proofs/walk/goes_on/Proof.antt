@@ -1,9 +1,7 @@
-use mathlib.Core.Path.{_≡_, refl, sym, ap, _∙_}
-use mathlib.Core.Bool.{Bool, true, false, cond}
-use Prim.Native.Nat.{ℕ, _+_, _*_, _≤_, _<_}
+use mathlib.Core.Path.{ap, _∙_}
+use Prim.Native.Nat.{ℕ}
 use native.Mathlib.Omega.{arith}
 use denote.Ref.{now}
-use Rattle.sheet.specs.Sheet.{statedLinks}
 use Rattle.sheet.specs.Records.{countAt}
 use Rattle.read_back.proofs.Follow.{node-in, part-end, leaves-here, leaves-none, went-none, went-lost, went-by}
 use borrow.Author.Needs.{needs}

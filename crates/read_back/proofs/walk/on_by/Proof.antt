@@ -1,12 +1,11 @@
-use mathlib.Core.Path.{_≡_, refl, sym, ap, _∙_, subst}
+use mathlib.Core.Path.{sym, ap, _∙_, subst}
 use mathlib.Core.Bool.{true}
-use Prim.Native.Nat.{ℕ, _+_, _≤_, _<_}
+use Prim.Native.Nat.{ℕ, _+_, _≤_}
 use native.Mathlib.Omega.{arith}
 use denote.Ref.{now}
 use Rattle.sheet.specs.Sheet.{statedLinks}
 use Rattle.sheet.specs.Records.{firstLink}
-use Rattle.read_back.specs.declared.walk.Walk.{Walk}
-use Rattle.read_back.proofs.Follow.{OnBy, on-by}
+use Rattle.read_back.proofs.Follow.{on-by}
 use borrow.Author.Needs.{needs}
 use Rattle.read_back.proofs.walk.on_by.Statement.{statement}
 use Rattle.read_back.proofs.walk.on_by.Tie as tie

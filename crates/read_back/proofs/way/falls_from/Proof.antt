@@ -1,8 +1,6 @@
-use mathlib.Core.Path.{_≡_, sym, ap, _∙_}
-use mathlib.Core.Bool.{Bool, _&&_}
-use Prim.Native.Nat.{ℕ, _+_, _-_}
+use mathlib.Core.Path.{ap, _∙_}
+use Prim.Native.Nat.{_-_}
 use native.Mathlib.Omega.{arith}
-use lib.Dec.{ltb}
 use denote.Ref.{now}
 use Rattle.read_back.specs.Way.{nextAt}
 use Rattle.read_back.proofs.Ways.{falls-past, falls-off, falls-by}

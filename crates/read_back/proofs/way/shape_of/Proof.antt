@@ -1,4 +1,3 @@
-use mathlib.Core.Path.{_≡_, sym, ap, _∙_}
 use denote.Ref.{now}
 use Rattle.read_back.proofs.Follow.{shape-one, shape-many}
 use borrow.Author.Needs.{needs}

@@ -1,7 +1,7 @@
 use mathlib.Core.Path.{_≡_, refl, sym, ap, _∙_, subst}
 use mathlib.Core.Option.{some}
 use mathlib.Core.List.{_++_}
-use Prim.Native.Nat.{ℕ, _+_, _≤_, _<_}
+use Prim.Native.Nat.{ℕ, _+_}
 use native.Mathlib.Omega.{arith}
 use lib.ListN.{length, length-append}
 use lib.Seq.{sets}
@@ -9,7 +9,7 @@ use denote.Ref.{now}
 use Rattle.read_back.specs.Way.{nextAt, told, numberAt, onlyLink}
 use Rattle.read_back.specs.Answers.{runIn}
 use Rattle.read_back.specs.Walks.{wayIn}
-use Rattle.read_back.proofs.Ways.{Goes, way-goes, way-over, stored-all}
+use Rattle.read_back.proofs.Ways.{way-goes, way-over, stored-all}
 use borrow.Author.Needs.{needs}
 use Rattle.read_back.proofs.way.store_way.Statement.{statement}
 use Rattle.read_back.proofs.way.store_way.Tie as tie
