@@ -80,6 +80,7 @@ check:
 	tools/test_bindings
 	cd cli && YELDMUR_LIB_DIR=$(lib_dir) $(CARGO) test --offline --locked
 	tools/test_python
+	tools/test_readback
 	tools/test_package
 
 clean:
