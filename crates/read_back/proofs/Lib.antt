@@ -5,3 +5,4 @@ pub mod Holding
 pub mod RunCosts
 pub mod Backs
 pub mod Answering
+pub mod Bench
