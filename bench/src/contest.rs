@@ -88,7 +88,7 @@ impl Ready {
     fn agree(&self, machine: usize) {
         let distances = rust::distances(&self.rust[machine]);
         let reached: Vec<Option<f32>> = distances.iter().map(rust::reached).collect();
-        assert_eq!(self.fresh.distances_anew(machine), reached);
+        assert_eq!(self.fresh.values(machine), reached);
         let count = self.port.borrow_mut().distances(machine);
         assert_eq!(count, reached.len());
         let (readings, _) = self.port.borrow_mut().list(machine, 2);

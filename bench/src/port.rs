@@ -67,6 +67,11 @@ impl Port {
         (readings as usize, listed.taken)
     }
 
+    /// The distances, read back.
+    pub fn values(&self, machine: usize) -> Vec<Option<f32>> {
+        yeldmur::distances(&self.sheets[machine]).expect("accepted")
+    }
+
     pub fn distances_anew(&self, machine: usize) -> Vec<u8> {
         let (mut work, mut result) = self.anew(machine, 1);
         raw::shortest_distance(self.sheets[machine].bytes(), &mut work, &mut result).expect("accepted");
