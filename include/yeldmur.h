@@ -39,8 +39,8 @@ enum {
     YELDMUR_START = 2,
     /* next node not below N */
     YELDMUR_NEXT = 3,
-    /* a weight off the grid: not k/64 for a whole k up to YELDMUR_WEIGHT_LIMIT either way, NaN, an infinity
-     * or negative zero */
+    /* a weight that is neither on the grid, k/64 for a whole k up to YELDMUR_WEIGHT_LIMIT either way, nor
+     * YELDMUR_BARRED; NaN, negative infinity and negative zero are neither */
     YELDMUR_WEIGHT = 4,
     /* N above YELDMUR_NODE_LIMIT or T above YELDMUR_LINK_LIMIT */
     YELDMUR_LIMITS = 5,
@@ -86,6 +86,10 @@ enum {
 /* The start of a sheet that has none, and the word of a link that repeats no input link. */
 #define YELDMUR_NONE 0xffffffffu
 
+/* The weight bits of a link or a final node that is barred: positive infinity. A reading has a finite cost,
+ * so that none goes over such a link or ends at such a node. */
+#define YELDMUR_BARRED 0x7f800000u
+
 /* Reads a sheet: tests 1 to 4. */
 uint32_t yeldmur_read_sheet(const uint8_t *sheet, size_t sheet_bytes);
 
@@ -102,15 +106,15 @@ uint32_t yeldmur_write_sheet(const uint32_t *links, size_t links_words,
  * run to the highest number named, and a node's links stand in row order. Runs of spaces or tabs part
  * fields and may stand at a row's ends; a newline ends each row, the last too. Numbers are digits
  * within 32 bits. Weights, taken exactly, are digits, with an optional minus sign before (-0 is 0) and
- * perhaps a point and one to six digits after. The text is read four times, and at the most once
- * more for each 2,047 final rows. */
+ * perhaps a point and one to six digits after; or Infinity, in this spelling alone, which is
+ * YELDMUR_BARRED. The text is read four times, and at the most once more for each 2,047 final rows. */
 uint32_t yeldmur_rows_to_sheet(const uint8_t *text, size_t text_bytes,
                                uint8_t *result, size_t result_bytes, uint64_t *size);
 
 /* Turns a sheet into text rows, which convert to that very sheet: tests 1 to 4, 9, then 21. `size`
  * becomes their bytes. The start's rows come first, then the others' by rising node, links before the
- * final row; one tab stands between fields, numbers are in their shortest form, and a weight of 0 is
- * left out. A sheet has rows if its start is present and has a link or a mark, and its last node has a
+ * final row; one tab stands between fields, numbers are in their shortest form, a weight of 0 is left
+ * out, and YELDMUR_BARRED is Infinity. A sheet has rows if its start is present and has a link or a mark, and its last node has a
  * link, a mark or a link to it. */
 uint32_t yeldmur_sheet_to_rows(const uint8_t *sheet, size_t sheet_bytes,
                                uint8_t *result, size_t result_bytes, uint64_t *size);
@@ -124,10 +128,11 @@ uint32_t yeldmur_rows_sheet_bytes(const uint8_t *text, size_t text_bytes, uint64
  * `bytes`, or a longer one, yeldmur_sheet_to_rows refuses nothing. */
 uint32_t yeldmur_sheet_rows_bytes(const uint8_t *sheet, size_t sheet_bytes, uint64_t *bytes);
 
-/* The distances of a sheet's nodes: tests 1 to 6, 20 and 21. The result has one value per node up to
- * the highest reached, two words each, 32-bit and little-endian: 1 and the weight bits, or 0 and 0 for an
- * unreached node. `values` becomes how many there are, YELDMUR_DISTANCE bytes each. Areas for n = 1 are
- * long enough. */
+/* The distances of a sheet's nodes: tests 1 to 6, 20 and 21. The result has one value per node, two words
+ * each, 32-bit and little-endian: 1 and the weight bits, or 0 and 0 for an unreached node. A barred link
+ * reaches nothing, so that distances are finite. The values go up to the highest node that is reached, or
+ * that a link from a reached node leads to, barred or not. `values` becomes how many there are,
+ * YELDMUR_DISTANCE bytes each. Areas for n = 1 are long enough. */
 uint32_t yeldmur_shortest_distance(const uint8_t *sheet, size_t sheet_bytes,
                                    uint32_t *work, size_t work_words,
                                    uint8_t *result, size_t result_bytes, uint32_t *values);
@@ -176,12 +181,13 @@ uint32_t yeldmur_sheet_counts(const uint8_t *sheet, size_t sheet_bytes,
                               uint32_t *nodes, uint32_t *links, uint32_t *finals, uint32_t *start);
 
 /* The fields of a link of a sheet that has passed tests 1 to 4, by its number from 0: 31 past the last. The
- * links of a node follow those of the node before. */
+ * links of a node follow those of the node before. `weight_bits` may be YELDMUR_BARRED. */
 uint32_t yeldmur_link(const uint8_t *sheet, size_t sheet_bytes, uint32_t number,
                       uint32_t *ilabel, uint32_t *olabel, uint32_t *weight_bits, uint32_t *next);
 
 /* The fields of a node of a sheet that has passed tests 1 to 4, by its number from 0: 31 past the last. `links`
- * becomes how many leave it, `mark` 0 or 1, `weight_bits` those of its final weight, 0 where the mark is 0. */
+ * becomes how many leave it, `mark` 0 or 1, `weight_bits` those of its final weight, which may be YELDMUR_BARRED,
+ * and 0 where the mark is 0. */
 uint32_t yeldmur_node(const uint8_t *sheet, size_t sheet_bytes, uint32_t number,
                       uint32_t *links, uint32_t *mark, uint32_t *weight_bits);
 

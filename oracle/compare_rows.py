@@ -2,7 +2,8 @@
 """Runs the library's conversion between text rows and sheets beside three judges: the converter of tools/rows.py, the Rust's reader of text rows
 (target/release/oracle rows), and OpenFst (fstcompile, fstprint).
 
-    python3 compare_rows.py SEED COUNT      COUNT texts and COUNT sheets, a third of them damaged, and a large text for each thousand
+    python3 compare_rows.py SEED COUNT      COUNT texts and COUNT sheets, a third of them damaged, half with barred weights, and a large text
+                                            for each thousand
     python3 compare_rows.py rows            texts that this library refuses or reads otherwise: what each of the three says
 
 It links ../target/staticlib/libyeldmur.a, or the one in the folder YELDMUR_LIB_DIR.
@@ -12,7 +13,7 @@ HERE = os.path.dirname(os.path.abspath(__file__))
 sys.path.insert(0, os.path.join(HERE, '..', 'tools'))
 from drawn_rows import damaged_sheet, damaged_text, drawn_sheet, drawn_text
 from rows import rows_of, rows_size, sheet_size, to_rows, to_sheet
-from sheets import NONE, fields, sheet
+from sheets import BARRED, NONE, fields, sheet
 
 BORDER, SIZE = 64, 0xA5C30F1E5A3CF0E1
 
@@ -87,6 +88,13 @@ def without_negative_zero(b):
     plus = lambda w: 0 if w == 0x80000000 else w
     return sheet([(i, o, plus(w), v) for i, o, w, v in links], [(count, mark, plus(w)) for count, mark, w in nodes], start)
 
+def without_barred_ends(b):
+    """a final row of weight Infinity makes a node that is not final, in the Rust and in OpenFst"""
+    links, nodes, start = fields(b)
+    return sheet(links, [(count, 0, 0) if w == BARRED else (count, mark, w) for count, mark, w in nodes], start)
+
+def without_infinite_rows(text): return re.sub(rb'(?m)^[0-9]+\tInfinity\n', b'', text)
+
 def by_rust(texts):
     """the sheets that the Rust reads, each with the text that it leaves unread, or none"""
     lines = ''.join((text.hex() or '-') + '\n' for text in texts)
@@ -106,27 +114,33 @@ def compare_machines(tally, read):
     """the machines of texts that are read, as the library was held to make and write them: by the Rust, and by OpenFst"""
     for (text, b, _), made in zip(read, by_rust(with_tabs(text) for text, *_ in read)):
         tally.counts['machines read by the Rust'] += 1
-        if made is None or made[1] != b'\n' or without_negative_zero(made[0]) != b: tally.differs('the Rust', text, made)
+        if made is None or made[1] != b'\n' or without_negative_zero(made[0]) != without_barred_ends(b): tally.differs('the Rust', text, made)
     for (_, b, back), made in zip(read, by_rust(back for *_, back in read)):
         tally.counts['machines read by the Rust from the rows written'] += 1
-        if made != (b, b'\n'): tally.differs('the Rust, from the rows written', back, made)
+        if made != (without_barred_ends(b), b'\n'): tally.differs('the Rust, from the rows written', back, made)
     for text, _, back in read:
         # OpenFst's labels are signed
         if not labels_below(text, 2 ** 31): continue
         tally.counts['machines compiled and printed by OpenFst'] += 1
         # a node without links that is not final has a row of its own there
-        printed = re.sub(rb'(?m)^[0-9]+\tInfinity\n', b'', by_openfst(text) or b'')
-        if printed != back: tally.differs('OpenFst', text, printed)
+        printed = without_infinite_rows(by_openfst(text) or b'')
+        if printed != without_infinite_rows(back): tally.differs('OpenFst', text, printed)
 
-def drawn(r, i, draw, damage): return damage(r, draw(r)) if i % 3 == 0 else draw(r)
+def share(i):
+    """the share of barred weights in draw i: some in every second one"""
+    return i % 2 * (.1, .3, .7)[i // 2 % 3]
 
-def any_text(r, *most): return drawn_text(r, *most, labels=r.choice([NONE, 2 ** 31 - 1]), plain=r.random() < .5)
+def drawn(r, i, draw, damage):
+    given = draw(r, share(i))
+    return damage(r, given) if i % 3 == 0 else given
+
+def any_text(r, barred, *most): return drawn_text(r, *most, labels=r.choice([NONE, 2 ** 31 - 1]), plain=r.random() < .5, barred=barred)
 
 def run(seed, count):
     r = random.Random(seed)
     library, tally, read = Library(r), Tally(), []
-    texts = [any_text(r, 200000, 4000, 4000) for _ in range(count // 1000)]
-    texts += [drawn(r, i, lambda r: any_text(r, 9, 14, 5), damaged_text) for i in range(count)]
+    texts = [any_text(r, share(i), 200000, 4000, 4000) for i in range(count // 1000)]
+    texts += [drawn(r, i, lambda r, barred: any_text(r, barred, 9, 14, 5), lambda r, text: damaged_text(r, text, share(i))) for i in range(count)]
     for text in texts:
         b = compare(library, tally, TO_SHEET, text, r)
         if b is None: continue
@@ -134,7 +148,7 @@ def run(seed, count):
         if compare(library, tally, TO_SHEET, back, r) != b: tally.differs('its rows are of another sheet', b)
         read.append((text, b, back))
     for i in range(count):
-        b = drawn(r, i, drawn_sheet, damaged_sheet)
+        b = drawn(r, i, lambda r, barred: drawn_sheet(r, barred=barred), damaged_sheet)
         back = compare(library, tally, TO_ROWS, b, r)
         if back is not None and compare(library, tally, TO_SHEET, back, r) != b: tally.differs('its rows are of another sheet', b)
     compare_machines(tally, read)
@@ -142,8 +156,8 @@ def run(seed, count):
     return tally.differences
 
 TOLD = [b'', b'0', b'0\n\n1\n', b'\n0\n', b'0\n \n1\n', b' 0\n', b'0 1 1 1\n', b'0\t1\t\t1\t1\n', b'0\t1\t2\n', b'0\t1\t1\t1\t1\t1\n', b'0\n0\n',
-        b'0\n1\n0\t5\n', b'0\t+1\n', b'0\t1.\n', b'0\t.5\n', b'0\t1e1\n', b'0\t0.1234567\n', b'0\t128.000001\n', b'0\t129\n', b'0\t-0\n', b'0\tnan\n', b'0\tInfinity\n',
-        b'0\t1\t1\t1\tInfinity\n', b'0\r\n', b'0\0\n', b'\xff\n', b'+1\n', b'-1\n', b'0x1\n', b'007\n', b'a\tb\tc\td\n', b'0\t0\t-1\t1\n',
+        b'0\n1\n0\t5\n', b'0\t+1\n', b'0\t1.\n', b'0\t.5\n', b'0\t1e1\n', b'0\t0.1234567\n', b'0\t128.000001\n', b'0\t129\n', b'0\t-0\n', b'0\tnan\n', b'0\tInfinity\n', b'0\tinfinity\n', b'0\tinf\n', b'0\t-Infinity\n',
+        b'0\t1\t1\t1\tInfinity\n', b'0\t1\t1\t1\tinfinity\n', b'0\t1\t1\t1\tinf\n', b'0\t1\t1\t1\t-Infinity\n', b'0\r\n', b'0\0\n', b'\xff\n', b'+1\n', b'-1\n', b'0x1\n', b'007\n', b'a\tb\tc\td\n', b'0\t0\t-1\t1\n',
         b'0\t0\t2147483647\t1\n', b'0\t0\t2147483648\t1\n', b'0\t0\t4294967295\t1\n', b'0\t0\t4294967296\t1\n']
 
 def said(made, b):

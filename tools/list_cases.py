@@ -4,18 +4,18 @@ the words of the work area, the bytes of the result area, the words of the work 
 machine and the entries taken, the bytes of the sheet, those bytes, the bytes of the answer, as sheets.py writes bytes, and what the case is.
 What is expected comes from `outcome` below, which follows the text of the requirements and shares nothing with the library. Of small sheets
 each list is held to all readings, too. The last cases are the sheets of oracle/sample.txt, and what is expected of them is what the published
-Rust answered.
+Rust answered, or where it listed infinite readings, which are none here, what the same search answers without them.
 
     python3 tools/list_cases.py > crates/replay_lists/stdin
 """
 import functools, itertools, random, struct
 from collections import Counter
 from fractions import Fraction
-from search_oracle import Search
-from sheets import (A, CHAIN, EMPTY, LARGEST, LINKS, NODES, NONE, TRAILER, UNITS, climbing, distances, f, fields, input_number, read, real,
-                    sample, sheet, sources, with_word, written)
+from search_oracle import INF, Search
+from sheets import (A, BARRED, CHAIN, E, EMPTY, LARGEST, LINKS, NODES, NONE, TRAILER, UNITS, climbing, distances, f, fields, input_number, read, real,
+                    sample, sheet, some_barred, sources, with_word, written)
 
-def units(bits): return int(64 * Fraction(real(bits)))
+def units(bits): return INF if bits == BARRED else int(64 * Fraction(real(bits)))
 
 def slots(b, n):
     """the work slots needed"""
@@ -27,11 +27,11 @@ def best(b):
     """the lowest final node of the least total, and the links that lead to it from the start, the last first; None without a reading"""
     links, nodes, start = fields(b)
     least = distances(b) + [None] * len(nodes)
-    ends = [(least[v] + Fraction(real(bits)), v) for v, (_, mark, bits) in enumerate(nodes) if mark and least[v] is not None]
+    ends = [(least[v] + Fraction(real(bits)), v) for v, (_, mark, bits) in enumerate(nodes) if mark and bits != BARRED and least[v] is not None]
     if not ends: return None
     into = {}
     for l, (v, (_, _, bits, nxt)) in enumerate(zip(sources(nodes), links)):
-        if least[v] is not None and least[v] + Fraction(real(bits)) == least[nxt]: into.setdefault(nxt, (l, v))
+        if least[v] is not None and bits != BARRED and least[v] + Fraction(real(bits)) == least[nxt]: into.setdefault(nxt, (l, v))
     end = v = min(ends)[1]
     way = []
     while v != start:
@@ -44,7 +44,7 @@ def all_readings(b):
     links, nodes, start = fields(b)
     ways = [[((), 0)] if v == start else [] for v in range(len(nodes))]
     for l, (v, (_, _, bits, nxt)) in enumerate(zip(sources(nodes), links)): ways[nxt] += [(way + (l,), k + units(bits)) for way, k in ways[v]]
-    return {way: k + units(bits) for v, (_, mark, bits) in enumerate(nodes) if mark for way, k in ways[v]}
+    return {way: k + units(bits) for v, (_, mark, bits) in enumerate(nodes) if mark for way, k in ways[v] if k + units(bits) < INF}
 
 def listed(n, links, answer):
     """the links of each reading that an answer holds, with its cost in units: read from its bytes"""
@@ -65,8 +65,8 @@ def hold(b, n, readings):
     assert all(costs[way] == k for way, k in readings) and [k for _, k in readings] == sorted(costs.values())[:n] and len(dict(readings)) == len(readings)
 
 @functools.lru_cache(None)
-def made(b, n):
-    """the nodes and links of the list's machine, the entries taken, and the bytes of the answer"""
+def made(b, n, as_rust=False):
+    """the nodes and links of the list's machine, the entries taken, and the bytes of the answer; as_rust: with the infinite readings of the Rust"""
     links, nodes, start = fields(b)
     rows, marks, first, words, taken = [], [], NONE, [], 0
     if n == 1 and best(b):
@@ -74,13 +74,13 @@ def made(b, n):
         rows, marks, first = [(*links[l][:3], q) for q, l in enumerate(words)], [(0, 1, nodes[end][2])] + [(1, 0, 0)] * len(words), len(words)
     if n > 1 and best(b):
         ways = [(v, units(bits), nxt) for v, (_, _, bits, nxt) in zip(sources(nodes), links)]
-        _, _, taken, ways = Search(ways, [units(bits) if mark else None for _, mark, bits in nodes], start, n).run()
+        _, _, taken, ways = Search(ways, [units(bits) if mark else None for _, mark, bits in nodes], start, n, as_rust).run()
         rows = [(*((0, 0) if l is None else links[l][:2]), f(w / 64), q) for _, q, w, l in ways]
         counts = Counter(q for q, _, _, _ in ways)
         marks, first = [(counts[q], int(q == 1), 0) for q in range(1 + max(counts))], 0
         words = [NONE if l is None else l for _, _, _, l in ways]
     answer = sheet(rows, marks, first) + struct.pack('<%dI' % len(words), *words)
-    if len(b) < 400: hold(b, n, listed(n, len(rows), answer))
+    if len(b) < 400: hold(b, n, [reading for reading in listed(n, len(rows), answer) if reading[1] < INF])
     return len(marks), len(rows), taken, answer
 
 def outcome(b, n, words, room):
@@ -115,6 +115,8 @@ assert [k for _, k in readings(A, 3)] == [112, 112, 144] and labels(A, 3)[2] == 
 assert len(readings(A, 4)) == 3 and made(A, 4)[2] == 11
 assert [way for way, _ in readings(TWICE, 1)] == [(0, 2)] and [way for way, _ in readings(TWICE, 2)] == [(1, 2), (0, 3)]
 for n in (1, 2): assert readings(CHAIN, n) == [(tuple(range(NODES - 1)), NODES * UNITS)]
+for n, taken, size in (1, 0, 64), (2, 13, 160), (3, 16, 160), (64, 19, 160):
+    assert readings(E, n) == [((0,), 6)] and made(E, n)[2] == taken and len(made(E, n)[3]) == size
 
 NAMED = {1: 'P2: ', 3: 'P3: ', 4: 'P4: ', 64: 'P9: ', 65: 'P9: '}
 for n in (0, 1, 2, 3, 4, 5, 64, 65):
@@ -190,6 +192,45 @@ KINDS = [('equal ways', climbing(4, [(0, 1, 1), (0, 1, 2), (1, 2, 3), (2, 2, 3)]
 for what, b in KINDS:
     for n in (0, 1, 2, 3, 4, 10, 64): case(f'{what}, n = {n}', b, n)
 
+# with barred links or ends: how many finite readings there are, the machine's name, and its sheet
+BARS = [(1, 'E: barred links and a barred end', E),
+        (0, 'all readings barred by a link', climbing(2, [(0, INF, 1)], 0, None, other)),
+        (0, 'all readings barred by links', climbing(4, [(0, 1, 1), (0, INF, 3), (0, INF, 3), (1, INF, 2), (2, 0, 3)], 0, None, other)),
+        (0, 'all readings barred by their end', climbing(2, [(0, 1, 1)], 0, {1: INF}, other)),
+        (0, "the start's own end barred", climbing(1, [], 0, {0: INF})),
+        (0, 'all links and ends barred', climbing(3, [(0, INF, 1), (0, INF, 2), (1, INF, 2)], 0, {0: INF, 1: INF, 2: INF}, other)),
+        (0, 'a barred way and unreached ends', climbing(4, [(0, INF, 1), (2, 1, 3)], 0, {1: 0, 2: -1, 3: 0}, other)),
+        (1, "the start's own end barred, another not", climbing(2, [(0, 3, 1)], 0, {0: INF, 1: 0}, other)),
+        (1, 'a barred link before a finite one', climbing(2, [(0, INF, 1), (0, -1, 1)], 0, None, other)),
+        (1, 'a barred link behind a finite one', climbing(2, [(0, -1, 1), (0, INF, 1)], 0, None, other)),
+        (1, 'one reading finite, one barred', climbing(2, [(0, INF, 1)], 0, {0: 0, 1: 0}, other)),
+        (1, 'one reading finite, two barred', climbing(2, [(0, INF, 1), (0, INF, 1)], 0, {0: 0, 1: 0}, other)),
+        (1, 'one reading finite, nine barred', climbing(3, [(0, INF, 1)] * 3 + [(0, 2, 2)] + [(1, 0, 2)] * 3, 0, None, other)),
+        (2, 'two readings finite, two barred', climbing(3, [(0, 1, 1), (0, 2, 1), (1, INF, 2)], 0, {1: 0, 2: 1}, other)),
+        (2, 'two readings finite, many barred', climbing(4, [(0, 1, 1), (0, 2, 1)] + [(0, INF, 1), (0, INF, 2)] * 3 + [(1, INF, 2)] * 2 + [(2, 1, 3)] * 2, 0, {1: 0, 3: -2}, other)),
+        (2, 'two finite ways of equal cost, one barred', climbing(3, [(0, 1, 1), (0, 1, 1), (0, INF, 1), (1, 0, 2)], 0, None, other)),
+        (1, 'a barred link from an unreached node to the highest', climbing(4, [(0, 1, 1), (2, INF, 3)], 0, {1: 0, 3: 0}, other)),
+        (1, 'a barred link from a reached node to the highest', climbing(4, [(0, 1, 1), (1, INF, 3)], 0, {1: 0, 3: 0}, other)),
+        (1, 'barred links below the start', climbing(4, [(0, INF, 2), (1, INF, 2), (2, 1, 3), (2, INF, 3)], 2, None, other)),
+        (0, 'barred links and no start', climbing(3, [(0, INF, 1), (1, 1, 2)], NONE, {1: INF, 2: 0}, other)),
+        (1, 'the largest weight beside a barred one', climbing(2, [(0, LARGEST, 1), (0, INF, 1)], 0, {0: INF, 1: LARGEST}, other))]
+def bound(b, n):
+    """no search takes more entries"""
+    links, nodes, _ = fields(b)
+    return 1 + sum(mark for _, mark, _ in nodes) + n * (len(links) + 1)
+for finite, what, b in BARS:
+    for n in (1, 2, 3, 64) if finite == 0 or b is E else (1, 2, 3):
+        assert case(f'{what}, n = {n}', b, n) == 0 and len(readings(b, n)) == min(finite, n) and made(b, n)[2] <= bound(b, n)
+        if finite == 0: assert made(b, n) == (0, 0, 0, EMPTY)
+w, r = 8 * slots(E, 3), len(made(E, 3)[3])
+for words, room, how in ((w - 1, r, 'a work word short'), (w, r - 1, 'a result byte short'), (w + 9, r + 3, 'longer areas')):
+    case(f'E, n = 3, {how}', E, 3, words, room)
+for what, w in ('-infinity', 0xFF800000), ('a NaN', 0x7FC00000), ('a signalling NaN', 0x7F800001):
+    assert case(f'E, a barred link {what}', with_word(E, 6, w), 2) == 4 == case(f'E, its barred end {what}', with_word(E, 24, w), 1)
+assert case('E, infinity where the mark is 0', with_word(E, 18, BARRED), 2) == 1
+assert case('E, the next node of a barred link out of range', with_word(E, 7, 4), 2) == 3
+assert case('E, a barred link to its own node', with_word(E, 7, 0), 2) == 6
+
 random.seed(1)
 def some():
     """a sheet of few distinct weights"""
@@ -204,8 +245,14 @@ for i in range(250):
     b, n = some(), random.choice([0, 1, 2, 2, 2, 3, 3, 4, 5, 7, random.randint(0, 66), random.randint(60, 66)])
     words, room = 8 * slots(b, n), len(made(b, min(n, 64))[3])
     case(f'random {i}', b, n, max(0, words + random.choice([0] * 9 + [3, 8, 17, -1, -8])), max(0, room + random.choice([0] * 9 + [1, 5, 12, -1, -4])))
+random.seed(3)
+for i in range(80):
+    b, n = some_barred(random, some()), random.choice([1, 2, 2, 2, 3, 3, 4, 5, 7, random.randint(0, 64)])
+    words, room = 8 * slots(b, n), len(made(b, n)[3])
+    case(f'barred at random {i}', b, n, words + random.choice([0] * 6 + [3, 8, -1]), max(0, room + random.choice([0] * 6 + [1, 12, -1])))
+    assert made(b, n)[2] <= bound(b, n)
 for i, (b, n, _, *told) in enumerate(sample()):
-    assert made(b, n) == tuple(told)
+    assert made(b, n, True) == tuple(told)
     case(f'the Rust {i}', b, n)
     if i % 10 == 5: case(f'the Rust {i}, longer areas', b, n, 8 * slots(b, n) + 1 + i % 20, len(told[3]) + 1 + i % 30)
 if __name__ == '__main__':

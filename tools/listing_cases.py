@@ -6,8 +6,9 @@ shares nothing with the library.
     python3 tools/listing_cases.py > crates/replay_listings/stdin
 """
 import functools, itertools, random
-from list_cases import BREAKS, KINDS, labels, large, made, readings, some
-from sheets import A, EMPTY, LARGEST, NODES, NONE, TRAILER, UNITS, climbing, f, fields, input_number, read, sheet, with_word, written
+from list_cases import BARS, BREAKS, KINDS, labels, large, made, readings, some
+from search_oracle import INF
+from sheets import A, E, EMPTY, LARGEST, NODES, NONE, TRAILER, UNITS, climbing, f, fields, input_number, read, sheet, some_barred, with_word, written
 
 def listing_number(n, b):
     """the refusal, or 0"""
@@ -89,6 +90,14 @@ for what, b in KINDS + MORE:
     for n in range(6): case(what, n, b)
 assert printed(b'\2' + lone(-1)) == 'readings 1 taken 3\n1 -1\n'
 
+for _, what, b in BARS:
+    for n in (0, 1, 2, 3, 4, 5) if b is E else (1, 2, 4): case(what, n, b)
+assert printed(b'\1' + E) == 'readings 1 taken 0\n1 6 1\n' and printed(b'\2' + E) == 'readings 1 taken 13\n1 6 1\n'
+assert printed(b'\3' + E) == 'readings 1 taken 16\n1 6 1\n' and printed(b'\5' + E) == 'refused 20\n'
+for n in (1, 2, 4): assert case('a barred way alone', n, climbing(3, [(0, 1, 1), (1, INF, 2)], 0)) == 'readings 0 taken 0\n'
+for what, w in ('-infinity', 0xFF800000), ('a NaN', 0x7FC00000), ('a signalling NaN', 0x7F800001):
+    assert case(f'E, a barred link {what}', 2, with_word(E, 6, w)) == 'refused 4\n' == case(f'E, its barred end {what}', 2, with_word(E, 24, w))
+
 random.seed(2)
 def renamed(b):
     """with other input labels"""
@@ -98,4 +107,6 @@ for i in range(200):
     b = renamed(some())
     if random.random() < .1: b = with_word(b, random.randrange(len(b) // 4), random.choice([0, 1, 2, f(LARGEST + 1), NONE]))
     case(f'random {i}', random.choice([1, 2, 2, 3, 3, 4, 4, random.randint(0, 66)]), b)
+random.seed(3)
+for i in range(60): case(f'barred at random {i}', random.choice([1, 2, 2, 3, 3, 4]), renamed(some_barred(random, some())))
 for line in lines: print(line)

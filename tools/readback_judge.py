@@ -13,8 +13,8 @@ import argparse, ctypes, faulthandler, functools, random, struct, sys, time
 from collections import Counter, namedtuple
 sys.dont_write_bytecode = True
 from search_oracle import INF, Search
-from sheets import (A, CHAIN, EMPTY, LARGEST, LINKS, NODES, NONE, UNITS, climbing, distances, f, fields, input_number, read_number, real, sources,
-                    with_word)
+from sheets import (A, BARRED, CHAIN, E, EMPTY, LARGEST, LINKS, NODES, NONE, UNITS, climbing, distances, f, fields, input_number, read_number, real,
+                    some_barred, sources, with_word)
 
 # the most readings that a list is asked for, and the most units of a sum
 LISTS, SUMS = 64, 2 ** 24
@@ -31,6 +31,10 @@ def units(bits, most):
     """the units of a weight's bits, or None where they are off the grid of so many units either way"""
     k = 64 * real(bits)
     return int(k) if bits != 0x80000000 and abs(k) <= most and k.is_integer() else None
+
+def weight_units(bits):
+    """the units of a weight of an accepted sheet, INF where it is barred"""
+    return INF if bits == BARRED else units(bits, UNITS)
 
 def refused(number, told): return number, *OLD[:told]
 
@@ -63,14 +67,15 @@ def searched(sheet):
     return 0, (links, sources(nodes), nodes, start)
 
 def reading_in(machine, way):
-    """the cost in units and the end of a run of links from the start to a final node, or None"""
+    """the cost in units and the end of a run of links from the start to a final node, or None, also where that cost is infinite"""
     links, leaves, nodes, start = machine
     node, cost = start, 0
     for l in way:
         if l >= len(links) or leaves[l] != node: return None
-        cost, node = cost + units(links[l][2], UNITS), links[l][3]
+        cost, node = cost + weight_units(links[l][2]), links[l][3]
     if node == NONE or nodes[node][1] == 0: return None
-    return cost + units(nodes[node][2], UNITS), node
+    cost += weight_units(nodes[node][2])
+    return None if cost == INF else (cost, node)
 
 def told_reading(sheet, n, result, states, links, k, room):
     """the number of 1 to 7, 30, 31 and 21, or 0, with the links, the cost and the end, and the links' numbers"""
@@ -189,8 +194,8 @@ class Library:
 # ---- machines
 
 def drawn(rng, nodes, count, chained):
-    """a sheet of so many nodes and links or a few more: ties or none, parallel links, any finals, often unreached nodes, sometimes no start;
-    chained, it has long readings"""
+    """a sheet of so many nodes and links or a few more: ties or none, parallel links, any finals, often unreached nodes, sometimes no start,
+    a third with barred links or ends; chained, it has long readings"""
     scale, reach, marked = rng.choice((0, 1, 64, UNITS)), rng.choice((1, 2, 3, nodes + 1)), rng.choice((.1, .4, .9))
     def weight(): return rng.randint(-scale, scale) / 64
     def label(_): return rng.choice((0, 1, rng.getrandbits(32))), rng.choice((0, 2, NONE))
@@ -201,7 +206,8 @@ def drawn(rng, nodes, count, chained):
         ways += [(source, weight(), target) for _ in range(rng.choice((1, 1, 1, 2)))]
     finals = {v: weight() for v in range(nodes) if rng.random() < marked or v == nodes - 1 and rng.random() < .8}
     start = NONE if nodes == 0 or rng.random() < .05 else 0 if rng.random() < .7 else rng.randrange(nodes)
-    return climbing(nodes, ways, start, finals, label)
+    b = climbing(nodes, ways, start, finals, label)
+    return some_barred(rng, b) if rng.random() < .33 else b
 
 def small(rng):
     nodes = rng.choice((0, 1, 2, 3, 4, 4, 5, 6, 8, 10))
@@ -216,6 +222,8 @@ WIDE = climbing(2, [(0, 1 / 64, 1)] * LINKS, 0)
 # one node too many, and one link: they are sheets, but are not searched
 LARGE = climbing(NODES + 1, [(0, 1, NODES)], 0), climbing(2, [(0, 1, 1)] * (LINKS + 1), 0)
 TIES = climbing(4, [(v, 0, v + 1) for v in (0, 0, 1, 1, 2, 2)], 0)
+# every reading is barred
+SHUT = climbing(3, [(0, 1, 1), (0, INF, 2), (1, INF, 2)], 0, {0: INF, 2: 0})
 
 # ---- damage: each gives sheets and results to judge, of a sheet and the result of its list
 
@@ -283,21 +291,21 @@ def foreign(rng, sheet, r, kept):
         yield sheet_too, r
 
 def sheet_changed(rng, sheet, r, _):
-    """the result of a sheet whose weights, marks, start or ways have changed since"""
+    """the result of a sheet whose weights, marks, start or ways have changed since, at times to barred ones"""
     links, nodes, start = fields(sheet)
     for _ in range(12 if nodes else 0):
         ls, vs, s = [list(l) for l in links], [list(v) for v in nodes], start
         v = rng.randrange(len(vs))
         what = rng.randrange(4 if ls else 2)
-        if what == 0: vs[v][1:] = rng.choice(((0, 0), (1, f(rng.randint(-UNITS, UNITS) / 64))))
+        if what == 0: vs[v][1:] = rng.choice(((0, 0), (1, BARRED), (1, f(rng.randint(-UNITS, UNITS) / 64))))
         elif what == 1: s = rng.choice((v, NONE))
-        elif what == 2: rng.choice(ls)[2] = f(rng.randint(-UNITS, UNITS) / 64)
+        elif what == 2: rng.choice(ls)[2] = rng.choice((BARRED, f(rng.randint(-UNITS, UNITS) / 64)))
         else: rng.choice(ls)[3] = v
         ws = [w for record in ls + vs for w in record]
         yield struct.pack(f'<{len(ws)}I', *ws) + sheet[len(sheet) - 20:-4] + struct.pack('<I', s), r
 
 OVER = LARGEST + 1 / 64
-OFF_GRID = 0x80000000, 0x7F800000, 0xFF800000, 0x7FC00000, 0x7F800001, 0xFFFFFFFF, 1, 0x80000001, f(.3), f(1 / 128), f(OVER), f(-OVER)
+OFF_GRID = 0x80000000, BARRED, 0xFF800000, 0x7FC00000, 0x7F800001, 0xFFFFFFFF, 1, 0x80000001, f(.3), f(1 / 128), f(OVER), f(-OVER)
 
 def broken_words(rng, sheet):
     """the places and values of words with which a sheet is refused, most of them"""
@@ -416,8 +424,8 @@ class Judge:
         *told, past = self.result('an answer itself', sheet, r, every=True)
         links, leaves, nodes, start = searched(sheet)[1]
         if len(nodes) > 50 or n == 0: return r
-        ways = [(v, units(bits, UNITS), to) for v, (_, _, bits, to) in zip(leaves, links)]
-        search = Search(ways, [units(bits, UNITS) if mark else None for _, mark, bits in nodes], None if start == NONE else start, n)
+        ways = [(v, weight_units(bits), to) for v, (_, _, bits, to) in zip(leaves, links)]
+        search = Search(ways, [weight_units(bits) if mark else None for _, mark, bits in nodes], None if start == NONE else start, n)
         if n == 1: costs, runs = [search.total] * (search.total < INF), [run for _, (_, _, run) in told]
         else: costs, runs, _, _ = search.run() if search.total < INF else ([], [], 0, [])
         if past[0] != 31 or len(told) != len(costs) or [(k, cost, run) for k, (cost, _, run) in told] != [(0, *due) for due in zip(costs, runs)]:
@@ -457,7 +465,7 @@ class Judge:
             for b in r.bytes[:len(r.bytes) - 4 * r.links], r.bytes: self.sheet(b)
 
     def run(self, cases):
-        for b in A, EMPTY, TIES: self.machine(b)
+        for b in A, EMPTY, TIES, E, SHUT: self.machine(b)
         for b in LARGE: self.sheet(b)
         for b in CHAIN, DEEP, WIDE:
             for n in 1, 2: self.result('an answer itself', b, self.library.list_of(b, n), every=True)

@@ -7,9 +7,9 @@ expected comes from rows.py, which follows the text of the requirements and shar
     python3 tools/row_cases.py > crates/replay_rows/stdin
 """
 import random, struct
-from drawn_rows import BAD, LESS, MOST, NO_NODE, OFF, ON, damaged_sheet, damaged_text, drawn_sheet, drawn_text
+from drawn_rows import BAD, INFINITY, LESS, MOST, NO_INFINITY, NO_NODE, OFF, ON, damaged_sheet, damaged_text, drawn_sheet, drawn_text
 from rows import rows_size, sheet_size, to_rows, to_sheet
-from sheets import A, EMPTY, LARGEST, NONE, f, read, sheet, with_word, written
+from sheets import A, BARRED, E, EMPTY, LARGEST, NONE, f, read, sheet, with_word, written
 
 # what the program has areas for
 ROOM, GIVEN = 16384, 8192
@@ -18,6 +18,9 @@ TO_SHEET, TO_ROWS = (0, sheet_size, to_sheet), (1, rows_size, to_rows)
 
 # Sheet A's rows as they are written
 A_ROWS = b'0\t1\t1\t1\t1\n0\t2\t2\t2\t0.5\n1\t3\t3\t3\t0.25\n1\t2\t5\t5\n2\t3\t4\t4\t0.75\n3\t0.5\n'
+
+# E's rows as they are written
+E_ROWS = b'0\t1\t1\t1\t0.078125\n0\t1\t2\t2\tInfinity\n1\t2\t3\t3\tInfinity\n1\t0.015625\n2\t3\t4\t4\n2\tInfinity\n3\n'
 
 lines = {}
 def case(call, what, data, room=ROOM):
@@ -106,16 +109,43 @@ def sheets():
     for k, b in ((1, A[:-1]), (1, b''), (2, with_word(A, START, 4)), (2, with_word(off, START, 4)), (3, with_word(off, 3, 4)), (4, with_word(off, START, NONE))):
         assert number(TO_ROWS, f'{k} before what follows', b, ROOM, 0) == k
 
-def drawn(r, count):
+BARRED_REFUSED = {
+    'barred, then off the grid': (4, b'0 Infinity\n1 0.3\n'), 'off the grid, then barred': (4, b'0 1 1 1 0.3\n1 Infinity\n'),
+    'barred, then a row that is none': (8, b'0 Infinity\n1 x\n'), 'barred at a node without a sheet': (1, b'4294967295 Infinity\n'),
+    'barred by a link to a node without a sheet': (1, b'0 4294967295 1 1 Infinity\n'), 'final twice, both barred': (8, b'0 Infinity\n0 Infinity\n'),
+    'final twice, one barred': (8, b'0\n0 Infinity\n'), 'three fields, one of them Infinity': (8, b'0 1 Infinity\n'),
+    'Infinity, then a sixth field': (8, b'0 1 1 1 Infinity 1\n'), 'Infinity alone': (8, b'Infinity\n'), 'Infinity without a newline': (8, b'0 Infinity')}
+
+def barred():
+    assert exact(TO_SHEET, "E's rows", E_ROWS) == E and exact(TO_ROWS, 'E', E) == E_ROWS
+    b = exact(TO_SHEET, 'a barred link', b'0\t1\t1\t1\tInfinity\n')
+    assert b == sheet([(1, 1, BARRED, 1)], [(1, 0, 0), (0, 0, 0)], 0) and exact(TO_ROWS, 'a barred link', b) == b'0\t1\t1\t1\tInfinity\n'
+    b = exact(TO_SHEET, 'a barred end', b' 0\t Infinity \n')
+    assert b == sheet([], [(0, 1, BARRED)], 0) and exact(TO_ROWS, 'a barred end', b) == b'0\tInfinity\n'
+    for what, (k, text) in BARRED_REFUSED.items(): assert number(TO_SHEET, what, text, ROOM, 0) == k, what
+    for bad in NO_INFINITY:
+        assert number(TO_SHEET, f'link weight {bad!r}', b'0\t1\t1\t1\t' + bad + b'\n') == 8 == number(TO_SHEET, f'final weight {bad!r}', b'3\n0\t' + bad + b'\n')
+    for at in range(4): assert number(TO_SHEET, f'Infinity as field {at} of a link', b'\t'.join([b'1'] * at + [INFINITY] + [b'1'] * (4 - at)) + b'\n') == 8
+    for w in (0xff800000, 0x7fc00000, 0x7f800001):
+        assert number(TO_ROWS, f'E, a barred link {w:08x}', with_word(E, 6, w)) == 4 == number(TO_ROWS, f'E, its barred end {w:08x}', with_word(E, 24, w))
+    assert number(TO_ROWS, 'E, infinity where the mark is 0', with_word(E, 18, BARRED)) == 1
+    assert number(TO_ROWS, 'E, the next node of a barred link out of range', with_word(E, 7, 4)) == 3
+    assert number(TO_ROWS, 'E without a start', with_word(E, len(E) // 4 - 1, NONE)) == 9
+    assert number(TO_ROWS, 'a bare last node behind a barred end', sheet([], [(0, 1, BARRED), (0, 0, 0)], 0)) == 9
+
+def drawn(r, count, name, nodes, links, barred):
     for call, draw, damage, what in ((TO_SHEET, drawn_text, damaged_text, 'text'), (TO_ROWS, drawn_sheet, damaged_sheet, 'sheet')):
         for i in range(count):
-            data = damage(r, draw(r)) if i % 3 == 0 else draw(r)
+            data = draw(r, nodes, links, barred=barred)
+            if i % 3 == 0: data = damage(r, data)
             size = min(call[1](data)[1], ROOM)
-            case(call, f'drawn {what} {i}', data, r.choice([ROOM, size, size, max(size - 1, 0)]))
+            case(call, f'{name} {what} {i}', data, r.choice([ROOM, size, size, max(size - 1, 0)]))
 
 if __name__ == '__main__':
     both_ways()
     texts()
     sheets()
-    drawn(random.Random(1), 90)
+    drawn(random.Random(1), 90, 'drawn', 9, 14, 0)
+    barred()
+    drawn(random.Random(2), 20, 'barred', 4, 5, .3)
     for line, what in lines.items(): print(line, '#', what)

@@ -1,9 +1,10 @@
-"""Text rows and sheets, both ways, as document 02's request (a) words them, with exact fractions: what the scripts beside this one and the
-comparing run in oracle/ share. It shares nothing with the library.
+"""Text rows and sheets, both ways, as document 02's requests (a) and (e) word them, with exact fractions: what the scripts beside this one and
+the comparing run in oracle/ share. It shares nothing with the library.
 """
 import re, sys
 from fractions import Fraction
-from sheets import NONE, UNITS, f, fields, read_number, real, sheet, sources
+from math import inf
+from sheets import BARRED, NONE, UNITS, f, fields, read_number, real, sheet, sources
 
 # a weight may have any number of digits before its point
 sys.set_int_max_str_digits(0)
@@ -15,7 +16,8 @@ def number(field):
     return n if n < 2 ** 32 else None
 
 def weight(field):
-    """the exact weight, or None"""
+    """the exact weight, inf for the one spelling of what is barred, or None"""
+    if field == b'Infinity': return inf
     if not re.fullmatch(rb'-?[0-9]+(\.[0-9]{1,6})?', field): return None
     return Fraction(field.decode())
 
@@ -36,7 +38,7 @@ def rows_of(text):
     finals = [row[1] for row in rows if row[0] == 'final']
     return rows if len(set(finals)) == len(finals) else None
 
-def off_grid(w): return (w * 64).denominator != 1 or abs(w * 64) > UNITS
+def off_grid(w): return w != inf and ((w * 64).denominator != 1 or abs(w * 64) > UNITS)
 
 def sheet_size(text):
     """what the call for the length answers: the refusal, 8, 1, 4, or 0, and the length"""
@@ -62,11 +64,12 @@ def to_sheet(text, room):
     return 0, sheet([link for v in sorted(links) for link in links[v]], nodes, rows[0][1])
 
 def weight_text(w):
+    if w == inf: return 'Infinity'
     whole, part = divmod(abs(w) * 10 ** 6, 10 ** 6)
     return ('-' if w < 0 else '') + str(whole) + (f'.{int(part):06}'.rstrip('0') if part else '')
 
 def written_row(numbers, bits):
-    w = Fraction(real(bits))
+    w = inf if bits == BARRED else Fraction(real(bits))
     return '\t'.join([*map(str, numbers)] + ([weight_text(w)] if w else [])) + '\n'
 
 def has_rows(b):

@@ -1,15 +1,16 @@
 #!/usr/bin/env python3
 """The search for the n cheapest readings, from the text of the requirements, apart from the library. Run, it prints costs, readings, entries
 taken, and the links of the trimmed list machine as (source, next, weight, input link or None), of the small machines whose values
-crates/search/proofs/Bench.antt states. Weights are in units.
+crates/search/proofs/Bench.antt states, and of one with barred links. Weights are in units, INF for what is barred.
 
     python3 tools/search_oracle.py
 """
 INF = float('inf')
 
 class Search:
-    def __init__(self, links, finals, start, n):
-        self.finals, self.start, self.n = finals, start, n
+    def __init__(self, links, finals, start, n, as_rust=False):
+        """as_rust: an entry finished at infinity is listed and counts towards n, as in the Rust"""
+        self.finals, self.start, self.n, self.as_rust = finals, start, n, as_rust
         nodes = range(len(finals))
         self.distance = [0 if v == start else INF for v in nodes]
         for source, weight, target in links:
@@ -18,8 +19,8 @@ class Search:
         self.total = min((self.distance[v] + finals[v] for v in ends), default=INF)
         self.out = [[(None, finals[v], v + 1) for v in ends]]
         self.out += [[(l, w, s + 1) for l, (s, w, t) in enumerate(links) if t == v] for v in nodes]
-        # an entry: its node, or None where it is finished, its cost, the entry it came from, the input link
-        self.entries, self.heap, self.visits = [(0, 0, None, None)], [0], [0] * (len(finals) + 1)
+        # an entry: its node, or None where it is finished, its cost, the entry it came from, the input link, the weight since that entry
+        self.entries, self.heap, self.visits = [(0, 0, None, None, 0)], [0], [0] * (len(finals) + 1)
         self.listed, self.taken = [], 0
 
     def rank(self, i):
@@ -56,12 +57,12 @@ class Search:
         self.taken += 1
         node, cost = self.entries[x][:2]
         if node is None:
-            self.listed.append(x)
+            if cost < INF or self.as_rust: self.listed.append(x)
             return
         self.visits[node] += 1
         if self.visits[node] > self.n: return
-        for link, weight, target in self.out[node]: self.put((target, cost + weight, x, link))
-        if self.start is not None and node == self.start + 1: self.put((None, cost, x, None))
+        for link, weight, target in self.out[node]: self.put((target, cost + weight, x, link, weight))
+        if self.start is not None and node == self.start + 1: self.put((None, cost, x, None, 0))
 
     def reading(self, i):
         links = []
@@ -77,7 +78,7 @@ class Search:
     def trimmed(self):
         """entry i is state i + 1, and 0 the start; states that the start does not lead to, or that do not lead to state 1, go"""
         links = [(0, i + 1, 0, None) for i in self.listed]
-        links += [(i + 1, e[2] + 1, e[1] - self.entries[e[2]][1], e[3]) for i, e in enumerate(self.entries) if i]
+        links += [(i + 1, e[2] + 1, e[4], e[3]) for i, e in enumerate(self.entries) if i]
         def closed(first, step):
             steps, seen, more = {}, {first}, [first]
             for a, b in map(step, links): steps.setdefault(a, []).append(b)
@@ -93,6 +94,7 @@ A = [(0, 64, 1), (0, 32, 2), (1, 16, 3), (1, 0, 2), (2, 48, 3)], [None, None, No
 B = [(0, 0, 1), (0, 0, 1), (1, 0, 2), (1, 0, 2), (1, 0, 2)], [None, None, 0], 0
 C = [(0, 7, 1), (1, 4, 2)], [0, 4, 0, 0], 1
 D = [(0, 0, 1), (0, 0, 2)], [0, 0, 0], 0
+E = [(0, 5, 1), (0, INF, 1), (1, INF, 2), (2, 0, 3)], [None, 1, INF, 0], 0
 if __name__ == '__main__':
-    for name, machine, n in (('A', A, 2), ('A', A, 3), ('A', A, 4), ('A', A, 64), ('B', B, 2), ('C', C, 3), ('D', D, 2)):
+    for name, machine, n in (('A', A, 2), ('A', A, 3), ('A', A, 4), ('A', A, 64), ('B', B, 2), ('C', C, 3), ('D', D, 2), ('E', E, 2), ('E', E, 3), ('E', E, 64)):
         print(name, n, *Search(*machine, n).run())

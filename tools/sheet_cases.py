@@ -6,7 +6,7 @@ sheets.py, which follows the text of the requirements with exact fractions and s
     python3 tools/sheet_cases.py > crates/replay_sheets/stdin
 """
 import itertools, random, struct
-from sheets import A, EMPTY, LARGEST, NONE, f, read_number, sheet, with_word
+from sheets import A, BARRED, E, EMPTY, LARGEST, NONE, f, read_number, sheet, some_barred, with_word
 
 ONE = sheet([], [(0, 1, f(-2))], 0)
 TWO = sheet([(7, 9, f(3), 1)], [(1, 0, 0), (0, 1, f(1))], 0)
@@ -71,6 +71,22 @@ for w in GRID:
     case(f"{'P7: ' if w in GRID[:2] else ''}two nodes, link weight {w:08x}", with_word(TWO, 2, w))
     case(f'two nodes, final weight {w:08x}', with_word(TWO, 9, w))
     case(f'two nodes, weight {w:08x} where the mark is 0', with_word(TWO, 6, w))
+case('E: barred links and a barred end', E)
+for l in range(5): case(f'A, link {l} barred', with_word(A, 4 * l + 2, BARRED))
+case('A, its end barred', with_word(A, 31, BARRED))
+case('one node, its end barred', with_word(ONE, 2, BARRED))
+case('links that do not climb, both barred', with_word(with_word(LOOP, 2, BARRED), 6, BARRED))
+for w in (0xff800000, 0x7fc00000, 0x7f800001, 0x7f7fffff, 0x7f900000, 0xff800001, BARRED - 1, BARRED):
+    case(f'E, weight {w:08x} on its last link', with_word(E, 14, w)); case(f'E, weight {w:08x} at its last end', with_word(E, 27, w))
+    case(f'E, weight {w:08x} where the mark is 0', with_word(E, 18, w))
+    case(f'E, next node out of range on its barred link, and weight {w:08x} before', with_word(with_word(E, 7, 4), 2, w))
+case('two nodes, its link barred and its next node out of range', with_word(with_word(TWO, 2, BARRED), 3, 2))
+case('two nodes, its link barred and the start out of range', with_word(with_word(TWO, 2, BARRED), len(TWO) // 4 - 1, 2))
+case('two nodes, its end barred, and mark 2', with_word(with_word(TWO, 9, BARRED), 8, 2))
+for i in range(40):
+    b = some_barred(random, random.choice(BASES)[1] if i % 2 else E)
+    j = random.randrange(len(b) // 4)
+    case(f'barred at random {i}', b); case(f'barred at random {i}, {name(b, j)} broken', with_word(b, j, bad(b, j)))
 t = len(TWO) // 4 - 2
 for v in (1 << 28, 1 << 29, 1 << 31, (1 << 28) + 1): case(f'two nodes, link count {v:x}: 16 times it wraps', with_word(with_word(TWO, t, v), t - 2, 16 * v & NONE))
 for v in (1 << 30, (1 << 30) + 2, 0x55555557): case(f'two nodes, node count {v:x}: 12 times it wraps', with_word(TWO, t - 1, v))

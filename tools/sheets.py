@@ -12,6 +12,8 @@ NONE = 0xFFFFFFFF
 # the limits: the most nodes and links of a machine, and the most sixty-fourths of a weight either way; the largest weight
 NODES, LINKS, UNITS = 2048, 16384, 8192
 LARGEST = UNITS / 64
+# the weight bits of what is barred, positive infinity
+BARRED = 0x7F800000
 
 def f(x): return struct.unpack('<I', struct.pack('<f', x))[0]
 
@@ -22,6 +24,10 @@ def on_grid(bits):
     if not math.isfinite(x) or bits == 0x80000000: return False
     k = Fraction(x) * 64
     return k.denominator == 1 and abs(k) <= UNITS
+
+def fits(bits):
+    """test 4 of a weight"""
+    return bits == BARRED or on_grid(bits)
 
 def sheet(links, nodes, start):
     ws = [w for l in links for w in l] + [w for v in nodes for w in v] + [0, 16 * len(links), len(nodes), len(links), start]
@@ -46,8 +52,8 @@ def read_number(b):
     if sum(count for count, _, _ in nodes) != t: return 1
     if not (start < n or start == NONE): return 2
     if any(nxt >= n for _, _, _, nxt in links): return 3
-    if any(not on_grid(bits) for _, _, bits, _ in links): return 4
-    if any(mark == 1 and not on_grid(bits) for _, mark, bits in nodes): return 4
+    if any(not fits(bits) for _, _, bits, _ in links): return 4
+    if any(mark == 1 and not fits(bits) for _, mark, bits in nodes): return 4
     return 0
 
 def sources(nodes): return [v for v, (count, _, _) in enumerate(nodes) for _ in range(count)]
@@ -62,22 +68,32 @@ def input_number(b):
     return 0
 
 def distances(b):
-    """a value per node up to the highest reached, None for an unreached one"""
+    """a value per node up to the highest that is reached or that a link, barred or not, leads to from a reached one; None for an unreached one"""
     links, nodes, start = fields(b)
-    least = [None] * len(nodes)
+    least, highest = [None] * len(nodes), start
     if start == NONE: return []
     least[start] = Fraction(0)
     for v, (_, _, bits, nxt) in zip(sources(nodes), links):
         if least[v] is None: continue
+        highest = max(highest, nxt)
+        if bits == BARRED: continue
         to = least[v] + Fraction(real(bits))
         if least[nxt] is None or to < least[nxt]: least[nxt] = to
-    return least[:1 + max(v for v, d in enumerate(least) if d is not None)]
+    return least[:1 + highest]
 
 def climbing(n, ways, start, finals=None, label=lambda i: (i + 1, i + 1)):
     """a sheet of n nodes from (source, weight, next), with the final weights of some nodes, or none of its nodes final but the last"""
     ways, finals = sorted(ways, key=lambda w: w[0]), {n - 1: 0} if finals is None else finals
     links = [(*label(i), f(weight), nxt) for i, (_, weight, nxt) in enumerate(ways)]
     return sheet(links, [(sum(w[0] == v for w in ways), int(v in finals), f(finals.get(v, 0))) for v in range(n)], start)
+
+def some_barred(r, b):
+    """a sheet with some of its links, of its final weights or of both barred; r draws which"""
+    links, nodes, start = fields(b)
+    kinds, share = r.choice(('links', 'finals', 'links and finals')), r.choice((.15, .4, .8))
+    def barred(kind, bits): return BARRED if kind in kinds and r.random() < share else bits
+    return sheet([(i, o, barred('links', bits), nxt) for i, o, bits, nxt in links],
+                 [(count, mark, barred('finals', bits) if mark else bits) for count, mark, bits in nodes], start)
 
 def raised(block):
     w = struct.unpack('<H', block[-4:-2])[0]
@@ -125,5 +141,7 @@ A = sheet([(1, 1, f(1), 1), (2, 2, f(.5), 2), (3, 3, f(.25), 3), (5, 5, f(0), 2)
 # the word at which its trailer begins
 TRAILER = len(A) // 4 - 5
 EMPTY = sheet([], [], NONE)
+# with barred links and a barred end: node 3 is led to from node 2 alone, which is not reached
+E = sheet([(1, 1, f(5 / 64), 1), (2, 2, BARRED, 1), (3, 3, BARRED, 2), (4, 4, f(0), 3)], [(2, 0, 0), (1, 1, f(1 / 64)), (1, 1, BARRED), (0, 1, f(0))], 0)
 # of as many nodes as there may be, each weight the largest
 CHAIN = sheet([(1, 1, f(LARGEST), v + 1) for v in range(NODES - 1)], [(1, 0, 0)] * (NODES - 1) + [(0, 1, f(LARGEST))], 0)

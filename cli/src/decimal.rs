@@ -3,6 +3,11 @@
 
 use std::fmt;
 
+use yeldmur::units;
+
+/// How rows write the weight of what is barred.
+pub const INFINITY: &str = "Infinity";
+
 /// So many sixty-fourths, shown in their shortest form: 112 is `1.75`.
 #[derive(Clone, Copy, Debug, PartialEq, Eq)]
 pub struct Decimal(pub i32);
@@ -16,9 +21,29 @@ impl fmt::Display for Decimal {
     }
 }
 
+/// A weight as rows have it: its shortest form, or `Infinity` where it is barred.
+#[derive(Clone, Copy, Debug, PartialEq)]
+pub struct Weight(pub f32);
+
+impl fmt::Display for Weight {
+    fn fmt(&self, f: &mut fmt::Formatter<'_>) -> fmt::Result {
+        match units(self.0) {
+            Some(units) => Decimal(units).fmt(f),
+            None => f.pad(INFINITY),
+        }
+    }
+}
+
 #[cfg(test)]
 mod tests {
     use super::*;
+
+    #[test]
+    fn weights() {
+        assert_eq!(Weight(-1.75).to_string(), "-1.75");
+        assert_eq!(Weight(0.0).to_string(), "0");
+        assert_eq!(Weight(yeldmur::BARRED).to_string(), "Infinity");
+    }
 
     #[test]
     fn shortest_forms() {

@@ -3,9 +3,9 @@
 
 use std::fmt::Write;
 
-use yeldmur::{units, Link, List, Sheet};
+use yeldmur::{Link, List, Sheet, BARRED};
 
-use crate::decimal::Decimal;
+use crate::decimal::{Decimal, Weight};
 
 const HEAD: &str = r##"digraph machine {
   rankdir = LR;
@@ -32,7 +32,8 @@ const COLOURS: [[u32; 3]; 8] = [
     [0x6a, 0x4f, 0xc9],
 ];
 
-/// The machine of a sheet: links by input label, or both labels where they differ, and weight; final nodes with their weights.
+/// The machine of a sheet: links by input label, or both labels where they differ, and weight; final nodes with their weights. What is barred
+/// is dashed.
 pub fn machine(sheet: &Sheet) -> String {
     drawn(sheet, "", |_| String::new())
 }
@@ -57,25 +58,42 @@ fn drawn(sheet: &Sheet, legend: &str, style: impl Fn(usize) -> String) -> String
         let _ = writeln!(text, "  start {plain};\n  start -> {start};");
     }
     for (node, weight) in sheet.finals().enumerate() {
-        let _ = match weight.map(units) {
-            Some(cost) => writeln!(
-                text,
-                r#"  {node} [shape = doublecircle, label = "{node} / {}"];"#,
-                Decimal(cost)
-            ),
+        let _ = match weight {
+            Some(weight) => writeln!(text, "  {node} [{}];", final_node(node, weight)),
             None => writeln!(text, "  {node};"),
         };
     }
     for (number, link) in sheet.links().enumerate() {
         let Link { source, next, .. } = link;
         let (label, style) = (labels(link), style(number));
-        let _ = writeln!(text, r#"  {source} -> {next} [label = "{label}"{style}];"#);
+        let barred = if_barred(link.weight, ", style = dashed");
+        let _ = writeln!(
+            text,
+            r#"  {source} -> {next} [label = "{label}"{style}{barred}];"#
+        );
     }
     text + "}\n"
 }
 
+fn if_barred(weight: f32, style: &str) -> &str {
+    if weight == BARRED {
+        style
+    } else {
+        ""
+    }
+}
+
+fn final_node(node: usize, weight: f32) -> String {
+    // every node is filled
+    let barred = if_barred(weight, r#", style = "filled,dashed""#);
+    format!(
+        r#"shape = doublecircle, label = "{node} / {}"{barred}"#,
+        Weight(weight)
+    )
+}
+
 fn labels(link: Link) -> String {
-    let weight = Decimal(units(link.weight));
+    let weight = Weight(link.weight);
     if link.ilabel == link.olabel {
         format!("{} / {weight}", link.ilabel)
     } else {
@@ -144,5 +162,19 @@ mod tests {
             next: 1,
         };
         assert_eq!(labels(link), "1:2 / -0.5");
+    }
+
+    #[test]
+    fn what_is_barred_is_dashed() {
+        let sheet = Sheet::from_rows(b"0 1 7 7 Infinity\n0 1 8 8\n0 0.5\n1 Infinity\n").unwrap();
+        let text = machine(&sheet);
+        let drawn: Vec<&str> = text.lines().filter(|line| line.contains(" / ")).collect();
+        let expected = [
+            r#"  0 [shape = doublecircle, label = "0 / 0.5"];"#,
+            r#"  1 [shape = doublecircle, label = "1 / Infinity", style = "filled,dashed"];"#,
+            r#"  0 -> 1 [label = "7 / Infinity", style = dashed];"#,
+            r#"  0 -> 1 [label = "8 / 0"];"#,
+        ];
+        assert_eq!(drawn, expected);
     }
 }

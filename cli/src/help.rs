@@ -47,14 +47,17 @@ const WORDS: [Words; 7] = [
         command: Command::Distances,
         line: "find the distance of each node",
         usage: "[--json] [FILE...]",
-        text: "Finds for each node, up to the highest that is reached, the least cost of a way\n\
-               from the start to it, as a decimal and in units of 1/64.",
+        text:
+            "Finds for each node the least cost of a way from the start to it, as a decimal and\n\
+               in units of 1/64, or that it is unreached; up to the highest node that is reached\n\
+               or that a link, barred or not, leads to from a reached one.",
     },
     Words {
         command: Command::Draw,
         line: "draw the machine, or the list laid over it",
         usage: "[-n COUNT] [-T dot|svg|png] [-o PLACE] [FILE...]",
         text: "Draws the machine in Graphviz's language, or with its program dot as SVG or PNG.\n\
+               Links and final nodes that are barred, by a weight of Infinity, are dashed.\n\
                With -n the links of the cheapest readings are coloured by rank, and a legend\n\
                has the ranks and costs.",
     },

@@ -70,10 +70,10 @@ fn within(form: Form, input: &[u8], place: Place) -> bool {
 }
 
 #[rustfmt::skip]
-const FIELDS: [&str; 34] = [
+const FIELDS: [&str; 39] = [
     "0", "1", "2", "3", "7", "00", "0001", "-0", "-1", "+1", "0.5", "-0.25", "0.3", "0.015625", "0.0156250", "1.", ".5", "1e3",
     "128", "-128", "128.000001", "127.984375", "129", "99999999999999999999", "2047", "2048", "4294967294", "4294967295",
-    "4294967296", "x", "é", "\r", "", "\t",
+    "4294967296", "x", "é", "\r", "", "\t", "Infinity", "infinity", "-Infinity", "Infinit", "Infinity0",
 ];
 
 fn drawn_row(random: &mut Random) -> String {
@@ -81,9 +81,10 @@ fn drawn_row(random: &mut Random) -> String {
     match random.below(8) {
         0 | 1 => format!("{}", node(random)),
         2 => format!("{} {}.5", node(random), random.below(9)),
+        3 => format!("{} Infinity", node(random)),
         _ => {
             let source = node(random);
-            let weight = random.one_of(&["", " 0.25", " -1", "\t0"]);
+            let weight = random.one_of(&["", " 0.25", " -1", "\t0", " Infinity"]);
             format!("{source} {} 1 2{weight}", source + 1 + node(random))
         }
     }
@@ -155,7 +156,7 @@ fn sheets() -> Vec<Vec<u8>> {
     let many = "0 1 1 1\n".repeat(16_384);
     vec![
         of_rows(A),
-        of_rows("3 0 1 1 -0.5\n0 2\n1 4 1 1\n4 1 2 2 128\n"),
+        of_rows("3 0 1 1 -0.5\n0 2\n1 4 1 1 Infinity\n1 Infinity\n4 1 2 2 128\n"),
         bare,
         none,
         bytes(&[0, 0, 0, 0, NONE]),
@@ -168,9 +169,9 @@ fn sheets() -> Vec<Vec<u8>> {
 }
 
 #[rustfmt::skip]
-const WORDS: [u32; 22] = [
+const WORDS: [u32; 24] = [
     0, 1, 2, 3, 4, 5, 16, 64, 80, 2048, 1 << 28, 1 << 30, NONE - 1, NONE, 0x3F80_0000, 0x3E99_999A, 0x8000_0000, 0x7F80_0000,
-    0xFFC0_0000, 0x4300_0000, 0x4300_0001, 0xC300_0000,
+    0x7F80_0001, 0xFF80_0000, 0xFFC0_0000, 0x4300_0000, 0x4300_0001, 0xC300_0000,
 ];
 
 // One or two words changed, near the ends more often; at times bytes cut off or added.

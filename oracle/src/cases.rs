@@ -1,6 +1,6 @@
 //! Cases: machines whose links climb, each with an n. Few weights, so that ties abound.
 
-use crate::machine::{weight, Link, Machine, Node, LINKS, NODES, UNITS};
+use crate::machine::{weight, Link, Machine, Node, BARRED, LINKS, NODES, UNITS};
 use crate::random::Random;
 
 pub struct Case {
@@ -13,6 +13,8 @@ pub struct Cases {
     random: Random,
     /// The largest size, where it is given: nodes and links.
     most: Option<(usize, usize)>,
+    /// Where some are barred, what draws which: the machines are those of the seed without it.
+    bars: Option<Random>,
 }
 
 impl Cases {
@@ -21,6 +23,15 @@ impl Cases {
         Self {
             random: Random::new(seed),
             most: None,
+            bars: None,
+        }
+    }
+
+    /// The same, half of them with barred links, barred ends or both.
+    pub fn barred(seed: u64) -> Self {
+        Self {
+            bars: Some(Random::new(seed.rotate_left(32) ^ 0x7F80_0000)),
+            ..Self::new(seed)
         }
     }
 
@@ -28,8 +39,8 @@ impl Cases {
     /// from 201 links on.
     pub fn up_to(seed: u64, nodes: usize, links: usize) -> Self {
         Self {
-            random: Random::new(seed),
             most: Some((nodes, links)),
+            ..Self::new(seed)
         }
     }
 }
@@ -49,7 +60,7 @@ impl Iterator for Cases {
         if random.once_in(2) {
             random.shuffle(&mut ways);
         }
-        let machine = dressed(random, nodes, &ways);
+        let mut machine = dressed(random, nodes, &ways);
         let n = match random.below(10) {
             0 => random.below(65),
             1 => random.pick(&[0, 1, 64]),
@@ -57,6 +68,11 @@ impl Iterator for Cases {
             3 => random.among(6, 20),
             _ => random.among(2, 5),
         };
+        if let Some(bars) = &mut self.bars {
+            if bars.once_in(2) {
+                bar_some(bars, &mut machine);
+            }
+        }
         Some(Case { machine, n })
     }
 }
@@ -193,6 +209,34 @@ fn mark_ends(random: &mut Random, nodes: &mut [Node], units: &[i32]) {
             _ => v + 1 == count || random.once_in(4),
         };
         node.end = end.then(|| weight(some(random, units)));
+    }
+}
+
+/// Bars one in so many links, final weights or both, now and then all of them, and at least one where
+/// there is any.
+fn bar_some(random: &mut Random, machine: &mut Machine) {
+    let (links, ends) = random.pick(&[(true, false), (true, false), (false, true), (true, true)]);
+    let times = random.pick(&[1, 2, 3, 3, 5, 5, 10, 10, 40]);
+    // where a machine has none of one kind, the other is barred
+    let has_links = machine.links().next().is_some();
+    let has_ends = machine.nodes.iter().any(|node| node.end.is_some());
+    let mut weights: Vec<&mut f32> = vec![];
+    for node in &mut machine.nodes {
+        if links || !has_ends {
+            weights.extend(node.links.iter_mut().map(|link| &mut link.weight));
+        }
+        if ends || !has_links {
+            weights.extend(&mut node.end);
+        }
+    }
+    if weights.is_empty() {
+        return;
+    }
+    let one = random.below(weights.len());
+    for (at, weight) in weights.into_iter().enumerate() {
+        if at == one || random.once_in(times) {
+            *weight = BARRED;
+        }
     }
 }
 

@@ -4,6 +4,7 @@
 pub mod bench;
 pub mod bytes;
 pub mod cases;
+pub mod finite;
 pub mod machine;
 pub mod random;
 pub mod readings;

@@ -33,10 +33,22 @@ impl Machine {
         self.nodes.iter().flat_map(|node| &node.links)
     }
 
+    /// Whether a link or an end is barred.
+    pub fn is_barred(&self) -> bool {
+        let mut ends = self.nodes.iter().filter_map(|node| node.end);
+        self.links().any(|link| link.weight == BARRED) || ends.any(|end| end == BARRED)
+    }
+
     pub fn links_mut(&mut self) -> impl Iterator<Item = &mut Link> {
         self.nodes.iter_mut().flat_map(|node| &mut node.links)
     }
 }
+
+/// The weight of what is barred.
+pub const BARRED: f32 = f32::INFINITY;
+
+/// The sixty-fourths of an infinite weight or sum: above all others.
+pub const INFINITE: i32 = i32::MAX;
 
 /// A weight of so many sixty-fourths.
 pub fn weight(units: i32) -> f32 {
@@ -45,6 +57,9 @@ pub fn weight(units: i32) -> f32 {
 
 /// The sixty-fourths of a weight, or of a sum of weights.
 pub fn units(weight: f32) -> i32 {
+    if weight == BARRED {
+        return INFINITE;
+    }
     let units = weight * 64.0;
     assert!(
         units.fract() == 0.0 && units.abs() <= 16_777_216.0,

@@ -12,6 +12,7 @@ const USAGE: &str = "usage:
   oracle cases SEED COUNT  prints random cases, one a line, with what is expected
   oracle cases SEED COUNT NODES LINKS
                            the same, of at most so many nodes and links
+  oracle barred SEED COUNT the cases of a seed, half of them with barred links or ends
   oracle answer            the same for sheets read from standard input: SHEET N, one a line
   oracle rows              prints the sheets of text rows read from standard input, one text a line";
 
@@ -95,6 +96,10 @@ fn run(arguments: &[&str]) -> Option<bool> {
         ["cases", seed, count, nodes, links] => {
             let cases = Cases::up_to(seed.parse().ok()?, nodes.parse().ok()?, links.parse().ok()?);
             Some(print_cases(cases.take(count.parse().ok()?)).is_ok())
+        }
+        ["barred", seed, count] => {
+            let cases = Cases::barred(seed.parse().ok()?).take(count.parse().ok()?);
+            Some(print_cases(cases).is_ok())
         }
         ["answer"] => {
             let lines = io::stdin().lines().map_while(Result::ok);

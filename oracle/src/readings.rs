@@ -3,7 +3,8 @@
 use crate::machine::{units, Machine};
 use crate::reference::{List, NONE};
 
-/// A reading: its cost in sixty-fourths, and its input links.
+/// A reading: its cost in sixty-fourths, `INFINITE` for one over a barred link or end, which the Rust
+/// lists too, and its input links.
 #[derive(Debug, PartialEq)]
 pub struct Reading {
     pub cost: i32,

@@ -1,5 +1,5 @@
-/* The grid test from outside, on the weight of a link and on a final weight: a pattern is accepted where it is k/64 with |k| up to the limit,
- * and refused with 4 elsewhere. Each 127th pattern of 32 bits is read, or with the argument 1 every one; the step is odd, so that all low
+/* The test of weights from outside, on a link's and on a final one: a pattern is accepted where it is k/64 with |k| up to the limit, or that of
+ * what is barred, and refused with 4 elsewhere. Each 127th pattern of 32 bits is read, or with the argument 1 every one; the step is odd, so that all low
  * digits come up. Those without a stored digit, powers of two above all, and each half of a sixty-fourth up to twice the limit with its
  * neighbours, are read and written. Weights are made here by dividing, and looked up. */
 #include <stdio.h>
@@ -7,7 +7,7 @@
 #include <string.h>
 #include "yeldmur.h"
 
-enum { MOST = YELDMUR_WEIGHT_LIMIT, WEIGHTS = 2 * MOST + 1, STEP = 127 };
+enum { MOST = YELDMUR_WEIGHT_LIMIT, WEIGHTS = 2 * MOST + 2, STEP = 127 };
 
 /* The patterns of the weights, rising. */
 static uint32_t weights[WEIGHTS];
@@ -54,6 +54,7 @@ int main(int count, char **words) {
     uint64_t step = count > 1 ? strtoull(words[1], NULL, 10) : STEP;
     if (step == 0) return 2;
     for (int k = -MOST; k <= MOST; k++) weights[k + MOST] = bits_of((float)k / 64);
+    weights[WEIGHTS - 1] = YELDMUR_BARRED;
     qsort(weights, WEIGHTS, sizeof *weights, rising);
     for (uint64_t bits = 0, next = 0; bits >> 32 == 0; bits += step) {
         while (next < WEIGHTS && weights[next] < bits) next++;

@@ -10,7 +10,8 @@
 
 enum { NODES = YELDMUR_NODE_LIMIT, UNITS = YELDMUR_WEIGHT_LIMIT, WIDEST = YELDMUR_LINK_LIMIT / NODES, MOST = 10, FLUSHED = 0x8040 };
 
-/* A chain of nodes with parallel links. Weights are in sixty-fourths. */
+/* A chain of nodes with parallel links. Weights are in sixty-fourths, or this one. */
+enum { BARRED = INT32_MAX };
 static uint32_t nodes, links, first[NODES + 1];
 static int32_t weight[NODES * WIDEST], final_weight;
 static uint8_t sheet[NODES * (16 * WIDEST + 12) + 20];
@@ -32,6 +33,7 @@ static uint32_t word(const uint8_t *at) { return at[0] | at[1] << 8 | at[2] << 1
 /* The bits of so many sixty-fourths, and back. */
 static uint32_t bits_of(int32_t units) {
     uint32_t size = units < 0 ? -units : units, top = 0;
+    if (units == BARRED) return YELDMUR_BARRED;
     if (size == 0) return 0;
     while (size >> top != 1) top++;
     return (units < 0 ? 0x80000000u : 0) | (top + 121) << 23 | (size << (23 - top) & 0x7fffff);
@@ -79,6 +81,13 @@ static void draw_chain(uint32_t count, uint32_t width, int32_t least, uint32_t s
     write_chain();
 }
 
+/* Bars each second link on the average, but no node's first. */
+static void bar_links(void) {
+    for (uint32_t v = 0; v < nodes; v++)
+        for (uint32_t l = first[v] + 1; l < first[v + 1]; l++) if (drawn(2)) weight[l] = BARRED;
+    write_chain();
+}
+
 /* The `most` cheapest costs of runs as far as each node in turn, in order; without the final weight. */
 static uint32_t cheapest(uint32_t most, uint32_t node, int32_t *costs) {
     uint32_t count = 1;
@@ -87,7 +96,7 @@ static uint32_t cheapest(uint32_t most, uint32_t node, int32_t *costs) {
         int32_t next[MOST];
         uint32_t put = 0;
         for (uint32_t l = first[v]; l < first[v + 1]; l++) {
-            for (uint32_t k = 0; k < count; k++) {
+            for (uint32_t k = 0; k < count && weight[l] != BARRED; k++) {
                 int32_t cost = costs[k] + weight[l];
                 uint32_t at = put < most ? put++ : most;
                 for (; at > 0 && next[at - 1] > cost; at--) if (at < most) next[at] = next[at - 1];
@@ -250,12 +259,22 @@ static void compare_rows(void) {
     }
 }
 
-static void compare_chain(const char *kind, uint32_t count, uint32_t width, int32_t least, uint32_t spread, int balanced) {
+static void compare_drawn(const char *kind) {
     int32_t cost[MOST];
-    draw_chain(count, width, least, spread, balanced);
     compare(0), compare(1), compare(2), compare(10), compare_rows();
     cheapest(1, nodes - 1, cost);
     printf("%s, %u nodes, %u links: cheapest %d\n", kind, nodes, links, cost[0] + final_weight);
+}
+
+static void compare_chain(const char *kind, uint32_t count, uint32_t width, int32_t least, uint32_t spread, int balanced) {
+    draw_chain(count, width, least, spread, balanced);
+    compare_drawn(kind);
+}
+
+static void compare_barred(uint32_t count, int32_t least) {
+    draw_chain(count, WIDEST, least, 2, 0);
+    bar_links();
+    compare_drawn("barred");
 }
 
 /* A denormal weight is off the grid, also where it would be flushed to zero. */
@@ -289,6 +308,9 @@ int main(void) {
     negative_zeros = 0;
     compare_chain("level", 65, 2, UNITS, 1, 1);
     printf("negative zeros, rounding downward: %u\n", negative_zeros);
+    compare_barred(3, UNITS - 1);
+    compare_barred(33, -UNITS);
+    compare_barred(NODES, UNITS - 1);
     compare_denormal();
     return 0;
 }

@@ -10,6 +10,7 @@ enum { SIZE = 148, ROOM = 256, KEPT = 0xa5 };
 static const uint32_t LINKS[] = {1, 1, 0x3f800000, 1, 2, 2, 0x3f000000, 2, 3, 3, 0x3e800000, 3, 5, 5, 0, 2, 4, 4, 0x3f400000, 3};
 static const uint32_t NODES[] = {2, 0, 0, 2, 0, 0, 1, 0, 0, 0, 1, 0x3f000000};
 static const char ROWS[] = "0\t1\t1\t1\t1\n0\t2\t2\t2\t0.5\n1\t3\t3\t3\t0.25\n1\t2\t5\t5\n2\t3\t4\t4\t0.75\n3\t0.5\n";
+static const char BARRED[] = "0\t1\t7\t8\tInfinity\n0\t-0.5\n1\tInfinity\n";
 static const char OTHER[] = " 0 1 1 1 1.000000\t\n3 00.5\n2\t\t3 4 04 0.75 \n1 3 3 3 0.250\n\t0 2 2 2 0.50\n1 2 5 5 -0\n";
 
 static uint8_t sheet[SIZE], area[ROOM];
@@ -65,6 +66,16 @@ static void convert_back(void) {
     }
 }
 
+/* Rows with what is barred to a sheet and back. */
+static void convert_barred(void) {
+    uint8_t made[60];
+    uint64_t size = 7, back = 7;
+    if (yeldmur_rows_to_sheet((const uint8_t *)BARRED, sizeof BARRED - 1, made, sizeof made, &size) || size != sizeof made) fail("barred rows refused");
+    if (yeldmur_sheet_to_rows(made, sizeof made, area, ROOM, &back)) fail("a barred sheet without rows");
+    if (back != sizeof BARRED - 1 || memcmp(area, BARRED, back)) fail("other barred rows");
+    for (size_t at = 0; at < sizeof made; at += 4) printf("%02x%02x%02x%02x%s", made[at + 3], made[at + 2], made[at + 1], made[at], at + 4 < sizeof made ? " " : "\n");
+}
+
 static void refuse(const char *name, const char *text, size_t bytes) {
     uint64_t size = 7, told = 7;
     uint32_t number = to_sheet(text, bytes, ROOM, &size);
@@ -97,6 +108,11 @@ static void refuse_texts(void) {
     REFUSE(".5", "0 .5\n");
     REFUSE("1e3", "0 1e3\n");
     REFUSE("seven decimals", "0 1.0000000\n");
+    REFUSE("infinity", "0 infinity\n");
+    REFUSE("inf", "0 inf\n");
+    REFUSE("-Infinity", "0 -Infinity\n");
+    REFUSE("a letter short of Infinity", "0 Infinit\n");
+    REFUSE("a letter more than Infinity", "0 Infinitys\n");
     REFUSE("a carriage return", "0 1\r\n");
     REFUSE("a byte of 0", "0\0\n");
     REFUSE("a byte above 127", "0 \xb2\n");
@@ -136,6 +152,7 @@ int main(void) {
     convert(OTHER, sizeof OTHER - 1);
     convert_back();
     fwrite(area, 1, sizeof ROWS - 1, stdout);
+    convert_barred();
     refuse_texts();
     refuse_sheets();
     measure_long();

@@ -3,7 +3,7 @@ import random
 import struct
 from pathlib import Path
 
-from yeldmur import Link, Refusal, Sheet
+from yeldmur import BARRED, Link, Refusal, Sheet
 
 NONE = 0xFFFFFFFF
 PROJECT = Path(__file__).resolve().parent.parent
@@ -54,21 +54,25 @@ def found(sheet, n, areas):
 
 
 class Machine:
-    """Links by rising source, final weights and a start, with weights in sixty-fourths."""
+    """Links by rising source, final weights and a start, with weights in sixty-fourths or barred."""
 
     def __init__(self, links, finals, start):
         self.links = sorted(links, key=lambda link: link[0])
         self.finals, self.start = finals, start
 
     @classmethod
-    def drawn(cls, r, nodes, links, spread):
-        """Few different weights make ties, many make none."""
+    def drawn(cls, r, nodes, links, spread, barred=0):
+        """Few different weights make ties, many make none. One in so many is barred, or none."""
+
+        def weight():
+            return BARRED if barred and r.randrange(barred) == 0 else r.randint(-spread, spread)
+
         made = []
         for _ in range(links):
             source = r.randrange(nodes - 1)
             following = r.randrange(source + 1, nodes)
-            made.append((source, r.randrange(3), r.randint(-spread, spread), following))
-        finals = [r.randint(-spread, spread) if r.randrange(3) == 0 else None for _ in range(nodes)]
+            made.append((source, r.randrange(3), weight(), following))
+        finals = [weight() if r.randrange(3) == 0 else None for _ in range(nodes)]
         return cls(made, finals, r.randrange((nodes + 3) // 4))
 
     def sheet(self):
@@ -77,34 +81,36 @@ class Machine:
         return Sheet.write(links, finals, self.start)
 
     def runs(self):
-        """Every run from the start: where it leads, what its links cost, and their numbers."""
+        """Every run from the start that is not barred: where it leads, what its links cost, and their numbers."""
         waiting = [(self.start, 0, ())]
         while waiting:
             node, cost, numbers = waiting.pop()
             yield node, cost, numbers
             for number, (source, _, units, following) in enumerate(self.links):
-                if source == node:
+                if source == node and units != BARRED:
                     waiting.append((following, cost + units, (*numbers, number)))
 
     def readings(self):
         """Cost, link numbers and end of every reading."""
         runs = ((node, cost, numbers, self.finals[node]) for node, cost, numbers in self.runs())
-        return [(cost + last, numbers, node) for node, cost, numbers, last in runs if last is not None]
+        return [(cost + last, numbers, node) for node, cost, numbers, last in runs if last not in (None, BARRED)]
 
     def distances(self):
         least = {}
         for node, cost, _ in self.runs():
             least[node] = min(cost, least.get(node, cost))
-        return [least.get(node) for node in range(max(least) + 1)]
+        led_to = [following for source, _, _, following in self.links if source in least]
+        return [least.get(node) for node in range(max([*least, *led_to]) + 1)]
 
     def cost_and_end(self, numbers):
-        """Of a run by its numbers, which must hang together from the start to a final node."""
+        """Of a run by its numbers, which must hang together from the start to a final node, with nothing barred."""
         node, cost = self.start, 0
         for number in numbers:
             source, _, units, following = self.links[number]
             assert source == node, f"link {number} does not leave node {node}"
             node, cost = following, cost + units
         assert self.finals[node] is not None, f"node {node} is not final"
+        assert cost + self.finals[node] != BARRED, "it is barred"
         return cost + self.finals[node], node
 
 

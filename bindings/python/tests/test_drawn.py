@@ -27,6 +27,13 @@ class Drawn(unittest.TestCase):
             machine = Machine.drawn(r, r.randint(2, 7), r.randrange(20), spread)
             self.check(machine, [0, 1, 2, 3, 5, 8, LIST_LIMIT], areas)
 
+    def test_machines_with_barred_links(self):
+        r, areas = seeded(8), Areas()
+        for turn in range(600):
+            spread = [1, 3, WEIGHT_LIMIT][turn % 3]
+            machine = Machine.drawn(r, r.randint(2, 7), r.randrange(20), spread, barred=4)
+            self.check(machine, [0, 1, 2, 3, 5, 8, LIST_LIMIT], areas)
+
     def test_machines_with_many_readings(self):
         r, areas = seeded(3), Areas()
         for spread in [1, 8, WEIGHT_LIMIT]:

@@ -101,9 +101,9 @@ class Lists(unittest.TestCase):
     def test_results_of_other_sheets(self):
         r = seeded(7)
         for _ in range(200):
-            self.machine = Machine.drawn(r, r.randint(2, 6), r.randrange(9), 3)
+            self.machine = Machine.drawn(r, r.randint(2, 6), r.randrange(9), 3, barred=4)
             self.sheet = self.machine.sheet()
-            other = Machine.drawn(r, r.randint(2, 6), r.randrange(9), 3).sheet()
+            other = Machine.drawn(r, r.randint(2, 6), r.randrange(9), 3, barred=4).sheet()
             n = r.randint(1, 5)
             result, *counts = answer(other, n)
             for k in range(n):

@@ -6,7 +6,7 @@ from fractions import Fraction
 
 from common import A, A_ROWS, Machine, packed, refused, seeded, sheet_a
 
-from yeldmur import WEIGHT_LIMIT, Link, Refusal, Sheet, decimal, raw
+from yeldmur import BARRED, WEIGHT_LIMIT, Link, Refusal, Sheet, decimal, raw
 
 
 def again(sheet):
@@ -74,8 +74,10 @@ class Writing(unittest.TestCase):
 
     def test_weights_are_not_rounded_onto_the_grid(self):
         close = 1.5 + 2**-40  # single precision would make it 1.5
-        wrong = [0.3, close, Fraction(close), Decimal(close), float("nan"), float("inf"), -0.0]
-        for weight in [*wrong, Fraction(1, 3), 10**400, -(10**400), 2**24 + 1]:
+        wrong = [0.3, close, Fraction(close), Decimal(close), float("nan"), -BARRED, Decimal("-Infinity"), -0.0]
+        # single precision, and some of them as a float, would make these infinity, which bars
+        large = [10**400, Fraction(10**400), Decimal("1e400"), 1e300, 2.0**128]
+        for weight in [*wrong, *large, Fraction(1, 3), -(10**400), 2**24 + 1]:
             self.assertEqual(refused(Sheet.write, [], [weight], 0), Refusal.WEIGHT)
             self.assertEqual(refused(Sheet.write, [(0, 1, 1, weight, 0)], [None], 0), Refusal.WEIGHT)
 
@@ -84,7 +86,7 @@ class RoundTrips(unittest.TestCase):
     def test_drawn_machines(self):
         r, with_rows = seeded(1), 0
         for _ in range(500):
-            machine = Machine.drawn(r, r.randint(2, 9), r.randrange(15), r.choice([1, WEIGHT_LIMIT]))
+            machine = Machine.drawn(r, r.randint(2, 9), r.randrange(15), r.choice([1, WEIGHT_LIMIT]), barred=4)
             sheet = machine.sheet()
             self.assertEqual(again(sheet), sheet)
             self.assertEqual(Sheet.read(sheet.bytes), sheet)

@@ -1,10 +1,11 @@
 """Distances and lists of the cheapest readings of a machine, over Yeldmur's shared library.
 
 A *sheet* is a machine of nodes and links, as bytes. A *reading* is a run of links from its start to a final node;
-its cost is the sum of its weights and the final weight. Of every sheet that it accepts, and for every n from 1 to
-64, the library is proved to list as many readings as the smaller of n and the number of readings: each once, in
-order of cost, and none left out that is cheaper. It also reads the results. What this module adds, memory for the
-areas and Python's numbers, is plain Python with tests.
+its cost is the sum of its weights and the final weight, and is finite: no reading goes over a link or ends at a node
+whose weight is `BARRED`, in rows `Infinity`. Of every sheet that it accepts, and for every n from 1 to 64, the
+library is proved to list as many readings as the smaller of n and the number of readings: each once, in order of
+cost, and none left out that is cheaper. It also reads the results. What this module adds, memory for the areas and
+Python's numbers, is plain Python with tests.
 
 >>> from yeldmur import Sheet, distances, list_readings
 >>> sheet = Sheet.from_rows('''0 1 1 1 1
@@ -27,9 +28,10 @@ from .limits import LINK_LIMIT, LIST_LIMIT, NODE_LIMIT, WEIGHT_LIMIT
 from .refusal import Refusal
 from .search import Areas, List, Reading, best, distances, list_readings
 from .sheet import Link, Sheet
-from .weights import decimal
+from .weights import BARRED, decimal
 
 __all__ = [
+    "BARRED",
     "LINK_LIMIT",
     "LIST_LIMIT",
     "NODE_LIMIT",

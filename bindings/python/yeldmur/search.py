@@ -106,7 +106,7 @@ def list_readings(sheet: Sheet, n: int) -> List:
     """The n cheapest readings of a sheet, n up to 64, cheapest first. Refusals 5 to 7.
 
     The list has n readings, or all where the sheet has fewer, and no reading that is left out costs less than
-    one on it.
+    one on it. A run over what is barred is no reading.
 
     >>> sheet = Sheet.from_rows("0 1 1 1 1\\n0 2 2 2 0.5\\n1 3 3 3 0.25\\n1 2 5 5\\n2 3 4 4 0.75\\n3 0.5\\n")
     >>> listed = list_readings(sheet, 3)
@@ -135,10 +135,13 @@ def best(sheet: Sheet) -> Optional[Reading]:
 
 
 def distances(sheet: Sheet) -> list[Optional[int]]:
-    """The distances of a sheet's nodes in sixty-fourths: one value per node up to the highest reached, None for
-    an unreached one. Without a start there are none. Refusals 5 and 6.
+    """The distances of a sheet's nodes in sixty-fourths: one value per node, None for an unreached one, up to the
+    highest node that is reached or that a link from a reached node leads to. The two differ where that link is
+    barred: it reaches nothing. Without a start there are no values. Refusals 5 and 6.
 
     >>> distances(Sheet.from_rows("0 2 1 1 0.5\\n3\\n"))
     [0, None, 32]
+    >>> distances(Sheet.from_rows("0 2 1 1 0.5\\n0 3 1 1 Infinity\\n"))
+    [0, None, 32, None]
     """
     return Areas().distances(sheet)

@@ -7,14 +7,14 @@ from itertools import accumulate
 from typing import Iterable, NamedTuple, Optional, Tuple, Union
 
 from . import raw
-from .weights import Weight, bits_of, weight_of
+from .weights import Weight, bits_of, units_of, weight_of
 
 Data = bytes  # by another name, since a sheet has a property `bytes`; any other buffer is copied
 Fields = Tuple[int, int, int, Weight, int]  # a link, or five values in its order
 
 
 class Link(NamedTuple):
-    """A link: the node that it leaves, two labels, a weight and the node that it leads to."""
+    """A link: the node that it leaves, two labels, a weight, which may be `BARRED`, and the node that it leads to."""
 
     source: int
     ilabel: int
@@ -23,9 +23,9 @@ class Link(NamedTuple):
     next: int
 
     @property
-    def units(self) -> int:
-        """The weight in sixty-fourths."""
-        return int(self.weight * 64)
+    def units(self) -> Optional[int]:
+        """The weight in sixty-fourths, or None where it is barred."""
+        return units_of(self.weight)
 
 
 class Sheet:
@@ -60,7 +60,10 @@ class Sheet:
 
         A row is a link, by its source, next node, input label, output label and weight, or a final node with
         its weight; a weight that is left out is 0. The first row's first node is the start. Spaces and tabs
-        part fields, and a newline ends each row, the last too.
+        part fields, and a newline ends each row, the last too. A weight of `Infinity` bars.
+
+        >>> Sheet.from_rows("0 1 7 8 Infinity\\n1\\n").link(0)
+        Link(source=0, ilabel=7, olabel=8, weight=inf, next=1)
 
         A short text can give a long sheet, 12 bytes for each node up to the highest one, and so end in a
         `MemoryError`: `raw.rows_sheet_bytes` tells how long, from the text alone.
@@ -80,8 +83,8 @@ class Sheet:
         A link is a `Link`, or five values in its order. Links may come in any order of their sources; in the
         sheet they stand by source, and those of one node in the order given. A source that is no node is
         refusal 1, since no node counts that link. Weights are taken exactly: any other number than k/64 for a
-        whole k up to 8,192 either way is refusal 4. A label or a next node that does not fit 32 bits is an
-        `OverflowError`.
+        whole k up to 8,192 either way, or `BARRED`, is refusal 4. A label or a next node that does not fit 32
+        bits is an `OverflowError`.
         """
         ordered = sorted(links, key=lambda link: link[0])
         weights = list(finals)
@@ -123,7 +126,7 @@ class Sheet:
 
     @cached_property
     def finals(self) -> tuple[Optional[float], ...]:
-        """For each node in order its final weight, or None where it is not final."""
+        """For each node in order its final weight, which may be `BARRED`, or None where it is not final."""
         return tuple(weight_of(node.weight_bits) if node.mark else None for node in self._nodes)
 
     def link(self, number: int) -> Link:

@@ -1,12 +1,17 @@
-"""Weights and costs as numbers. A weight is k/64 for a whole k, which Python's float holds exactly."""
+"""Weights and costs as numbers. A weight is k/64 for a whole k, which Python's float holds exactly, or infinity."""
 from __future__ import annotations
 
+import math
 from ctypes import c_float, c_uint32
 from decimal import Decimal
 from fractions import Fraction
-from typing import Union
+from typing import Optional, Union
 
 Weight = Union[int, float, Fraction, Decimal]
+
+BARRED = math.inf
+"""The weight of a link or a final node that is barred. A reading has a finite cost, so that none goes over such a
+link or ends at such a node."""
 
 _NAN = 0x7FC00000
 
@@ -18,6 +23,11 @@ def decimal(units: int) -> Decimal:
     1.75 -0.015625
     """
     return Decimal(units / 64)
+
+
+def units_of(weight: float) -> Optional[int]:
+    """A weight in sixty-fourths; None for `BARRED`, which is not to be taken for a number of them."""
+    return None if weight == BARRED else int(weight * 64)
 
 
 def weight_of(bits: int) -> float:

@@ -1,9 +1,9 @@
 //! Distances and lists of the cheapest readings of a machine, proved: this crate is a safe layer over Yeldmur's static library.
 //!
 //! A *sheet* is a machine of nodes and links, as bytes. A *reading* is a run of links from its start to a final node; its cost
-//! is the sum of its weights and the final weight. Of every sheet that it accepts, and for every n from 1 to 64, the library is
-//! proved to list as many readings as the smaller of n and the number of readings: each once, in order of cost, and none left out
-//! that is cheaper. Results and sheets are read back by the library's own calls, which are proved too. What this crate adds, memory for the
+//! is the sum of its weights and the final weight, and is finite. Of every sheet that it accepts, and for every n from 1 to 64, the
+//! library is proved to list as many readings as the smaller of n and the number of readings: each once, in order of cost, and none left
+//! out that is cheaper. Results and sheets are read back by the library's own calls, which are proved too. What this crate adds, memory for the
 //! areas and for what is read back, is plain Rust with tests.
 //!
 //! ```
@@ -26,6 +26,20 @@
 //! let third = list.reading(2).unwrap();
 //! let labels: Vec<u32> = third.links().map(|link| link.ilabel).collect();
 //! assert_eq!((labels, third.end()), (vec![1, 5, 4], 3));
+//! # Ok(())
+//! # }
+//! ```
+//!
+//! A link or a final node may be barred, by a weight of [`BARRED`], which rows write as `Infinity`: no reading goes over it.
+//!
+//! ```
+//! use yeldmur::{distances, list, Refusal, Sheet, BARRED};
+//!
+//! # fn main() -> Result<(), Refusal> {
+//! let sheet = Sheet::from_rows(b"0 1 1 1 0.5\n0 2 2 2 Infinity\n1\n2\n")?;
+//! assert_eq!(sheet.link(1).unwrap().weight, BARRED);
+//! assert_eq!(list(&sheet, 10)?.len(), 1);
+//! assert_eq!(distances(&sheet)?, [Some(0.0), Some(0.5), None]);
 //! # Ok(())
 //! # }
 //! ```
@@ -62,7 +76,7 @@ pub use limits::{LINK_LIMIT, LIST_LIMIT, NODE_LIMIT, WEIGHT_LIMIT};
 pub use list::{distances, list, Areas, List, Reading};
 pub use refusal::Refusal;
 pub use sheet::{Link, Sheet};
-pub use units::units;
+pub use units::{units, BARRED};
 
 // has the examples in both README.md files run as tests
 #[cfg(doctest)]

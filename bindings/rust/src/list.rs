@@ -8,8 +8,9 @@ use crate::raw::{self, Listed, ReadBack};
 use crate::units::weight;
 use crate::{Link, Refusal, Sheet};
 
-/// The distances of a sheet's nodes: one value per node up to the highest reached, `None` for an unreached one. Without
-/// a start there are none. Refusals 5 and 6.
+/// The distances of a sheet's nodes: one value per node, `None` for an unreached one, up to the highest node that is reached or that a
+/// link from a reached node leads to. The two differ where that link is barred: it reaches nothing. Without a start there are no values.
+/// Refusals 5 and 6.
 pub fn distances(sheet: &Sheet) -> Result<Vec<Option<f32>>, Refusal> {
     let mut areas = Areas::new();
     areas.find_distances(sheet)?;
@@ -18,7 +19,8 @@ pub fn distances(sheet: &Sheet) -> Result<Vec<Option<f32>>, Refusal> {
 
 /// The n cheapest readings of a sheet, n up to 64, cheapest first. Refusals 5 to 7.
 ///
-/// The list has n readings, or all where the sheet has fewer, and no reading that is left out costs less than one on it.
+/// The list has n readings, or all where the sheet has fewer, and no reading that is left out costs less than one on it. A run over what is
+/// barred is no reading.
 pub fn list(sheet: &Sheet, n: u32) -> Result<List<'_>, Refusal> {
     let mut areas = Areas::new();
     let listed = areas.make(sheet, n)?;

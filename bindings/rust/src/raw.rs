@@ -88,8 +88,8 @@ pub fn read_sheet(sheet: &[u8]) -> Result<(), Refusal> {
 }
 
 /// Writes a sheet and tells its length: tests 1 to 4, then 21. A link is four words, as a sheet has them: input label,
-/// output label, weight bits, next node. A node is three: link count, final mark, final weight bits. The start is
-/// FFFFFFFF hexadecimal for none.
+/// output label, weight bits, next node. A node is three: link count, final mark, final weight bits. The weight bits of what is
+/// barred are 7F800000 hexadecimal, and the start is FFFFFFFF for none.
 pub fn write_sheet(
     links: &[u32],
     nodes: &[u32],

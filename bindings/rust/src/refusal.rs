@@ -17,8 +17,8 @@ pub enum Refusal {
     Start,
     /// 3: next node not below N.
     Next,
-    /// 4: a weight off the grid. The grid is k/64 for a whole k from -8,192 to 8,192; NaN, infinities and
-    /// negative zero are off it.
+    /// 4: a weight that is neither on the grid nor [`BARRED`](crate::BARRED). The grid is k/64 for a whole k from -8,192
+    /// to 8,192; NaN, negative infinity and negative zero are off it.
     Weight,
     /// 5: N above 2,048 or T above 16,384.
     Limits,

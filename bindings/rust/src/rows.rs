@@ -14,7 +14,7 @@ impl Sheet {
     /// A row is a link, by its source, next node, input label, output label and weight, or a final node with its weight; a weight that
     /// is left out is 0. The first row's first node is the start, and nodes run to the highest number named.
     /// Spaces and tabs part fields, and a newline ends each row, the last too. Weights are digits, perhaps with a minus sign before and
-    /// a point and one to six digits after; they are taken exactly.
+    /// a point and one to six digits after; they are taken exactly. `Infinity`, in this spelling alone, is [`BARRED`](crate::BARRED).
     ///
     /// ```
     /// use yeldmur::{Refusal, Sheet};
@@ -40,7 +40,7 @@ impl Sheet {
     /// The text rows of a sheet, which convert to that very sheet. Refusal 9 where it has none.
     ///
     /// The start's rows come first, then the others' by rising node, and a node's links before its final row. One tab stands between
-    /// fields, numbers are in their shortest form, and a weight of 0 is left out.
+    /// fields, numbers are in their shortest form, a weight of 0 is left out, and a barred one is `Infinity`.
     ///
     /// ```
     /// use yeldmur::{Refusal, Sheet};

@@ -16,7 +16,7 @@ pub struct Link {
     pub ilabel: u32,
     /// The output label.
     pub olabel: u32,
-    /// The weight, k/64 for a whole k from -8,192 to 8,192.
+    /// The weight: k/64 for a whole k from -8,192 to 8,192, or [`BARRED`](crate::BARRED).
     pub weight: f32,
     /// The node that it leads to.
     pub next: u32,
@@ -111,7 +111,7 @@ impl Sheet {
         (0..self.link_count()).map(|number| self.link_at(number))
     }
 
-    /// The final weight of a node, or none where it is not final or there is no such node.
+    /// The final weight of a node, which may be [`BARRED`](crate::BARRED), or none where it is not final or there is no such node.
     pub fn final_weight(&self, node: u32) -> Option<f32> {
         if node < self.node_count() {
             self.final_at(node)

@@ -16,16 +16,26 @@ struct Machine {
 
 // Few different weights make ties, many make none.
 fn drawn(random: &mut Random, nodes: u32, links: u32, spread: u32) -> Machine {
+    weighed(random, nodes, links, |random| random.weight(spread))
+}
+
+// With weights by a drawing of their own.
+fn weighed(
+    random: &mut Random,
+    nodes: u32,
+    links: u32,
+    weight: impl Fn(&mut Random) -> f32,
+) -> Machine {
     let mut links: Vec<Link> = (0..links)
         .map(|_| {
             let source = random.below(nodes - 1);
             let next = source + 1 + random.below(nodes - 1 - source);
-            link(source, random.below(3), random.weight(spread), next)
+            link(source, random.below(3), weight(random), next)
         })
         .collect();
     links.sort_by_key(|link| link.source);
     let finals = (0..nodes)
-        .map(|_| (random.below(3) == 0).then(|| random.weight(spread)))
+        .map(|_| (random.below(3) == 0).then(|| weight(random)))
         .collect();
     let start = random.below(nodes.div_ceil(4));
     Machine {
@@ -40,23 +50,31 @@ impl Machine {
         Sheet::write(&self.links, &self.finals, Some(self.start)).unwrap()
     }
 
-    // Goes on from a run to a node, in sixty-fourths and link numbers; every node met is noted with the cost so far.
+    // Goes on from a run to a node, in sixty-fourths and link numbers; every node met is noted with the cost so far, and every node
+    // that is led to from one.
     fn go_on(&self, node: u32, cost: i32, run: &mut Vec<u32>, found: &mut Found) {
         found.met.push((node, cost));
-        if let Some(weight) = self.finals[node as usize] {
-            found.readings.push((cost + units(weight), run.clone()));
+        if let Some(weight) = self.finals[node as usize].and_then(units) {
+            found.readings.push((cost + weight, run.clone()));
         }
         for (number, link) in self.links.iter().enumerate() {
             if link.source == node {
+                found.highest = found.highest.max(link.next);
+                let Some(weight) = units(link.weight) else {
+                    continue;
+                };
                 run.push(number as u32);
-                self.go_on(link.next, cost + units(link.weight), run, found);
+                self.go_on(link.next, cost + weight, run, found);
                 run.pop();
             }
         }
     }
 
     fn all(&self) -> Found {
-        let mut found = Found::default();
+        let mut found = Found {
+            highest: self.start,
+            ..Found::default()
+        };
         self.go_on(self.start, 0, &mut vec![], &mut found);
         found
     }
@@ -66,12 +84,13 @@ impl Machine {
 struct Found {
     readings: Vec<(i32, Vec<u32>)>,
     met: Vec<(u32, i32)>,
+    // the highest node that is met or led to
+    highest: u32,
 }
 
 impl Found {
     fn distances(&self) -> Vec<Option<f32>> {
-        let highest = self.met.iter().map(|&(node, _)| node).max().unwrap();
-        (0..=highest)
+        (0..=self.highest)
             .map(|v| {
                 let costs = self.met.iter().filter(|m| m.0 == v).map(|m| m.1);
                 costs.min().map(|cost| cost as f32 / 64.0)
@@ -121,6 +140,25 @@ fn machines_with_many_readings() {
     }
 }
 
+// Barred links and final nodes: no reading goes over them, but they lengthen the distances.
+#[test]
+fn machines_with_barred_links() {
+    let mut random = Random(4);
+    for round in 0..1500 {
+        let nodes = 2 + random.below(6);
+        let links = random.below(20);
+        let spread = [1, 3, WEIGHT_LIMIT as u32][round % 3];
+        let weight = |random: &mut Random| random.weight_or_barred(spread);
+        let machine = weighed(&mut random, nodes, links, weight);
+        check(&machine, [0, 1, 2, 3, 5, 8, 64]);
+    }
+    for _ in 0..10 {
+        let mut machine = weighed(&mut random, 14, 75, |random| random.weight_or_barred(8));
+        machine.start = 0;
+        check(&machine, [1, 2, 7, 63, 64]);
+    }
+}
+
 // Too many readings to enumerate: the lists of all n agree with each other and with the distances.
 #[test]
 fn a_large_machine() {
@@ -131,7 +169,7 @@ fn a_large_machine() {
     let values = distances(&sheet).unwrap();
     let totals = values.iter().zip(&machine.finals);
     let least = totals
-        .filter_map(|(distance, weight)| Some(units((*distance)? + (*weight)?)))
+        .filter_map(|(distance, weight)| units((*distance)? + (*weight)?))
         .min();
     let mut areas = Areas::new();
     let longest: Vec<i32> = readings(&sheet, 64).iter().map(|r| r.0).collect();

@@ -5,7 +5,7 @@ mod common;
 
 use common::{a_with, bytes, chain, link, sheet_a, walked, A, NONE};
 use yeldmur::raw::{self, Counts, Listed};
-use yeldmur::{ffi, Refusal, Sheet, LIST_LIMIT, NODE_LIMIT};
+use yeldmur::{ffi, Refusal, Sheet, BARRED, LIST_LIMIT, NODE_LIMIT};
 
 const WORD: u32 = 0xDEAD_BEEF;
 
@@ -69,9 +69,21 @@ fn mixed() -> Sheet {
     Sheet::write(&links, &finals, Some(1)).unwrap()
 }
 
+// Barred links and a barred final node beside others, so that a damaged result may lead over them.
+fn barred() -> Sheet {
+    let links = [
+        link(0, 1, 0.5, 1),
+        link(0, 2, BARRED, 1),
+        link(0, 3, 1.0, 2),
+        link(1, 4, BARRED, 2),
+        link(1, 5, 0.0, 2),
+    ];
+    Sheet::write(&links, &[None, Some(BARRED), Some(0.25)], Some(0)).unwrap()
+}
+
 #[test]
 fn whole_answers() {
-    for sheet in [sheet_a(), mixed(), chain(5, -128.0)] {
+    for sheet in [sheet_a(), mixed(), barred(), chain(5, -128.0)] {
         for n in 0..=LIST_LIMIT {
             let (listed, result) = answer(&sheet, n);
             let count = raw::readings(&result, n, listed).unwrap();
@@ -99,7 +111,7 @@ fn the_readings_of_a() {
 
 #[test]
 fn every_byte_damaged() {
-    for sheet in [sheet_a(), mixed()] {
+    for sheet in [sheet_a(), mixed(), barred()] {
         for n in [1, 2, 3, 5, 64] {
             let (listed, result) = answer(&sheet, n);
             let whole = held_to_the_sheet(&sheet, n, listed, &result);

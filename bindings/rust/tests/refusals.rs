@@ -27,6 +27,7 @@ fn layout() {
     assert_eq!(refused(a_with(NODES, 3)), 1); // the sum of link counts
     assert_eq!(refused(a_with(NODES + 1, 2)), 1); // a mark
     assert_eq!(refused(a_with(NODES + 2, 0x8000_0000)), 1); // an absent final's weight
+    assert_eq!(refused(a_with(NODES + 2, 0x7F80_0000)), 1); // the same, barred
 }
 
 #[test]
@@ -46,8 +47,10 @@ fn next() {
 fn weight() {
     for off in [
         f32::NAN,
-        f32::INFINITY,
         f32::NEG_INFINITY,
+        // the patterns beside that of infinity
+        f32::MAX,
+        f32::from_bits(0x7F80_0001),
         -0.0,
         128.015625,
         -128.015625,

@@ -4,7 +4,7 @@
 mod common;
 
 use common::{a_with, bytes, link, sheet_a, Random, A, NONE};
-use yeldmur::{ffi, raw, Link, Refusal, Sheet, NODE_LIMIT, WEIGHT_LIMIT};
+use yeldmur::{ffi, raw, units, Link, Refusal, Sheet, BARRED, NODE_LIMIT, WEIGHT_LIMIT};
 
 const BYTE: u8 = 0xA5;
 
@@ -97,7 +97,16 @@ fn rows_that_cannot_be_read() {
         "0 1.0000000",
         "0 1.5.0",
         "0 1,5",
-        "0 Infinity",
+        "0 infinity",
+        "0 INFINITY",
+        "0 Infinit",
+        "0 Infinity1",
+        "0 Infinity.0",
+        "0 -Infinity",
+        "0 +Infinity",
+        "0 1 1 1 infinity",
+        "0 1 1 Infinity",
+        "Infinity",
         "0 inf",
         "0 nan",
         "0x1",
@@ -191,6 +200,20 @@ fn a_second_final_row_among_many() {
             assert_eq!(raw::rows_sheet_bytes(more.as_bytes()), Err(Refusal::Rows));
         }
     }
+}
+
+#[test]
+fn barred_rows() {
+    let text = "0\t1\t7\t8\tInfinity\n0\t-0.5\n1\tInfinity\n";
+    let sheet = sheet(text);
+    assert_eq!(sheet.link(0).unwrap().weight, BARRED);
+    let finals: Vec<Option<f32>> = sheet.finals().collect();
+    assert_eq!(finals, [Some(-0.5), Some(BARRED)]);
+    assert_eq!(sheet.to_string(), text);
+    // a row that can't be read, a node too high and a weight off the grid come before and after as ever
+    assert_eq!(refused(b"0 Infinity\n1 x\n"), 8);
+    assert_eq!(refused(b"0 Infinity\n4294967295\n"), 1);
+    assert_eq!(refused(b"0 Infinity\n1 0.3\n"), 4);
 }
 
 #[test]
@@ -356,13 +379,13 @@ fn drawn(random: &mut Random, nodes: u32, links: u32) -> Drawn {
             source: random.below(nodes),
             ilabel: random.word() as u32 >> random.below(32),
             olabel: random.word() as u32 >> random.below(32),
-            weight: random.weight(WEIGHT_LIMIT as u32),
+            weight: random.weight_or_barred(WEIGHT_LIMIT as u32),
             next: random.below(nodes),
         })
         .collect();
     links.sort_by_key(|link| link.source);
     let finals = (0..nodes)
-        .map(|_| (random.below(3) == 0).then(|| random.weight(WEIGHT_LIMIT as u32)))
+        .map(|_| (random.below(3) == 0).then(|| random.weight_or_barred(WEIGHT_LIMIT as u32)))
         .collect();
     let start = random.below(nodes);
     Drawn {
@@ -387,9 +410,10 @@ impl Drawn {
     }
 
     fn node_rows(&self, node: u32) -> Vec<String> {
-        let shown = |weight: f32| match weight {
-            0.0 => String::new(),
-            _ => format!("\t{}", weight_text((weight * 64.0) as i32)),
+        let shown = |weight: f32| match units(weight) {
+            Some(0) => String::new(),
+            Some(units) => format!("\t{}", weight_text(units)),
+            None => "\tInfinity".to_string(),
         };
         let own = self.links.iter().filter(|link| link.source == node);
         let mut rows: Vec<String> = own

@@ -19,7 +19,7 @@ pub(super) fn answer(
     let sheet = input.sheet_to_search()?;
     let costs = areas
         .distances(&sheet)?
-        .map(|distance| distance.map(units))
+        .map(|distance| distance.and_then(units))
         .enumerate();
     if options.json {
         return Ok(for_programs(source, costs));

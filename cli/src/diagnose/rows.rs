@@ -148,7 +148,7 @@ fn number(field: &Field) -> Result<Node, Wrong> {
 
 fn written(field: Field) -> Result<(Field, Written), Wrong> {
     let why = || {
-        let rule = "digits, perhaps a minus sign before and a point with one to six digits after";
+        let rule = "digits, perhaps a minus sign before and a point with one to six digits after, or Infinity";
         format!("{} is no weight: {rule}", shown(field.text))
     };
     let weight = Written::read(field.text).ok_or_else(|| (field.column, why()))?;
@@ -260,6 +260,11 @@ mod tests {
     fn other_places() {
         all_found([
             ("0 1 1 1 0.5\n1\n", "none"),
+            ("0 1 1 1 Infinity\n1 Infinity\n", "none"),
+            (
+                "0 Infinity\n1 129\n",
+                "4 row 2, column 3: 129 is beyond 128",
+            ),
             (
                 "0 129\n0 4294967295 1 1\n",
                 "1 row 2, column 3: node 4294967295 is one too many: no sheet counts so many",
@@ -280,8 +285,11 @@ mod tests {
     fn weights_that_cannot_be_read() {
         assert_eq!(
             found("0 1e3\n"),
-            "8 row 1, column 3: 1e3 is no weight: digits, perhaps a minus sign before and a point with one to six digits after"
+            "8 row 1, column 3: 1e3 is no weight: digits, perhaps a minus sign before and a point with one to six digits after, or Infinity"
         );
+        for text in ["0 inf\n", "0 infinity\n", "0 -Infinity\n"] {
+            assert!(found(text).starts_with("8 row 1, column 3: "), "{text}");
+        }
         assert!(found("0 \u{e9}\n").starts_with(r"8 row 1, column 3: \xc3\xa9 is no weight"));
     }
 

@@ -1,16 +1,19 @@
-//! The grid: which weights are on it, and why others are not.
+//! Which weights are accepted, on the grid or barred, and why others are not.
 #![forbid(unsafe_code)]
 
-use yeldmur::WEIGHT_LIMIT;
+use yeldmur::{BARRED, WEIGHT_LIMIT};
 
-use crate::decimal::Decimal;
+use crate::decimal::{Decimal, INFINITY};
 
 // The millionths of a sixty-fourth, and the largest weight.
 const UNIT: u32 = 15_625;
 const LARGEST: u32 = WEIGHT_LIMIT as u32 / 64;
 
-/// Why the weight of these bits is off the grid, or none where it is on it.
+/// Why the weight of these bits is off the grid, or none where it is on it or barred.
 pub(super) fn why_not_bits(bits: u32) -> Option<String> {
+    if bits == BARRED.to_bits() {
+        return None;
+    }
     let weight = f32::from_bits(bits);
     // exact in double precision
     let units = f64::from(weight) * 64.0;
@@ -18,6 +21,8 @@ pub(super) fn why_not_bits(bits: u32) -> Option<String> {
         "is no number"
     } else if bits == (-0.0f32).to_bits() {
         "is negative zero"
+    } else if weight == -BARRED {
+        "is negative infinity"
     } else if units.abs() > f64::from(WEIGHT_LIMIT) {
         "is beyond 128"
     } else if units.fract() != 0.0 {
@@ -29,16 +34,39 @@ pub(super) fn why_not_bits(bits: u32) -> Option<String> {
 }
 
 /// A weight as a row has it, exactly.
-pub(super) struct Written<'a> {
+pub(super) enum Written<'a> {
+    Barred,
+    Number(Number<'a>),
+}
+
+impl<'a> Written<'a> {
+    /// Reads a field: a number, or `Infinity` in this spelling alone.
+    pub(super) fn read(field: &'a [u8]) -> Option<Written<'a>> {
+        if field == INFINITY.as_bytes() {
+            return Some(Written::Barred);
+        }
+        Number::read(field).map(Written::Number)
+    }
+
+    /// Why it is off the grid, or none where it is on it or barred.
+    pub(super) fn why_not(&self) -> Option<String> {
+        match self {
+            Written::Barred => None,
+            Written::Number(number) => number.why_not(),
+        }
+    }
+}
+
+pub(super) struct Number<'a> {
     negative: bool,
     // digits before the point, without zeros in front
     ones: &'a [u8],
     millionths: u32,
 }
 
-impl<'a> Written<'a> {
-    /// Reads a field: digits, perhaps a minus sign before, perhaps a point and one to six digits after.
-    pub(super) fn read(field: &'a [u8]) -> Option<Written<'a>> {
+impl<'a> Number<'a> {
+    // Digits, perhaps a minus sign before, perhaps a point and one to six digits after.
+    fn read(field: &'a [u8]) -> Option<Number<'a>> {
         let (negative, size) = match field.strip_prefix(b"-") {
             Some(size) => (true, size),
             None => (false, field),
@@ -55,15 +83,14 @@ impl<'a> Written<'a> {
         let millionths = (0..6).fold(0, |sum, place| {
             10 * sum + part.get(place).map_or(0, |digit| u32::from(digit - b'0'))
         });
-        Some(Written {
+        Some(Number {
             negative,
             ones: &ones[zeros..],
             millionths,
         })
     }
 
-    /// Why it is off the grid, or none where it is on it.
-    pub(super) fn why_not(&self) -> Option<String> {
+    fn why_not(&self) -> Option<String> {
         // more than three digits are beyond all limits
         let ones = match self.ones.len() {
             0..=3 => self
@@ -102,10 +129,12 @@ mod tests {
         for units in -8_192..=8_192 {
             assert_eq!(why_not_bits((units as f32 / 64.0).to_bits()), None);
         }
+        assert_eq!(why_not_bits(BARRED.to_bits()), None);
         for (weight, reason) in [
             (f32::NAN, "is no number"),
-            (f32::INFINITY, "is beyond 128"),
-            (f32::NEG_INFINITY, "is beyond 128"),
+            (f32::from_bits(0x7F80_0001), "is no number"),
+            (f32::MAX, "is beyond 128"),
+            (f32::NEG_INFINITY, "is negative infinity"),
             (-0.0, "is negative zero"),
             (0.3, "is no whole number of sixty-fourths"),
             (f32::from_bits(1), "is no whole number of sixty-fourths"),
@@ -128,11 +157,24 @@ mod tests {
             "1e3",
             "1.5.0",
             "1 ",
+            "infinity",
+            "Infinit",
+            "Infinity1",
+            "-Infinity",
+            "inf",
         ] {
             assert!(Written::read(text.as_bytes()).is_none(), "{text:?}");
         }
         let why_not = |text: &'static str| Written::read(text.as_bytes()).unwrap().why_not();
-        for text in ["0", "-0", "00128.000", "-128", "0.015625", "0000127.984375"] {
+        for text in [
+            "0",
+            "-0",
+            "00128.000",
+            "-128",
+            "0.015625",
+            "0000127.984375",
+            "Infinity",
+        ] {
             assert_eq!(why_not(text), None, "{text}");
         }
         for text in ["128.000001", "-129", "1280", "99999999999999999999", "0999"] {

@@ -10,14 +10,14 @@ use lib.IntN.{pos}
 use lib.ListN.{length}
 use borrow.Author.Tests.{eqb-true, eqb-false, eq-eqb, ne-eqb, leb-true, leb-false, le-leb, lt-leb}
 use Rattle.tropical_weight.specs.Limits.{unit, nodeLimit, weightLimit, listLimit}
-use Rattle.tropical_weight.specs.Tropical.{Tropical, fin, _⊗_, Within}
+use Rattle.tropical_weight.specs.Tropical.{Tropical, fin, inf, ltT, _⊗_, Within}
 use Rattle.tropical_weight.proofs.Sums.{longest-exact}
 use Rattle.sheet.specs.Below.{listBelow}
 use Rattle.sheet.specs.Machine.{Link, Machine, machine}
 use Rattle.sheet.proofs.Below.{length-listBelow, getD-listBelow}
-use Rattle.machine.specs.Readings.{Reading, IsReading, readingOf, noLink, link, final, finalWeight, runCost, readingCost, isAt, ways, waysTo, endsAt, readingsBelow, readings}
+use Rattle.machine.specs.Readings.{Reading, IsReading, readingOf, noLink, link, final, finalWeight, runCost, readingCost, isAt, ways, waysTo, endsAt, keep, readingsBelow, readings}
 use Rattle.machine.specs.Distance.{distanceOf, distance, plusAll, dist}
-use Rattle.machine.specs.Climbs.{Climbs, Finite}
+use Rattle.machine.specs.Climbs.{Climbs}
 use Rattle.machine.specs.Demand.{_∈_, Demand}
 use Rattle.machine.proofs.Lists.{here}
 use Rattle.machine.proofs.Runs.{cost-snoc}
@@ -101,7 +101,7 @@ module _ (t : ℕ) (w : Tropical) where
   pub way-is : (v : ℕ) → v ≤ t → waysTo (chain t w) v ≡ along v ∷ []
   way-is v h = ap (λ (l : ℕ). ways (chain t w) l v) links-are ∙ ways-are t v (omega arith) ∙ ap (λ (b : Bool). cond b (along v ∷ []) []) (le-leb v t h)
 
-  -- ---- one reading
+  -- ---- one run to a mark
   below-none : (n : ℕ) → n ≤ t → readingsBelow (chain t w) n ≡ []
   unfolding readingsBelow
   below-none zero h = refl
@@ -109,9 +109,9 @@ module _ (t : ℕ) (w : Tropical) where
       let unmarked : final (chain t w) v ≡ none = final-is v (omega arith) ∙ ap (λ (b : Bool). cond b (some w) none) (ne-eqb v t (λ e. omega arith)) in
       λ i. below-none v (omega arith) i ++ endsAt (unmarked i) v (waysTo (chain t w) v)
 
-  pub readings-are : readings (chain t w) ≡ record { run = along t; end = t } ∷ []
+  ends-are : readingsBelow (chain t w) (length (chain t w .finals)) ≡ record { run = along t; end = t } ∷ []
   unfolding readingsBelow
-  readings-are = ap (readingsBelow (chain t w)) nodes-are ∙ λ i. below-none t (omega arith) i ++ endsAt (last-is i) t (way-is t (omega arith) i)
+  ends-are = ap (readingsBelow (chain t w)) nodes-are ∙ λ i. below-none t (omega arith) i ++ endsAt (last-is i) t (way-is t (omega arith) i)
 
 -- ---- what they cost, in weights of u units
 module _ (t u : ℕ) where
@@ -127,11 +127,18 @@ module _ (t u : ℕ) where
   unfolding dist plusAll
   distance-is v h = (λ i. plusAll (map (runCost (weighed t u)) (way-is t (fin (pos u)) v h i))) ∙ λ i. plusAll (run-cost v h i ∷ [])
 
-  -- the one reading costs as many weights as there are nodes
+  -- that run costs as many weights as there are nodes
   pub cost-is : readingCost (weighed t u) (record { run = along t; end = t }) ≡ fin (pos (suc t * u))
   cost-is =
       (λ i. run-cost t (omega arith) i ⊗ finalWeight (last-is t (fin (pos u)) i))
       ∙ ap (λ (x : ℕ). fin (pos x)) (let e : t * u + u ≡ suc t * u = omega arith in e)
+
+  -- it is the one reading
+  pub readings-are : readings (weighed t u) ≡ record { run = along t; end = t } ∷ []
+  unfolding readings keep
+  readings-are =
+      ap (keep (λ x. ltT (readingCost (weighed t u) x) inf)) (ends-are t (fin (pos u)))
+      ∙ ap (λ (c : Tropical). cond (ltT c inf) (record { run = along t; end = t } ∷ []) []) cost-is
 
 -- ---- what is asked of a machine
 module _ (t u : ℕ) where
@@ -168,13 +175,9 @@ module _ (t u : ℕ) where
     sorted = λ k l h b. omega (arith, source-at k (omega arith), source-at l b);
   }
 
-  finite : Finite (weighed t u)
-  finite = record { onLink = λ l h. (pos u, ap (λ (k : Link). k .weight) (at l h)); onFinal = λ v w e. (pos u, weight-is v w e) }
-
   pub accepted : suc t ≤ nodeLimit → Accepted (weighed t u)
   accepted few = record {
     climbs = climbs;
-    finite = finite;
     labels = labels;
     few-nodes = omega (arith, nodes-count);
     few-links = omega (arith, links-count);
@@ -182,13 +185,13 @@ module _ (t u : ℕ) where
 
   -- a list that meets demand 3 holds the one reading
   one-listed : (n : ℕ) (listed : List Reading) → 1 ≤ n → Demand (weighed t u) n listed → listed ≡ record { run = along t; end = t } ∷ []
-  one-listed n listed h d = go listed (d .size ∙ ap (λ (l : List Reading). min n (length l)) (readings-are t (fin (pos u)))) (d .each)
+  one-listed n listed h d = go listed (d .size ∙ ap (λ (l : List Reading). min n (length l)) (readings-are t u)) (d .each)
     where
       go : (l : List Reading) → length l ≡ min n 1 → ((x : Reading) → x ∈ l → IsReading (weighed t u) x) → l ≡ record { run = along t; end = t } ∷ []
       go [] e f = absurd (omega arith)
       go (x ∷ []) e f =
           let listed-in : x ∈ readings (weighed t u) = Readings.readings-are (weighed t u) climbs x .1 (f x (here x [])) in
-          ap (λ y. y ∷ []) (List·Memᴰ·eq-of-singleton (subst (λ (l : List Reading). x ∈ l) (readings-are t (fin (pos u))) listed-in))
+          ap (λ y. y ∷ []) (List·Memᴰ·eq-of-singleton (subst (λ (l : List Reading). x ∈ l) (readings-are t u) listed-in))
       go (x ∷ y ∷ l) e f = absurd (omega arith)
 
   -- for n from 1 to the limit, the list that the result holds is the one reading
@@ -209,7 +212,6 @@ module _ (t u : ℕ) where
     next-in = climbs .inside;
     sorted = climbs .sorted;
     labels = labels;
-    finite = finite;
     small = record {
       onLink = λ l h. subst (Within weightLimit) (sym (ap (λ (k : Link). k .weight) (at l h))) small;
       onFinal = λ v w e. subst (Within weightLimit) (sym (weight-is v w e)) small;

@@ -1,4 +1,4 @@
--- The machine of a sheet that passes tests 1 to 6 climbs, its weights are finite and within the limit, and each weight's field is its value in single
+-- The machine of a sheet that passes tests 1 to 6 climbs, its weights are within the limit or barred, and each weight's field is its value in single
 -- precision. Assumes nothing.
 use mathlib.Core.Path.{_≡_, refl, sym, ap, _∙_, subst}
 use mathlib.Core.Logic.{_⊎_, inl, inr}
@@ -14,32 +14,41 @@ use lib.Ieee.Bits.{ofBits-fits, toBits-ofBits}
 use lib.Ieee.Fits.{and-l, and-r}
 use borrow.Author.Tests.{eqb-true, eqb-false}
 use Rattle.tropical_weight.specs.Limits.{unit, weightLimit, sumLimit, nodeLimit, linkLimit}
-use Rattle.tropical_weight.specs.Tropical.{Tropical, Within}
+use Rattle.tropical_weight.specs.Tropical.{Tropical, fin, inf, Within}
 use Rattle.tropical_weight.specs.Grid.{ofT, gridBits, unitsOf}
-use Rattle.tropical_weight.proofs.Exact.{ofT-no-nan}
+use Rattle.tropical_weight.proofs.Exact.{ofT-no-nan, bits-back}
 use Rattle.tropical_weight.proofs.Sums.{within-mono}
 use Rattle.tropical_weight.proofs.Grid.{onGrid-whole}
 use Rattle.sheet.specs.Below.{allBelow}
-use Rattle.sheet.specs.Sheet.{Parts, noStart, linkCount, nodeCount, mark, finalBits, linkBits, next, startFits, onGridBits, nodesFit, nextsFit, weightsFit, verdict, partsOf, sizesFit, readNumber}
+use Rattle.sheet.specs.Sheet.{Parts, noStart, linkCount, nodeCount, mark, finalBits, linkBits, next, startFits, barredBits, weightFits, nodesFit, nextsFit, weightsFit, verdict, partsOf, sizesFit, readNumber}
 use Rattle.sheet.specs.Machine.{machineOf, sourcesBelow, weightOf, bitsOf, linkOf}
 use Rattle.sheet.proofs.Below.{allBelow-at, split-at}
 use Rattle.sheet.proofs.Sources.{sources-rise, length-sources, counts-sum, machine-link, machine-links, machine-final, machine-nodes}
+use Rattle.sheet.proofs.Encoding.{bits-inf}
 use Rattle.machine.specs.Readings.{link, final, noLink}
-use Rattle.machine.specs.Climbs.{Climbs, Finite, Small}
+use Rattle.machine.specs.Climbs.{Climbs, Small}
 use Rattle.sheet.proofs.Apart.{both}
 use Rattle.machine.specs.Input.{countsFit, linksClimb, boundsNumber, inputNumber}
 
--- ---- a weight's field on the grid
-pub weight-within : (bits : ℕ) → onGridBits bits ≡ true → Within weightLimit (weightOf bits)
+-- ---- a weight's field that passes test 4
+pub weight-within : (bits : ℕ) → weightFits bits ≡ true → Within weightLimit (weightOf bits)
 unfolding gridBits
-weight-within bits e = onGrid-whole unit (lit≤ tt) weightLimit (lit≤ tt) (ofBits binary32 bits) (ofBits-fits binary32 bits) e .few
+weight-within bits e = go (eqb bits barredBits) e
+  where
+    go : (t : Bool) → t || gridBits unit weightLimit bits ≡ true → Within weightLimit (cond t inf (fin (unitsOf unit (ofBits binary32 bits))))
+    go true e = tt
+    go false e = onGrid-whole unit (lit≤ tt) weightLimit (lit≤ tt) (ofBits binary32 bits) (ofBits-fits binary32 bits) e .few
 
-pub weight-value : (bits : ℕ) → onGridBits bits ≡ true → ofBits binary32 bits ≡ ofT unit (weightOf bits)
+pub weight-value : (bits : ℕ) → weightFits bits ≡ true → ofBits binary32 bits ≡ ofT unit (weightOf bits)
 unfolding gridBits
-weight-value bits e = onGrid-whole unit (lit≤ tt) weightLimit (lit≤ tt) (ofBits binary32 bits) (ofBits-fits binary32 bits) e .is
+weight-value bits e = go (eqb bits barredBits) refl e
+  where
+    go : (t : Bool) → eqb bits barredBits ≡ t → t || gridBits unit weightLimit bits ≡ true → ofBits binary32 bits ≡ ofT unit (cond t inf (fin (unitsOf unit (ofBits binary32 bits))))
+    go true q e = ap (ofBits binary32) (eqb-true bits barredBits q ∙ sym bits-inf) ∙ bits-back unit (lit≤ tt) inf
+    go false q e = onGrid-whole unit (lit≤ tt) weightLimit (lit≤ tt) (ofBits binary32 bits) (ofBits-fits binary32 bits) e .is
 
 -- the field of its weight is the field again
-pub bits-again : (bits : ℕ) → bits < 2 ^ 32 → onGridBits bits ≡ true → bitsOf (weightOf bits) ≡ bits
+pub bits-again : (bits : ℕ) → bits < 2 ^ 32 → weightFits bits ≡ true → bitsOf (weightOf bits) ≡ bits
 bits-again bits h e =
     let few = within-mono weightLimit sumLimit (weightOf bits) (let z : weightLimit ≤ sumLimit = omega arith in z) (weight-within bits e) in
     let value = weight-value bits e in
@@ -128,22 +137,22 @@ module _ (p : Parts) (t : Passes p) where
         subst (λ x. x .source ≤ link (machineOf p) l .source) (sym (link-at k i)) (subst (λ x. getD (sourcesBelow p (nodeCount p)) k 0 ≤ x .source) (sym (link-at l j)) (sources-rise p (nodeCount p) k l o (omega (arith, sources))));
   }
 
-  pub link-grid : (l : ℕ) → l < linkCount p → onGridBits (linkBits p l) ≡ true
+  pub link-grid : (l : ℕ) → l < linkCount p → weightFits (linkBits p l) ≡ true
   unfolding weightsFit
-  link-grid l h = allBelow-at (linkCount p) (λ l. onGridBits (linkBits p l)) (both (allBelow (linkCount p) (λ l. onGridBits (linkBits p l))) (allBelow (nodeCount p) (λ v. eqb (mark p v) 0 || onGridBits (finalBits p v))) (t .weights-fit) .0) l h
+  link-grid l h = allBelow-at (linkCount p) (λ l. weightFits (linkBits p l)) (both (allBelow (linkCount p) (λ l. weightFits (linkBits p l))) (allBelow (nodeCount p) (λ v. eqb (mark p v) 0 || weightFits (finalBits p v))) (t .weights-fit) .0) l h
 
-  pub final-grid : (v : ℕ) → v < nodeCount p → eqb (mark p v) 0 || onGridBits (finalBits p v) ≡ true
+  pub final-grid : (v : ℕ) → v < nodeCount p → eqb (mark p v) 0 || weightFits (finalBits p v) ≡ true
   unfolding weightsFit
-  final-grid v h = allBelow-at (nodeCount p) (λ v. eqb (mark p v) 0 || onGridBits (finalBits p v)) (both (allBelow (linkCount p) (λ l. onGridBits (linkBits p l))) (allBelow (nodeCount p) (λ v. eqb (mark p v) 0 || onGridBits (finalBits p v))) (t .weights-fit) .1) v h
+  final-grid v h = allBelow-at (nodeCount p) (λ v. eqb (mark p v) 0 || weightFits (finalBits p v)) (both (allBelow (linkCount p) (λ l. weightFits (linkBits p l))) (allBelow (nodeCount p) (λ v. eqb (mark p v) 0 || weightFits (finalBits p v))) (t .weights-fit) .1) v h
 
-  -- a final weight is that of the node's field, which is on the grid
-  marked : (v : ℕ) (w : Tropical) → final (machineOf p) v ≡ some w → (w ≡ weightOf (finalBits p v)) × (onGridBits (finalBits p v) ≡ true)
+  -- a final weight is that of the node's field, which passes test 4
+  marked : (v : ℕ) (w : Tropical) → final (machineOf p) v ≡ some w → (w ≡ weightOf (finalBits p v)) × (weightFits (finalBits p v) ≡ true)
   marked v w e = inside (split-at v (nodeCount p))
     where
-      inside : (v < nodeCount p) ⊎ (nodeCount p ≤ v) → (w ≡ weightOf (finalBits p v)) × (onGridBits (finalBits p v) ≡ true)
+      inside : (v < nodeCount p) ⊎ (nodeCount p ≤ v) → (w ≡ weightOf (finalBits p v)) × (weightFits (finalBits p v) ≡ true)
       inside (inl h) = go (eqb (mark p v) 0) (sym (machine-final p v h) ∙ e) (final-grid v h)
         where
-          go : (b : Bool) → cond b none (some (weightOf (finalBits p v))) ≡ some w → b || onGridBits (finalBits p v) ≡ true → (w ≡ weightOf (finalBits p v)) × (onGridBits (finalBits p v) ≡ true)
+          go : (b : Bool) → cond b none (some (weightOf (finalBits p v))) ≡ some w → b || weightFits (finalBits p v) ≡ true → (w ≡ weightOf (finalBits p v)) × (weightFits (finalBits p v) ≡ true)
           go true q g = let z : _≡_ {A = ℕ} 0 1 = cc in absurd (omega arith)
           go false q g = (cc, g)
       inside (inr h) = let z : _≡_ {A = ℕ} 0 1 = cc (List·getD-eq-default (machineOf p .finals) none {n = v} (omega (arith, machine-nodes p))) in absurd (omega arith)
@@ -152,12 +161,6 @@ module _ (p : Parts) (t : Passes p) where
   small-machine = record {
     onLink = λ l h. let k : l < linkCount p = omega (arith, machine-links p) in subst (λ x. Within weightLimit (x .weight)) (sym (link-at l k)) (weight-within (linkBits p l) (link-grid l k));
     onFinal = λ v w e. subst (λ x. Within weightLimit x) (sym (marked v w e .0)) (weight-within (finalBits p v) (marked v w e .1));
-  }
-
-  pub finite-machine : Finite (machineOf p)
-  finite-machine = record {
-    onLink = λ l h. let k : l < linkCount p = omega (arith, machine-links p) in (unitsOf unit (ofBits binary32 (linkBits p l)), ap (λ x. x .weight) (link-at l k));
-    onFinal = λ v w e. (unitsOf unit (ofBits binary32 (finalBits p v)), marked v w e .0);
   }
 
   -- the start is a node

@@ -1,18 +1,22 @@
--- Runs have fewer links than there are nodes, so that every sum along a reading is within the limit of sums, and exact in single precision. Over any
--- limits on nodes and on weights whose product is that limit. Assumes nothing.
+-- Runs have fewer links than there are nodes, so that every sum along a run, barred or not, is within the limit of sums, exact in single precision, and no NaN.
+-- Over any limits on nodes and on weights whose product is that limit. Assumes nothing.
 use mathlib.Core.Path.{_≡_, refl, sym, ap, _∙_, subst}
+use mathlib.Core.Bool.{true, false}
 use mathlib.Core.Logic.{_⊎_, inl, inr}
 use mathlib.Core.Option.{Option, none, some}
 use mathlib.Core.List.{List, [], _∷_, _++_, map, List·Memᴰ·append-cases, List·Memᴰ·eq-of-singleton}
 use Prim.Native.Nat.{ℕ, suc, _+_, _-_, _*_, _≤_, _<_}
 use native.Mathlib.Nat.{mul-le-mul-right}
 use native.Mathlib.Omega.{arith}
+use lib.Ieee as Ieee
+use lib.Ieee.{binary32, add, isNan}
 use lib.ListN.{length, length-map, length-append}
 use Rattle.tropical_weight.specs.Limits.{finest, sumLimit}
-use Rattle.tropical_weight.specs.Tropical.{Tropical, one, _⊗_, timesAll, Within}
+use Rattle.tropical_weight.specs.Tropical.{Tropical, inf, one, _⊗_, timesAll, Within}
 use Rattle.tropical_weight.specs.Grid.{ofT}
 use Rattle.tropical_weight.specs.Single.{addAll}
 use Rattle.tropical_weight.proofs.Semiring.{⊗-zero}
+use Rattle.tropical_weight.proofs.Exact.{times-ofT, ofT-no-nan}
 use Rattle.tropical_weight.proofs.Sums.{within-mono, within-one, terms-⊗, terms-within, sums-exact}
 use Rattle.sheet.specs.Below.{listBelow}
 use Rattle.sheet.specs.Machine.{Machine}
@@ -23,8 +27,18 @@ use Rattle.machine.specs.Distance.{plusAll, dist, totalAt}
 use Rattle.machine.proofs.Lists.{mem-map, mem-below}
 use Rattle.machine.proofs.Sums.{plusAll-within}
 use Rattle.machine.proofs.Runs.{run-length, run-in, ways-sound}
-use Rattle.machine.proofs.Readings.{final-in}
+use Rattle.machine.proofs.Readings.{final-in, Way, way}
 use Rattle.machine.proofs.Relax.{distOver, rowAt, row-is}
+
+-- No value is negative infinity, so that infinity less infinity never comes up: the sum with infinity would be a NaN.
+pub no-minus : (j : ℕ) → j ≤ finest → (v : Tropical) → Within sumLimit v → ofT j v ≡ Ieee.inf true → ⊥
+unfolding isNan
+no-minus j h v w e =
+    let sum : add binary32 (Ieee.inf true) (Ieee.inf false) ≡ ofT j inf = ap (λ x. add binary32 x (Ieee.inf false)) (sym e) ∙ times-ofT j h v inf w tt ∙ ap (ofT j) (⊗-zero v) in
+    let undefined : isNan (add binary32 (Ieee.inf true) (Ieee.inf false)) ≡ true = unfold add in refl in
+    let clash : true ≡ false = sym undefined ∙ ap isNan sum in
+    let z : _≡_ {A = ℕ} 0 1 = cc in
+    omega arith
 
 one-term : (most : ℕ) (w : Tropical) → Within most w → Within (1 * most) w
 one-term most w h = within-mono most (1 * most) w (omega arith) h
@@ -96,10 +110,11 @@ module _ (m : Machine) (c : Climbs m) (most : ℕ) (b : Small most m) where
     pub reading-limit : (x : Reading) → IsReading m x → Within sumLimit (readingCost m x)
     reading-limit x i = rest-limit (x .run) (i .from) (x .end) (i .weight) (i .runs) (i .marked)
 
-    -- Along a reading each partial sum, that of any front us of its weights us ++ vs, is within the limit of sums, and single precision adds it up exactly.
-    pub reading-exact : (x : Reading) → IsReading m x → (j : ℕ) → j ≤ finest → (us vs : List Tropical) → us ++ vs ≡ readingWeights m x
+    -- Along a run to a mark, barred or not, each partial sum, that of any front us of its weights us ++ vs, is within the limit of sums, and single
+    -- precision adds it up as the semiring does.
+    pub way-exact : (x : Reading) → Way m x → (j : ℕ) → j ≤ finest → (us vs : List Tropical) → us ++ vs ≡ readingWeights m x
         → (addAll (ofT j one) (map (ofT j) us) ≡ ofT j (timesAll one us)) × Within sumLimit (timesAll one us)
-    reading-exact x i j h us vs e = sums-exact nodes most product j h us vs count (λ w q. each w (List·Memᴰ·append-cases linked (subst (λ (l : List Tropical). w ∈ l) e q)))
+    way-exact x i j h us vs e = sums-exact nodes most product j h us vs count (λ w q. each w (List·Memᴰ·append-cases linked (subst (λ (l : List Tropical). w ∈ l) e q)))
       where
         linked : List Tropical
         linked = map (λ l. link m l .weight) (x .run)
@@ -116,3 +131,12 @@ module _ (m : Machine) (c : Climbs m) (most : ℕ) (b : Small most m) where
             let y = mem-map (λ l. link m l .weight) (x .run) q in
             subst (Within most) (sym (y .2)) (b .onLink (y .0) (run-in m (x .run) (i .from) (x .end) (i .runs) (y .0) (y .1)))
         each w (inr q) = subst (Within most) (sym (List·Memᴰ·eq-of-singleton q ∙ ap finalWeight (i .marked))) (b .onFinal (x .end) (i .weight) (i .marked))
+
+    -- of a reading
+    pub reading-exact : (x : Reading) → IsReading m x → (j : ℕ) → j ≤ finest → (us vs : List Tropical) → us ++ vs ≡ readingWeights m x
+        → (addAll (ofT j one) (map (ofT j) us) ≡ ofT j (timesAll one us)) × Within sumLimit (timesAll one us)
+    reading-exact x i = way-exact x (way m i)
+
+    -- and none of these sums is a NaN
+    pub way-defined : (x : Reading) → Way m x → (j : ℕ) → j ≤ finest → (us vs : List Tropical) → us ++ vs ≡ readingWeights m x → isNan (addAll (ofT j one) (map (ofT j) us)) ≡ false
+    way-defined x i j h us vs e = let sum = way-exact x i j h us vs e in ap isNan (sum .0) ∙ ofT-no-nan j h (timesAll one us) (sum .1)

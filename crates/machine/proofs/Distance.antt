@@ -1,17 +1,18 @@
 -- The distance is the least cost of a run from the start, and the least total that of a reading. Assumes nothing.
 use mathlib.Core.Path.{_≡_, refl, sym, ap, ap₂, _∙_}
+use mathlib.Core.Bool.{cond}
 use mathlib.Core.Option.{Option, none, some}
 use mathlib.Core.List.{List, [], _∷_, _++_, map, map-map}
 use Prim.Native.Nat.{ℕ, zero, suc, _<_}
 use native.Mathlib.Omega.{arith}
-use lib.IntN.{ℤ, pos, _+ℤ_}
+use lib.IntN.{ℤ}
 use lib.ListN.{length}
 use Rattle.tropical_weight.specs.Tropical.{Tropical, fin, inf, one, _≼_, _⊕_, _⊗_}
-use Rattle.tropical_weight.proofs.Semiring.{≼-refl, ≼-eq, ≼-trans, ≼-antisym, ≼-inf, ≼-fin, ⊕-comm, zero-⊕, ⊗-zero}
+use Rattle.tropical_weight.proofs.Semiring.{isFinite, ≼-refl, ≼-eq, ≼-trans, ≼-antisym, ≼-inf, ≼-fin, ⊕-comm, zero-⊕, ⊗-zero}
 use Rattle.sheet.specs.Below.{listBelow}
 use Rattle.sheet.specs.Machine.{Machine}
-use Rattle.machine.specs.Readings.{link, final, finalWeight, IsRun, runCost, waysTo, Reading, IsReading, readingCost, endsAt, readings, readingsBelow}
-use Rattle.machine.specs.Climbs.{Climbs, Finite}
+use Rattle.machine.specs.Readings.{link, final, finalWeight, runCost, waysTo, Reading, IsReading, readingCost, endsAt, keep, readings, readingsBelow}
+use Rattle.machine.specs.Climbs.{Climbs}
 use Rattle.machine.specs.Distance.{plusAll, dist, via, total, totalAt}
 use Rattle.machine.proofs.Lists.{map-mem, mem-map, below-mem, map-append}
 use Rattle.machine.proofs.Sums.{plusAll-le, plusAll-greatest, plusAll-in, plusAll-append, plusAll-⊗}
@@ -20,6 +21,17 @@ use Rattle.machine.proofs.Readings.{readings-are}
 
 pub infinite : {a : Tropical} {k : ℤ} → a ≡ inf → a ≡ fin k → ⊥
 infinite {a} {k} e h = let z : _≡_ {A = ℕ} 0 1 = cc in omega arith
+
+-- what is infinite adds nothing to ⊕
+plusAll-finite : {A : Type 0} (f : A → Tropical) (l : List A) → plusAll (map f (keep (λ x. isFinite (f x)) l)) ≡ plusAll (map f l)
+unfolding plusAll keep
+plusAll-finite f [] = refl
+plusAll-finite f (x ∷ l) = go (f x) refl (plusAll-finite f l)
+  where
+    go : (a : Tropical) → f x ≡ a → plusAll (map f (keep (λ x. isFinite (f x)) l)) ≡ plusAll (map f l)
+        → plusAll (map f (cond (isFinite a) (x ∷ keep (λ x. isFinite (f x)) l) (keep (λ x. isFinite (f x)) l))) ≡ a ⊕ plusAll (map f l)
+    go (fin k) e ih = ap₂ _⊕_ e ih
+    go inf e ih = ih ∙ sym (zero-⊕ (plusAll (map f l)))
 
 module _ (m : Machine) where
   -- ---- the least total is ⊕ over the readings of their costs
@@ -40,29 +52,13 @@ module _ (m : Machine) where
       ∙ ap plusAll (sym (map-append (readingCost m) (readingsBelow m v) (endsAt (final m v) v (waysTo m v))))
 
   pub total-is : total m ≡ plusAll (map (readingCost m) (readings m))
-  unfolding total
-  total-is = totals (length (m .finals))
+  unfolding total readings
+  total-is = totals (length (m .finals)) ∙ sym (plusAll-finite (readingCost m) (readingsBelow m (length (m .finals))))
 
   -- and no more than that of the readings that end at a node
   pub total-below : (u : ℕ) → u < length (m .finals) → total m ≼ totalAt m u
   unfolding total
   total-below u h = plusAll-le (listBelow (length (m .finals)) (totalAt m)) (below-mem (totalAt m) (length (m .finals)) u h)
-
-  -- ---- finite weights have finite sums
-  module _ (f : Finite m) where
-    pub run-finite : (r : List ℕ) (u v : ℕ) → IsRun m u r v → (k : ℤ) × (runCost m r ≡ fin k)
-    unfolding runCost
-    run-finite [] u v h = (pos 0, refl)
-    run-finite (l ∷ r) u v h =
-        let a = f .onLink l (h .0) in
-        let b = run-finite r (link m l .next) v (h .2) in
-        (a .0 +ℤ b .0, ap₂ _⊗_ (a .1) (b .1))
-
-    pub reading-finite : (x : Reading) → IsReading m x → (k : ℤ) × (readingCost m x ≡ fin k)
-    reading-finite x i =
-        let a = run-finite (x .run) (i .from) (x .end) (i .runs) in
-        let b = f .onFinal (x .end) (i .weight) (i .marked) in
-        (a .0 +ℤ b .0, ap₂ _⊗_ (a .1) (ap finalWeight (i .marked) ∙ b .1))
 
   module _ (c : Climbs m) where
     -- ---- the distance is the least cost of a run
@@ -106,7 +102,7 @@ module _ (m : Machine) where
     pub total-attained : (k : ℤ) → total m ≡ fin k → (x : Reading) × IsReading m x × (readingCost m x ≡ fin k)
     total-attained k e = let x = mem-map (readingCost m) (readings m) (plusAll-in (map (readingCost m) (readings m)) k (sym total-is ∙ e)) in (x .0, readings-are m c (x .0) .0 (x .1), sym (x .2))
 
-    -- infinite where there is no reading, finite where there is one of finite weights
+    -- infinite where there is no reading, finite where there is one
     pub total-none : ((x : Reading) → IsReading m x → ⊥) → total m ≡ inf
     total-none f = go (total m) refl
       where
@@ -114,5 +110,5 @@ module _ (m : Machine) where
         go (fin k) e = let x = total-attained k e in absurd (f (x .0) (x .1))
         go inf e = refl
 
-    pub total-some : Finite m → (x : Reading) → IsReading m x → (k : ℤ) × (total m ≡ fin k)
-    total-some f x i = let a = reading-finite f x i in ≼-fin (total m) (a .0) (≼-trans (total-le x i) (≼-eq (a .1)))
+    pub total-some : (x : Reading) → IsReading m x → (k : ℤ) × (total m ≡ fin k)
+    total-some x i = ≼-fin (total m) (i .costs) (≼-trans (total-le x i) (≼-eq (i .finite)))

@@ -11,7 +11,7 @@ use lib.ListN.{length}
 use lib.Ieee.Bits.{is-true}
 use borrow.Author.Tests.{eqb-true, eq-eqb}
 use Rattle.tropical_weight.specs.Tropical.{Tropical, fin, inf, leT, ltT, eqT, _≼_, _⊕_, _⊗_}
-use Rattle.tropical_weight.proofs.Semiring.{≼-eq, ≼-trans, ltT-not, eq-eqT, ⊕-comm, zero-⊕}
+use Rattle.tropical_weight.proofs.Semiring.{is-finite, ≼-eq, ≼-trans, ltT-not, eq-eqT, ⊕-comm, zero-⊕}
 use Rattle.sheet.specs.Below.{listBelow}
 use Rattle.sheet.specs.Machine.{Machine}
 use Rattle.machine.specs.Readings.{link, isAt, runCost, ways}
@@ -24,7 +24,7 @@ use Rattle.machine.proofs.Sums.{plusAll-le, plusAll-in, plusAll-next}
 use Rattle.machine.proofs.Runs.{at-some}
 use Rattle.machine.proofs.Relax.{rowAt, distOver, more-runs, same-runs, row-is, source-settled}
 use Rattle.machine.proofs.Reached.{finite-reached, reached-above}
-use Rattle.machine.proofs.Parents.{Lowest, lowest-is, lowest-found, finite, attains-eq, eq-attains}
+use Rattle.machine.proofs.Parents.{Lowest, lowest-is, lowest-found, attains-eq, eq-attains}
 
 -- ---- tests
 lowest-none : (n : ℕ) (p : ℕ → Bool) → ((k : ℕ) → k < n → p k ≡ false) → lowest n p ≡ none
@@ -86,7 +86,7 @@ module _ (y : ℕ → Tropical) where
       tie : (t : Bool) → attains (least n) (y n) ≡ t → orElse (chosen n) (cond t (some n) none) ≡ chosen n
       tie false q = or-none (chosen n)
       tie true q =
-          let k = finite (least n) (both (ltT (least n) inf) (eqT (y n) (least n)) q .0) in
+          let k = is-finite (least n) (both (ltT (least n) inf) (eqT (y n) (least n)) q .0) in
           let j = mem-below y n (plusAll-in (listBelow n y) (k .0) (k .1)) in
           let r = lowest-found n (λ j. attains (least n) (y j)) (j .0) (j .1) (eq-attains (least n) (y (j .0)) (k .0) (k .1) (sym (j .2) ∙ sym (k .1))) in
           or-some (chosen n) (r .0) n (r .1)
@@ -136,7 +136,7 @@ module _ (m : Machine) where
         go : (t : Bool) → eqb (link m l .next) v ≡ t → (d : Tropical) → dist m (link m l .source) ≡ d → cond t (d ⊗ link m l .weight) inf ≡ inf
         go false e d q = refl
         go true e inf q = refl
-        go true e (fin k) q = absurd (omega (arith, c .rises l h, eqb-true (link m l .next) v e, reached-above m c v (link m l .source) (at-some (m .start) v s) (finite-reached m c (link m l .source) k q)))
+        go true e (fin k) q = absurd (omega (arith, c .rises l h, eqb-true (link m l .next) v e, reached-above m c v (link m l .source) (at-some (m .start) v s) (finite-reached m (link m l .source) k q)))
 
     pub parent-chosen : (v : ℕ) → parent m v ≡ chosen (offer v) (length (m .links))
     unfolding parent dist

@@ -11,6 +11,7 @@ use lib.Seq.{ext-getD}
 use Rattle.sheet.specs.Below.{listBelow}
 use Rattle.sheet.proofs.Apart.{not-both}
 use Rattle.sheet.proofs.Below.{length-listBelow, getD-listBelow}
+unfoldable pub use Rattle.machine.specs.Readings.{keep}
 use Rattle.machine.specs.Demand.{_∈_, NoDup}
 
 -- ---- members
@@ -197,10 +198,6 @@ each-or {A} {P} {Q} (x ∷ l) f = go (f x (here x l)) (each-or l (λ a h. f a (L
     go (inl q) (inl g) = inl (λ a h. elim (List·Memᴰ·cases-cons h) [ inl e ↦ subst Q (sym e) q | inr k ↦ g a k ])
 
 -- ---- the members that pass a test
-unfoldable pub keep : {A : Type 0} → (A → Bool) → List A → List A
-keep p [] = []
-keep p (x ∷ l) = cond (p x) (x ∷ keep p l) (keep p l)
-
 pub keep-append : {A : Type 0} (p : A → Bool) (l k : List A) → keep p (l ++ k) ≡ keep p l ++ keep p k
 unfolding keep
 keep-append p [] k = refl

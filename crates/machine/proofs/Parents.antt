@@ -12,11 +12,11 @@ use lib.IntN.{ℤ}
 use lib.ListN.{length}
 use borrow.Author.Tests.{eqb-true, eq-eqb, ne-eqb}
 use Rattle.tropical_weight.specs.Tropical.{Tropical, fin, inf, ltT, eqT, _≼_, _⊗_}
-use Rattle.tropical_weight.proofs.Semiring.{≼-eq, ≼-trans, ≼-antisym, ⊗-zero, ⊗-mono-left, eqT-eq, eq-eqT}
+use Rattle.tropical_weight.proofs.Semiring.{is-finite, ≼-eq, ≼-trans, ≼-antisym, ⊗-zero, ⊗-mono-left, eqT-eq, eq-eqT}
 use Rattle.sheet.specs.Below.{listBelow}
 use Rattle.sheet.specs.Machine.{Machine}
 use Rattle.machine.specs.Readings.{link, final, finalWeight, isAt, IsRun, runCost, Reading, IsReading, readingCost}
-use Rattle.machine.specs.Climbs.{Climbs, Finite}
+use Rattle.machine.specs.Climbs.{Climbs}
 use Rattle.machine.specs.Distance.{dist, via, total, totalAt}
 use Rattle.machine.specs.Parents.{orElse, lowest, attains, parent, bestEnd, stepBack, follow, followed, best}
 use Rattle.sheet.proofs.Apart.{both, not-both}
@@ -63,11 +63,6 @@ pub term : (a b : Tropical) (k : ℤ) → a ⊗ b ≡ fin k → (j : ℤ) × (a 
 term (fin a) b k e = (a, refl)
 term inf b k e = absurd (infinite refl e)
 
--- what comes before infinity is finite
-pub finite : (a : Tropical) → ltT a inf ≡ true → (k : ℤ) × (a ≡ fin k)
-finite (fin k) e = (k, refl)
-finite inf e = absurd (not-both e refl)
-
 marked : (a : Tropical) (o : Option Tropical) (k : ℤ) → a ⊗ finalWeight o ≡ fin k → (w : Tropical) × (o ≡ some w)
 marked a none k e = absurd (infinite (⊗-zero a) e)
 marked a (some w) k e = (w, refl)
@@ -103,7 +98,7 @@ module _ (m : Machine) where
   parent-is v l e =
       let x = subst (Lowest (length (m .links)) (passes v)) e (lowest-is (length (m .links)) (passes v)) in
       let y = passes-is v l (x .1) in
-      let k = finite (dist m v) (both (ltT (dist m v) inf) (eqT (via m l) (dist m v)) (both (eqb (link m l .next) v) (attains (dist m v) (via m l)) (x .1) .1) .0) in
+      let k = is-finite (dist m v) (both (ltT (dist m v) inf) (eqT (via m l) (dist m v)) (both (eqb (link m l .next) v) (attains (dist m v) (via m l)) (x .1) .1) .0) in
       (record { inside = x .0; into = y .0; sum = y .1; first = λ i b f g. not-both (is-passes v i (k .0) (k .1) f g) (x .2 i b) }, k)
 
   -- an unreached node has none
@@ -172,7 +167,7 @@ module _ (m : Machine) where
     -- following the parents gives one
     pub follows : (f v : ℕ) (k : ℤ) → v ≤ f → dist m v ≡ fin k → Shortest v (follow m f v)
     unfolding follow
-    follows zero v k b e = at-start v (omega (arith, reached-above m c s v st (finite-reached m c v k e)))
+    follows zero v k b e = at-start v (omega (arith, reached-above m c s v st (finite-reached m v k e)))
     follows (suc f) v k b e = go (ℕ-discrete v s) (λ u j h q. follows f u j h q)
       where
         go : Dec (v ≡ s) → ((u : ℕ) (j : ℤ) → u ≤ f → dist m u ≡ fin j → Shortest u (follow m f u))
@@ -201,11 +196,12 @@ module _ (m : Machine) where
         let v = x .0 in
         let d = term (dist m v) (finalWeight (final m v)) k (x .2 .sum ∙ e) in
         let w = marked (dist m v) (final m v) k (x .2 .sum ∙ e) in
-        let g = follows c (s .from) (s .starts) v v (d .0) (omega arith) (d .1) in (
+        let g = follows c (s .from) (s .starts) v v (d .0) (omega arith) (d .1) in
+        let sum : readingCost m (record { run = follow m v v; end = v }) ≡ total m = ap (λ y. y ⊗ finalWeight (final m v)) (g .1) ∙ x .2 .sum in (
           record { run = follow m v v; end = v },
           ap (followed m) (x .1),
-          record { from = s .from; weight = w .0; starts = s .starts; runs = g .0; marked = w .1 },
-          ap (λ y. y ⊗ finalWeight (final m v)) (g .1) ∙ x .2 .sum,
+          record { from = s .from; weight = w .0; starts = s .starts; runs = g .0; marked = w .1; costs = k; finite = sum ∙ e },
+          sum,
         )
 
     pub best-infinite : total m ≡ inf → best m ≡ none
@@ -223,9 +219,9 @@ module _ (m : Machine) where
             subst (λ y. IsReading m y × (readingCost m y ≡ total m)) z (b .2, b .3)
         go inf q = let p : some x ≡ none = sym e ∙ best-infinite q in let z : _≡_ {A = ℕ} 0 1 = cc in absurd (omega arith)
 
-    -- where all weights are finite: there is a best reading exactly where there is a reading
-    pub best-some : Finite m → (y : Reading) → IsReading m y → (x : Reading) × (best m ≡ some x) × IsReading m x × (readingCost m x ≡ total m)
-    best-some f y i = let t = total-some m c f y i in best-finite (t .0) (t .1)
+    -- there is a best reading exactly where there is a reading
+    pub best-some : (y : Reading) → IsReading m y → (x : Reading) × (best m ≡ some x) × IsReading m x × (readingCost m x ≡ total m)
+    best-some y i = let t = total-some m c y i in best-finite (t .0) (t .1)
 
     pub best-none : ((x : Reading) → IsReading m x → ⊥) → best m ≡ none
     best-none f = best-infinite (total-none m c f)

@@ -19,7 +19,7 @@ use Rattle.sheet.specs.Below.{allBelow, sumBelow, listBelow}
 use Rattle.sheet.specs.Words.{word}
 use Rattle.sheet.specs.declared.tr.Trailer.{Trailer}
 use Rattle.sheet.specs.Records.{trailerAt, countAt, markAt, finalAt, firstLink}
-use Rattle.sheet.specs.Sheet.{Parts, linkCount, nodeCount, count, mark, finalBits, linkBits, wellMarked, onGridBits, nodesFit, partsOf, readNumber, statedLinks, statedNodes}
+use Rattle.sheet.specs.Sheet.{Parts, linkCount, nodeCount, count, mark, finalBits, linkBits, wellMarked, weightFits, nodesFit, partsOf, readNumber, statedLinks, statedNodes}
 use Rattle.sheet.specs.Machine.{Machine, machineOf, machine, weightOf, bitsOf, finalOf, linkOf}
 use Rattle.sheet.proofs.Apart.{both}
 use Rattle.sheet.proofs.Below.{allBelow-at, split-at, sum-mono, listBelow-same}
@@ -129,11 +129,11 @@ module _ (bytes : List ℕ) (accepted : inputNumber bytes ≡ 0) where
       go true q e = inr (sym (mark-is v h) ∙ eqb-true (mark p v) 1 q)
       go false q e = inl (sym (mark-is v h) ∙ eqb-true (mark p v) 0 (both (eqb (mark p v) 0) (eqb (finalBits p v) 0) e .0))
 
-  -- the final weight of a marked node is on the grid
-  grid : (v : ℕ) → v < N → (markAt bytes T v ≡ 0 → ⊥) → onGridBits (finalAt bytes T v) ≡ true
+  -- the final weight of a marked node passes test 4
+  grid : (v : ℕ) → v < N → (markAt bytes T v ≡ 0 → ⊥) → weightFits (finalAt bytes T v) ≡ true
   grid v h n =
-      ap onGridBits (sym (final-is v h))
-      ∙ ap (λ (b : Bool). b || onGridBits (finalBits p v)) (sym (ne-eqb (mark p v) 0 (λ z. n (sym (mark-is v h) ∙ z))))
+      ap weightFits (sym (final-is v h))
+      ∙ ap (λ (b : Bool). b || weightFits (finalBits p v)) (sym (ne-eqb (mark p v) 0 (λ z. n (sym (mark-is v h) ∙ z))))
       ∙ final-grid p t v (in-nodes v h)
 
   finals : listBelow N (λ v. finalOf (markAt bytes T v) (finalAt bytes T v)) ≡ m .finals
@@ -161,7 +161,7 @@ module _ (bytes : List ℕ) (accepted : inputNumber bytes ≡ 0) where
     link-value = λ l h. ap (ofBits binary32) (bits l h) ∙ weight-value (linkBits p l) (link-grid p t l (in-links l h)) ∙ sym (ap (λ x. ofT unit (x .weight)) (is l h));
     link-bits = λ whole l h.
         sym (ap (λ x. bitsOf (x .weight)) (is l h) ∙ ap (λ (b : ℕ). bitsOf (weightOf b)) (sym (bits l h))
-        ∙ bits-again (word bytes (16 * l + 8)) (word-lt bytes (16 * l + 8) whole) (ap onGridBits (bits l h) ∙ link-grid p t l (in-links l h)));
+        ∙ bits-again (word bytes (16 * l + 8)) (word-lt bytes (16 * l + 8) whole) (ap weightFits (bits l h) ∙ link-grid p t l (in-links l h)));
     mark-at = marked;
     final-at = λ v h. machine-final p v (in-nodes v h) ∙ λ i. finalOf (mark-is v h i) (final-is v h i);
     finals-are = finals;

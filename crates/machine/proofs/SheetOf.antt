@@ -1,24 +1,23 @@
 -- A machine as a sheet: which machines have a sheet that is accepted, and which one is refused for its nodes. Read from its sheet a machine is the same.
 -- The other way round, from a sheet to its machine, is Accepted. Assumes nothing.
 use mathlib.Core.Path.{_≡_, refl, sym, ap, _∙_, subst}
-use mathlib.Core.Bool.{true, not, _&&_, _||_, cond, or-true}
+use mathlib.Core.Bool.{Bool, true, false, not, _&&_, _||_, cond, or-true}
 use mathlib.Core.Option.{Option, none, some}
 use Prim.Native.Nat.{ℕ, _*_, _^_, _≤_, _<_}
 use native.Mathlib.Omega.{arith}
 use lib.Dec.{ltb, eqb}
-use lib.IntN.{ℤ}
 use lib.ListN.{length, getD}
 use borrow.Author.Tests.{lt-ltb, le-leb, lt-leb, eq-eqb}
 use Rattle.tropical_weight.specs.Limits.{unit, weightLimit, sumLimit, nodeLimit, linkLimit}
-use Rattle.tropical_weight.specs.Tropical.{Tropical, fin, Within}
+use Rattle.tropical_weight.specs.Tropical.{Tropical, fin, inf, Within}
 use Rattle.tropical_weight.proofs.Sums.{within-mono}
 use Rattle.tropical_weight.proofs.Grid.{gridBits-means}
-use Rattle.sheet.specs.Sheet.{noStart, linkCount, nodeCount, next, mark, finalBits, wellMarked, nodesFit, startFits, nextsFit, onGridBits, weightsFit, sheetOf, verdict, partsOf, readNumber}
+use Rattle.sheet.specs.Sheet.{noStart, linkCount, nodeCount, next, mark, finalBits, wellMarked, nodesFit, startFits, nextsFit, barredBits, onGridBits, weightFits, weightsFit, sheetOf, verdict, partsOf, readNumber}
 use Rattle.sheet.specs.Machine.{Link, Machine, machineOf, sourcesBelow, bitsOf, startField, partsFor}
 use Rattle.sheet.proofs.Below.{allBelow-of}
-use Rattle.sheet.proofs.Encoding.{LinkFits, Writable, AllHeld, Held, bits-lt, links-are, nodes-are, start-is, linkBits-is, next-is, mark-some, mark-none, finalBits-some, finalBits-none, counts-are, source-of, records-fit, number-is, fields-back, machine-read}
+use Rattle.sheet.proofs.Encoding.{bits-inf, LinkFits, Writable, AllHeld, Held, bits-lt, links-are, nodes-are, start-is, linkBits-is, next-is, mark-some, mark-none, finalBits-some, finalBits-none, counts-are, source-of, records-fit, number-is, fields-back, machine-read}
 use Rattle.machine.specs.Readings.{noLink, link, final}
-use Rattle.machine.specs.Climbs.{Climbs, Finite, Small}
+use Rattle.machine.specs.Climbs.{Climbs, Small}
 use Rattle.machine.specs.Input.{linksClimb, boundsNumber, inputNumber}
 use Rattle.machine.proofs.Lists.{getD-any}
 
@@ -29,7 +28,6 @@ pub record Readable (m : Machine) : Type 0 where
   -- the links stand by source
   pub sorted : (k l : ℕ) → k ≤ l → l < length (m .links) → link m k .source ≤ link m l .source
   pub labels : (l : ℕ) → l < length (m .links) → (link m l .ilabel < 2 ^ 32) × (link m l .olabel < 2 ^ 32)
-  pub finite : Finite m
   pub small : Small weightLimit m
   pub starts : (v : ℕ) → m .start ≡ some v → v < length (m .finals)
   pub few-nodes : length (m .finals) < 2 ^ 32
@@ -53,13 +51,13 @@ module _ (m : Machine) (a : Readable m) where
       start-word none f = omega arith
       start-word (some v) f = omega (arith, f v refl, a .few-nodes)
 
-  held-weight : (w : Tropical) → ((k : ℤ) × (w ≡ fin k)) → Within weightLimit w → Held w
-  held-weight w f s = (f, within-mono weightLimit sumLimit w (omega arith) s)
+  held-weight : (w : Tropical) → Within weightLimit w → Held w
+  held-weight w s = within-mono weightLimit sumLimit w (omega arith) s
 
   held : AllHeld m
   held = record {
-    weights = λ l d h. subst (λ (k : Link). Held (k .weight)) (sym (same l d h)) (held-weight (link m l .weight) (a .finite .onLink l h) (a .small .onLink l h));
-    final-weights = λ v w h e. held-weight w (a .finite .onFinal v w e) (a .small .onFinal v w e);
+    weights = λ l d h. subst (λ (k : Link). Held (k .weight)) (sym (same l d h)) (held-weight (link m l .weight) (a .small .onLink l h));
+    final-weights = λ v w h e. held-weight w (a .small .onFinal v w e);
     start-told = λ v e. omega (arith, a .starts v e, a .few-nodes);
   }
 
@@ -92,22 +90,27 @@ module _ (m : Machine) (a : Readable m) where
   unfolding nextsFit
   nexts-fit = allBelow-of (linkCount (partsFor m)) _ (λ l h. lt-ltb (next (partsFor m) l) (nodeCount (partsFor m)) (omega (arith, next-is m l noLink (in-links l h), a .next-in l (in-links l h), nodes-are m)))
 
-  on-grid : (w : Tropical) → ((k : ℤ) × (w ≡ fin k)) → Within weightLimit w → onGridBits (bitsOf w) ≡ true
-  on-grid w f s = gridBits-means unit (omega arith) weightLimit (omega arith) (bitsOf w) (bits-lt w) .1 (f .0, subst (Within weightLimit) (f .1) s, sym (ap bitsOf (f .1)))
-
-  final-on-grid : (v : ℕ) → v < length (m .finals) → eqb (mark (partsFor m) v) 0 || onGridBits (finalBits (partsFor m) v) ≡ true
-  final-on-grid v h = go (final m v) refl
+  weight-fits : (w : Tropical) → Within weightLimit w → weightFits (bitsOf w) ≡ true
+  weight-fits (fin k) s = go (eqb (bitsOf (fin k)) barredBits) (gridBits-means unit (omega arith) weightLimit (omega arith) (bitsOf (fin k)) (bits-lt (fin k)) .1 (k, s, refl))
     where
-      go : (o : Option Tropical) → final m v ≡ o → eqb (mark (partsFor m) v) 0 || onGridBits (finalBits (partsFor m) v) ≡ true
-      go none e = λ i. eqb (mark-none m v h e i) 0 || onGridBits (finalBits (partsFor m) v)
-      go (some w) e = (λ i. eqb (mark-some m v h w e i) 0 || onGridBits (finalBits-some m v h w e i)) ∙ on-grid w (a .finite .onFinal v w e) (a .small .onFinal v w e)
+      go : (t : Bool) → onGridBits (bitsOf (fin k)) ≡ true → t || onGridBits (bitsOf (fin k)) ≡ true
+      go true e = refl
+      go false e = e
+  weight-fits inf s = ap (λ (t : Bool). t || onGridBits (bitsOf inf)) (eq-eqb (bitsOf inf) barredBits bits-inf)
+
+  final-fits : (v : ℕ) → v < length (m .finals) → eqb (mark (partsFor m) v) 0 || weightFits (finalBits (partsFor m) v) ≡ true
+  final-fits v h = go (final m v) refl
+    where
+      go : (o : Option Tropical) → final m v ≡ o → eqb (mark (partsFor m) v) 0 || weightFits (finalBits (partsFor m) v) ≡ true
+      go none e = λ i. eqb (mark-none m v h e i) 0 || weightFits (finalBits (partsFor m) v)
+      go (some w) e = (λ i. eqb (mark-some m v h w e i) 0 || weightFits (finalBits-some m v h w e i)) ∙ weight-fits w (a .small .onFinal v w e)
 
   weights-fit : weightsFit (partsFor m) ≡ true
   unfolding weightsFit
   weights-fit =
       let on-links = allBelow-of (linkCount (partsFor m)) _ (λ l h.
-      ap onGridBits (linkBits-is m l noLink (in-links l h)) ∙ on-grid (link m l .weight) (a .finite .onLink l (in-links l h)) (a .small .onLink l (in-links l h))) in
-      let on-nodes = allBelow-of (nodeCount (partsFor m)) _ (λ v h. final-on-grid v (in-nodes v h)) in
+      ap weightFits (linkBits-is m l noLink (in-links l h)) ∙ weight-fits (link m l .weight) (a .small .onLink l (in-links l h))) in
+      let on-nodes = allBelow-of (nodeCount (partsFor m)) _ (λ v h. final-fits v (in-nodes v h)) in
       λ i. on-links i && on-nodes i
 
   -- ---- so its sheet passes them, and read from the sheet the machine is the same

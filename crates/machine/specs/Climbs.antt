@@ -3,9 +3,8 @@
 use mathlib.Core.Path.{_≡_}
 use mathlib.Core.Option.{some}
 use Prim.Native.Nat.{ℕ, _≤_, _<_}
-use lib.IntN.{ℤ}
 use lib.ListN.{length}
-use Rattle.tropical_weight.specs.Tropical.{Tropical, fin, Within}
+use Rattle.tropical_weight.specs.Tropical.{Tropical, Within}
 use Rattle.sheet.specs.Machine.{Machine}
 use Rattle.machine.specs.Readings.{link, final}
 
@@ -14,11 +13,6 @@ pub record Climbs (m : Machine) : Type 0 where
   pub rises : (l : ℕ) → l < length (m .links) → link m l .source < link m l .next
   pub inside : (l : ℕ) → l < length (m .links) → link m l .next < length (m .finals)
   pub sorted : (k l : ℕ) → k ≤ l → l < length (m .links) → link m k .source ≤ link m l .source
-
--- no weight is infinite
-pub record Finite (m : Machine) : Type 0 where
-  pub onLink : (l : ℕ) → l < length (m .links) → (k : ℤ) × (link m l .weight ≡ fin k)
-  pub onFinal : (v : ℕ) (w : Tropical) → final m v ≡ some w → (k : ℤ) × (w ≡ fin k)
 
 -- no weight has more than `most` units either way
 pub record Small (most : ℕ) (m : Machine) : Type 0 where

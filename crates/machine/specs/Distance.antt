@@ -1,15 +1,15 @@
 -- Mohri's distance, the least total, relaxation, and the distances that are written. Definitions only.
-use mathlib.Core.Bool.{Bool, _&&_, _||_, cond}
+use mathlib.Core.Bool.{Bool, false, _&&_, _||_, cond}
 use mathlib.Core.Option.{Option, none, some}
 use mathlib.Core.List.{List, [], _∷_, map}
 use Prim.Native.Nat.{ℕ, zero, suc}
 use lib.Dec.{eqb}
 use lib.ListN.{getD, length, set, replicate}
 use lib.IntN.{ℤ, pos}
-use Rattle.tropical_weight.specs.Tropical.{Tropical, fin, inf, _⊕_, _⊗_}
+use Rattle.tropical_weight.specs.Tropical.{Tropical, fin, inf, ltT, _⊕_, _⊗_}
 use Rattle.sheet.specs.Below.{listBelow}
 use Rattle.sheet.specs.Machine.{Link, Machine}
-use Rattle.machine.specs.Readings.{link, final, finalWeight, isAt, runCost, ways, waysTo}
+use Rattle.machine.specs.Readings.{link, final, finalWeight, runCost, ways, waysTo}
 
 -- A distance: reached, with its cost in units, or unreached.
 pub data Distance : Type 0 where
@@ -76,27 +76,32 @@ unfoldable pub relax : Machine → ℕ → List Distance
 relax m zero = startRow (m .start) (length (m .finals))
 relax m (suc l) = relaxed (link m l) (relax m l)
 
--- ---- which nodes are reached, whatever the weights
--- whether some run over the first l links leads from the start to v
-unfoldable pub reach : Machine → ℕ → ℕ → Bool
-reach m zero v = isAt (m .start) v
-reach m (suc l) v = reach m l v || (eqb (link m l .next) v && reach m l (link m l .source))
-
--- whether some run leads from the start to v: with finite weights, whether its distance is reached
+-- ---- which nodes are reached, and which are led to
+-- a barred link reaches nothing: a node is reached where its distance is finite
 abbrev pub isReached : Machine → ℕ → Bool
-isReached m v = reach m (length (m .links)) v
+isReached m v = ltT (dist m v) inf
 
--- one more than the highest reached node below n, or 0
+-- whether one of the first l links, barred or not, leads to v from a reached node
+unfoldable pub isLedTo : Machine → ℕ → ℕ → Bool
+unfolding dist
+isLedTo m zero v = false
+isLedTo m (suc l) v = isLedTo m l v || (eqb (link m l .next) v && isReached m (link m l .source))
+
+-- whether v counts in the length of the distances: it is reached, or led to from a reached node
+abbrev pub isCounted : Machine → ℕ → Bool
+isCounted m v = isReached m v || isLedTo m (length (m .links)) v
+
+-- one more than the highest such node below n, or 0
 unfoldable pub heightBelow : Machine → ℕ → ℕ
-unfolding reach
+unfolding dist isLedTo
 heightBelow m zero = 0
-heightBelow m (suc v) = cond (isReached m v) (suc v) (heightBelow m v)
+heightBelow m (suc v) = cond (isCounted m v) (suc v) (heightBelow m v)
 
 -- how many distances are written
 abbrev pub height : Machine → ℕ
 height m = heightBelow m (length (m .finals))
 
--- one distance per node up to the highest reached; no start gives none
+-- one distance per node up to the highest reached, or led to from a reached one; no start gives none
 unfoldable pub distances : Machine → List Distance
 unfolding dist heightBelow listBelow
 distances m = listBelow (height m) (distance m)

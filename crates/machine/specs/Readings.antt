@@ -5,8 +5,9 @@ use mathlib.Core.Option.{Option, none, some}
 use mathlib.Core.List.{List, [], _∷_, _++_, map}
 use Prim.Native.Nat.{ℕ, zero, suc, _<_}
 use lib.Dec.{eqb}
+use lib.IntN.{ℤ}
 use lib.ListN.{getD, length}
-use Rattle.tropical_weight.specs.Tropical.{Tropical, inf, one, _⊗_}
+use Rattle.tropical_weight.specs.Tropical.{Tropical, fin, inf, one, ltT, _⊗_}
 use Rattle.sheet.specs.Machine.{Link, Machine}
 
 -- what stands where no link has the number
@@ -43,13 +44,24 @@ abbrev pub nodeOr : Option ℕ → ℕ
 nodeOr none = 0
 nodeOr (some s) = s
 
--- A reading leads from the start to a node with mark 1, over any number of links. No start, no reading.
+-- the weight of ending at a node: infinite where its mark is 0
+abbrev pub finalWeight : Option Tropical → Tropical
+finalWeight none = inf
+finalWeight (some w) = w
+
+-- the sum of a reading's weights and the final weight
+abbrev pub readingCost : Machine → Reading → Tropical
+readingCost m x = runCost m (x .run) ⊗ finalWeight (final m (x .end))
+
+-- A reading leads from the start to a node with mark 1, over any number of links, at a finite cost. No start, no reading.
 pub record IsReading (m : Machine) (x : Reading) : Type 0 where
   pub from : ℕ
   pub weight : Tropical
   pub starts : m .start ≡ some from
   pub runs : IsRun m from (x .run) (x .end)
   pub marked : final m (x .end) ≡ some weight
+  pub costs : ℤ
+  pub finite : readingCost m x ≡ fin costs
 
 -- the node that a run from u leads to
 abbrev pub endFrom : Machine → ℕ → List ℕ → ℕ
@@ -59,15 +71,6 @@ endFrom m u (l ∷ r) = endFrom m (link m l .next) r
 -- a run from the start as a reading; where there is no start there is none
 abbrev pub readingOf : Machine → List ℕ → Reading
 readingOf m r = record { run = r; end = endFrom m (nodeOr (m .start)) r }
-
--- the weight of ending at a node: infinite where its mark is 0
-abbrev pub finalWeight : Option Tropical → Tropical
-finalWeight none = inf
-finalWeight (some w) = w
-
--- the sum of a reading's weights and the final weight
-abbrev pub readingCost : Machine → Reading → Tropical
-readingCost m x = runCost m (x .run) ⊗ finalWeight (final m (x .end))
 
 -- those weights in their order, the final weight last
 abbrev pub readingWeights : Machine → Reading → List Tropical
@@ -93,15 +96,21 @@ abbrev pub endsAt : Option Tropical → ℕ → List (List ℕ) → List Reading
 endsAt none v rs = []
 endsAt (some w) v rs = map (λ r. record { run = r; end = v }) rs
 
--- the readings that end below n
+-- those of a list that pass a test
+unfoldable pub keep : {A : Type 0} → (A → Bool) → List A → List A
+keep p [] = []
+keep p (x ∷ l) = cond (p x) (x ∷ keep p l) (keep p l)
+
+-- the runs from the start that end at marked nodes below n, barred ones too
 unfoldable pub readingsBelow : Machine → ℕ → List Reading
 unfolding ways
 readingsBelow m zero = []
 readingsBelow m (suc v) = readingsBelow m v ++ endsAt (final m v) v (waysTo m v)
 
--- all readings of the machine
-abbrev pub readings : Machine → List Reading
-readings m = readingsBelow m (length (m .finals))
+-- all readings of the machine: of these runs, those of finite cost
+unfoldable pub readings : Machine → List Reading
+unfolding keep readingsBelow runCost
+readings m = keep (λ x. ltT (readingCost m x) inf) (readingsBelow m (length (m .finals)))
 
 -- F: the nodes with mark 1, reached or not
 unfoldable pub marked : List (Option Tropical) → ℕ

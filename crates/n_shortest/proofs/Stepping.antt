@@ -12,10 +12,10 @@ use lib.ListN.{length, getD, set, length-append, length-map, length-set}
 use lib.Seq.{getD-set-same, getD-set-other, getD-append-add}
 use borrow.Author.Tests.{eqb-true, eqb-false, leb-true, leb-false, le-leb}
 use Rattle.tropical_weight.specs.Limits.{unit, sumLimit}
-use Rattle.tropical_weight.specs.Tropical.{Tropical, _⊗_, Within}
+use Rattle.tropical_weight.specs.Tropical.{Tropical, fin, inf, _⊗_, Within}
 use Rattle.tropical_weight.specs.Grid.{ofT}
 use Rattle.tropical_weight.specs.Single.{Number}
-use Rattle.tropical_weight.proofs.Exact.{covered, times-ofT, bits-back}
+use Rattle.tropical_weight.proofs.Exact.{covered, times-ofT, lt-ofT, bits-back}
 use Rattle.sheet.specs.Below.{listBelow}
 use Rattle.sheet.proofs.Below.{listBelow-same}
 use Rattle.machine.specs.Demand.{_∈_}
@@ -34,7 +34,7 @@ use Rattle.n_shortest.specs.EntryWords.{entryW}
 use Rattle.n_shortest.specs.SearchWords.{Words, putW, repeated, linkW, linksW, expandW, takenW, without, stepW, Sized, Chain, Expands, Takes, Ready}
 use Rattle.n_shortest.proofs.EntryWords.{entry-finished, entry-half}
 use Rattle.n_shortest.proofs.Linking.{links-end, links-step, expand-end, expand-on}
-use Rattle.n_shortest.proofs.Taking.{sized-without, sized-visited, visited, taken-over, taken-expanded, listing, taken-listed, step-is}
+use Rattle.n_shortest.proofs.Taking.{sized-without, sized-visited, visited, taken-over, taken-expanded, listing, taken-finished, finished-listed, finished-barred, step-is}
 use Rattle.n_shortest.proofs.Putting.{length-put, put-beyond}
 use Rattle.n_shortest.proofs.HeapPlaces.{Ranked, less-precedes, pop-is, pop-length, pop-other, pop-beyond, heap-same, heap-at}
 use Rattle.n_shortest.proofs.Storing.{named, coded, ChainIs, Laid, Fine, Stores, chain-kept, laid-kept, stores-put}
@@ -275,9 +275,11 @@ module _ (p : Places) (size : ℕ) (r : Reversed) where
     taking : (e : S.Entry) → getD (s .entries) (getD (s .heap) 0 0) first .entry ≡ e → length (takenBy r n x h e s .listed) ≤ length (s .entries)
         → ((i : ℕ) → i < length (takenBy r n x h e s .entries) → Fine p size r (getD (takenBy r n x h e s .entries) i first .entry)) → 8 * length (takenBy r n x h e s .entries) ≤ p .nodes
         → Stores p size r (takenBy r n x h e s) (takenW p n most x (coded e) (without w))
-    taking (finished c) q l f b =
-        subst (Stores p size r (takenBy r n x h (finished c) s)) (sym (taken-listed p n most x (without w) refl))
+    taking (finished (fin k)) q l f b =
+        subst (Stores p size r (takenBy r n x h (finished (fin k)) s)) (sym (taken-finished p n most x (without w) refl ∙ finished-listed x (without w) (ofT unit (fin k)) (lt-ofT unit covered (fin k) inf (subst (Fine p size r) q (t .fine (getD (s .heap) 0 0) x-in) .cost) tt)))
         (stores-listing s₁ (without w) t₁ x n most (omega (arith, l, length-append (s .listed) (x ∷ []))))
+    taking (finished inf) q l f b =
+        subst (Stores p size r s₁) (sym (taken-finished p n most x (without w) refl ∙ finished-barred x (without w) (ofT unit inf) (lt-ofT unit covered inf inf tt tt))) t₁
     taking (half v c) q l f b = go (leb (suc (getD (s .visits) v 0)) n) refl f b
       where
         found : Fine p size r (half v c)

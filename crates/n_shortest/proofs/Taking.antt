@@ -4,7 +4,8 @@ use mathlib.Core.Bool.{Bool, true, false, cond, _||_}
 use Prim.Native.Nat.{ℕ, zero, suc, _+_, _-_, _*_, _≤_, _<_}
 use native.Mathlib.Omega.{arith}
 use lib.Dec.{eqb, leb, ltb}
-use lib.Ieee.{Float}
+use lib.Ieee as Ieee
+use lib.Ieee.{Float, lt}
 use lib.ListN.{length, getD, set, length-set}
 use lib.Seq.{getD-set-other}
 use borrow.Author.Tests.{lt-ltb, le-ltb, le-leb, lt-leb, eq-eqb, ne-eqb}
@@ -15,7 +16,7 @@ use Rattle.n_shortest.specs.declared.entry.Entry.{Entry}
 use Rattle.n_shortest.specs.declared.entry.Entry.the-variants.{Half, Finished}
 use Rattle.search_slots.specs.Slots.{heapWord, headWord, visitsWord}
 use Rattle.n_shortest.specs.EntryWords.{entryW}
-use Rattle.n_shortest.specs.SearchWords.{Words, expandW, takenW, without, stepW, stoppedW, afterW, Sized, Chain, Expands, Takes}
+use Rattle.n_shortest.specs.SearchWords.{Words, expandW, listedW, finishedW, takenW, without, stepW, stoppedW, afterW, Sized, Chain, Expands, Takes}
 use Rattle.n_shortest.proofs.HeapPlaces.{pop-length, pop-other, pop-beyond, pop-each}
 use Rattle.n_shortest.proofs.Linking.{chain-same}
 
@@ -50,6 +51,15 @@ module _ (p : Places) (s : Words) (v : ℕ) (z : Sized p s) where
     free = e .free;
   }
 
+-- ---- a finished entry
+pub finished-listed : (x : ℕ) (s : Words) (cost : Float) → lt cost (Ieee.inf false) ≡ true → finishedW x cost s ≡ listedW x s
+unfolding finishedW
+finished-listed x s cost e = ap (λ (b : Bool). cond b (listedW x s) s) e
+
+pub finished-barred : (x : ℕ) (s : Words) (cost : Float) → lt cost (Ieee.inf false) ≡ false → finishedW x cost s ≡ s
+unfolding finishedW
+finished-barred x s cost e = ap (λ (b : Bool). cond b (listedW x s) s) e
+
 -- ---- by cases
 module _ (p : Places) (n most x : ℕ) (s : Words) where
   pub taken-half : {e : Entry} {v : ℕ} {cost : Float} → e ≡ Half v cost → takenW p n most x e s ≡ cond (ltb n (visitsWord (s .part) (p .nodes) v + 1)) (visited p v s) (expandW p most x v cost (visited p v s))
@@ -63,11 +73,11 @@ module _ (p : Places) (n most x : ℕ) (s : Words) where
   taken-expanded {e} {v} {cost} q h = taken-half q ∙ ap (λ (b : Bool). cond b (visited p v s) (expandW p most x v cost (visited p v s))) (le-ltb n (visitsWord (s .part) (p .nodes) v + 1) h)
 
   abbrev pub listing : Words
-  listing = record { part = set (s .part) (8 * s .counts .listed + 6) x; counts = record { entries = s .counts .entries; heap = s .counts .heap; listed = s .counts .listed + 1; taken = s .counts .taken } }
+  listing = listedW x s
 
-  pub taken-listed : {e : Entry} {cost : Float} → e ≡ Finished cost → takenW p n most x e s ≡ listing
+  pub taken-finished : {e : Entry} {cost : Float} → e ≡ Finished cost → takenW p n most x e s ≡ finishedW x cost s
   unfolding takenW
-  taken-listed q = ap (λ y. takenW p n most x y s) q
+  taken-finished q = ap (λ y. takenW p n most x y s) q
 
 -- ---- the heap without its head
 module _ (p : Places) (s : Words) (z : Sized p s) (some-in : 0 < s .counts .heap) where

@@ -4,7 +4,8 @@ use mathlib.Core.Bool.{Bool, false, _||_, cond}
 use mathlib.Core.List.{List}
 use Prim.Native.Nat.{ℕ, zero, suc, _+_, _-_, _*_, _≤_, _<_}
 use lib.Dec.{eqb, leb, ltb}
-use lib.Ieee.{Float, binary32, add, ofBits}
+use lib.Ieee as Ieee
+use lib.Ieee.{Float, binary32, add, lt, ofBits}
 use lib.ListN.{length, set}
 use Rattle.n_shortest.specs.declared.n_best.Counts.{Counts}
 use Rattle.n_shortest.specs.declared.n_best.Places.{Places}
@@ -58,15 +59,23 @@ expandW p most x v cost s =
     cond (eqb v (p .end)) u t
 
 -- ---- one removal
--- the head taken, where the part is without it: a finished one is listed next; a half-built one visits its node, and is expanded unless that has now been taken more than n times
-unfoldable pub takenW : Places → ℕ → ℕ → ℕ → Entry → Words → Words
-unfolding expandW
-takenW p n most x (Finished cost) s =
+-- number x listed next
+abbrev pub listedW : ℕ → Words → Words
+listedW x s =
     let c = s .counts in
     record {
       part = set (s .part) (8 * c .listed + 6) x;
       counts = record { entries = c .entries; heap = c .heap; listed = c .listed + 1; taken = c .taken };
     }
+
+-- a finished entry is listed if its cost is finite
+unfoldable pub finishedW : ℕ → Float → Words → Words
+finishedW x cost s = cond (lt cost (Ieee.inf false)) (listedW x s) s
+
+-- the head taken, where the part is without it: a finished one is listed next if its cost is finite; a half-built one visits its node, and is expanded unless that has now been taken more than n times
+unfoldable pub takenW : Places → ℕ → ℕ → ℕ → Entry → Words → Words
+unfolding expandW finishedW
+takenW p n most x (Finished cost) s = finishedW x cost s
 takenW p n most x (Half v cost) s =
     let visits = visitsWord (s .part) (p .nodes) v + 1 in
     let t : Words = record { part = set (s .part) (p .nodes + 8 * v + 3) visits; counts = s .counts } in
@@ -86,7 +95,7 @@ unfoldable pub stepW : Places → ℕ → ℕ → Words → Words
 unfolding popW takenW entryW
 stepW p n most s = let x = heapWord (s .part) 0 in takenW p n most x (entryW (s .part) x) (without s)
 
--- at the n-th finished entry, or when the heap is empty
+-- at the n-th listed entry, or when the heap is empty
 abbrev pub stoppedW : ℕ → Words → Bool
 stoppedW n s = eqb (s .counts .heap) 0 || leb n (s .counts .listed)
 

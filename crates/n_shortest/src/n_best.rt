@@ -4,7 +4,7 @@ ghost use mathlib.Core.Path.{_≡_};
 ghost use Prim.Native.Nat.{ℕ, _+_, _-_, _*_, _≤_, _<_};
 ghost use lib.ListN.{length};
 ghost use Rattle.n_shortest.specs.EntryWords.{Inside};
-ghost use Rattle.n_shortest.specs.SearchWords.{words, putW, repeated, linksW, expandW, takenW, stepW, afterW, begunW, Sized, Chain, Expands, Takes, Ready, Begins, Runs};
+ghost use Rattle.n_shortest.specs.SearchWords.{words, putW, repeated, linksW, expandW, finishedW, takenW, stepW, afterW, begunW, Sized, Chain, Expands, Takes, Ready, Begins, Runs};
 use crate::entry;
 use crate::entry::Entry;
 use crate::heap;
@@ -115,24 +115,35 @@ fn expand(part: &mut [u32], p: Places, c: Counts, x: u32, v: u32, cost: f32, mos
     counts
 }
 
-// Takes entry x, which the heap has given up: a finished one is listed next; a half-built one
-// visits its node, and is expanded unless that has now been taken more than n times.
+// Lists entry x, which has finished, next where its cost is finite. What is barred is taken alone.
+fn finish(part: &mut [u32], past: Counts, x: u32, cost: f32) -> Counts
+    requires { ⌜ (8 * past .listed + 6 < length (now part)) × (past .listed + 1 < 4294967296) ⌝ }
+    ensures { λ r. ⌜ r ≡ finishedW x cost (words (now (part .entry)) past) .counts ⌝ }
+    ensures { λ r. ⌜ now (part .exit) ≡ finishedW x cost (words (now (part .entry)) past) .part ⌝ }
+{
+    if !tropical_weight::natural_less(cost, tropical_weight::zero()) {
+        return past;
+    }
+    let listed = past.listed;
+    part[SLOT * (listed as usize) + LISTED] = x;
+    Counts {
+        entries: past.entries,
+        heap: past.heap,
+        listed: listed + 1,
+        taken: past.taken,
+    }
+}
+
+// Takes entry x, which the heap has given up: a finished one is listed next where its cost is
+// finite; a half-built one visits its node, and is expanded unless that has now been taken more
+// than n times.
 fn take(part: &mut [u32], p: Places, c: Counts, n: u32, most: u32, x: u32, e: Entry) -> Counts
     requires { ⌜ Sized p (words (now part) c) × Takes p n (words (now part) c) e ⌝ }
     ensures { λ r. ⌜ r ≡ takenW p n most x e (words (now (part .entry)) c) .counts ⌝ }
     ensures { λ r. ⌜ now (part .exit) ≡ takenW p n most x e (words (now (part .entry)) c) .part ⌝ }
 {
     match e {
-        Entry::Finished(_) => {
-            let listed = c.listed;
-            part[SLOT * (listed as usize) + LISTED] = x;
-            Counts {
-                entries: c.entries,
-                heap: c.heap,
-                listed: listed + 1,
-                taken: c.taken,
-            }
-        }
+        Entry::Finished(cost) => finish(part, c, x, cost),
         Entry::Half(v, cost) => {
             let nodes = p.nodes;
             let at = nodes + SLOT * (v as usize) + VISITS;

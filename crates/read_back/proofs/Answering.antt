@@ -11,14 +11,11 @@ use lib.Seq.{sets, length-sets}
 use borrow.Author.Tests.{lt-ltb, le-ltb, le-leb, lt-leb, leb-true, ltb-true, ltb-false, ne-eqb, eqb-true, eqb-false}
 use Rattle.tropical_weight.specs.Limits.{listLimit}
 use Rattle.tropical_weight.specs.Tropical.{Tropical, fin}
-use Rattle.sheet.specs.Sheet.{partsOf}
 use Rattle.sheet.specs.Machine.{Machine, machine}
 use Rattle.sheet.proofs.Apart.{both}
 use Rattle.sheet.proofs.Round.{Below}
 use Rattle.machine.specs.Readings.{IsReading, readingOf, readingCost}
 use Rattle.machine.specs.Input.{inputNumber}
-use Rattle.machine.proofs.Distance.{reading-finite}
-use Rattle.machine.proofs.Accepted.{passes, finite-machine}
 use Rattle.search.specs.ListMachine.{resultFor}
 use Rattle.search.specs.Listed.{listOf}
 use Rattle.search.proofs.Results.{empty-back}
@@ -287,11 +284,10 @@ module _ (sheet : List ℕ) (n : ℕ) (result : List ℕ) (nodes links k : ℕ) 
   is-true e way r h =
       let front = stored-front old way h in
       let is = held-is (wayOf result nodes links n k) way r .reading in
-      let finite = reading-finite sm (finite-machine (partsOf sheet) (passes sheet e)) (readingOf sm way) is in
       record {
         room = omega (arith, length-sets old 0 way, h);
         reading = subst (λ (x : List ℕ). IsReading sm (readingOf sm x)) (sym front) is;
-        costs = ap (λ (c : Tropical). fin (unitsIn c)) (finite .1) ∙ sym (finite .1) ∙ ap (λ (x : List ℕ). readingCost sm (readingOf sm x)) (sym front);
+        costs = ap (λ (c : Tropical). fin (unitsIn c)) (is .finite) ∙ sym (is .finite) ∙ ap (λ (x : List ℕ). readingCost sm (readingOf sm x)) (sym front);
         ends = ap (λ (x : List ℕ). readingOf sm x .end) (sym front);
       }
 

@@ -27,9 +27,8 @@ use Rattle.machine.specs.Input.{inputNumber}
 use Rattle.machine.proofs.Lists.{map-same, getD-mem}
 use Rattle.machine.proofs.Runs.{run-in, times-run}
 use Rattle.machine.proofs.Readings.{final-in}
-use Rattle.machine.proofs.Distance.{reading-finite}
 use Rattle.machine.proofs.Bounds.{reading-limit, reading-exact}
-use Rattle.machine.proofs.Accepted.{passes, input-read, finite-machine}
+use Rattle.machine.proofs.Accepted.{input-read}
 use Rattle.machine.proofs.SheetFields.{SheetFields, sheet-fields, fields-own, final-word}
 use Rattle.read_back.specs.Costs.{weightAt, runSum}
 
@@ -109,8 +108,7 @@ module _ (bytes : List ℕ) (below : Below 256 bytes) (accepted : inputNumber by
   pub cost-answers : (sum weight total : Float) (k : ℤ) → sum ≡ runSum bytes run → weight ≡ ofBits binary32 (word bytes (16 * statedLinks bytes + 12 * readingOf (machineOf (partsOf bytes)) run .end + 8)) → Computes (add binary32) _⊗_ sum weight total → Costs unit total k
       → fin k ≡ readingCost (machineOf (partsOf bytes)) (readingOf (machineOf (partsOf bytes)) run)
   cost-answers sum weight total k s w t c =
-      let x = reading-finite m (finite-machine (partsOf bytes) (passes bytes accepted)) (readingOf m run) reading in
-      let few : Within sumLimit (fin (x .0)) = subst (Within sumLimit) (x .1) (reading-limit m (f .climbs) weightLimit (f .small) nodeLimit limits (f .few-nodes) (readingOf m run) reading) in
+      let few : Within sumLimit (fin (reading .costs)) = subst (Within sumLimit) (reading .finite) (reading-limit m (f .climbs) weightLimit (f .small) nodeLimit limits (f .few-nodes) (readingOf m run) reading) in
       let is : total ≡ ofT unit (readingCost m (readingOf m run)) =
       t .exact unit (omega arith) (runCost m run) (finalWeight (final m end)) (subst (Within sumLimit) cost-is (exact .1)) final-within (s ∙ sum-is) (w ∙ final-is) in
-      ap fin (c .exact (x .0) few (is ∙ ap (ofT unit) (x .1))) ∙ sym (x .1)
+      ap fin (c .exact (reading .costs) few (is ∙ ap (ofT unit) (reading .finite))) ∙ sym (reading .finite)

@@ -32,7 +32,7 @@ abbrev pub countAnswer : List ℕ → ℕ → ℕ → ℕ → Counted
 countAnswer result n nodes links = countBy (eqb (countNumber result n nodes links) 0) (countIn result nodes links n) (countNumber result n nodes links)
 
 -- ---- one of them
--- the units of a cost; no reading's cost is infinite
+-- the units of a cost: a reading's is finite
 abbrev pub unitsIn : Tropical → ℤ
 unitsIn (fin k) = k
 unitsIn inf = pos 0

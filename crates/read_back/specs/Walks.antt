@@ -15,7 +15,7 @@ use Rattle.machine.specs.Input.{inputNumber}
 use Rattle.read_back.specs.declared.walk.Walk.{Walk}
 use Rattle.read_back.specs.declared.way.Shape.{Shape}
 use Rattle.read_back.specs.Way.{lastState, linksBefore, wayFrom}
-use Rattle.read_back.specs.Follows.{leaves, follows, endsAt}
+use Rattle.read_back.specs.Follows.{goesBy, follows, endsAt}
 use Rattle.sheet.specs.Machine.{Machine}
 
 -- a walk that has come to a node of an accepted sheet, over fewer links than there are nodes below it
@@ -35,7 +35,7 @@ onTo sheet w v = record { good = true; at = v; first = firstLink sheet (statedLi
 
 -- a walk and a number that a result tells: where that is none it stays, else it goes on by that link
 abbrev pub wentOn : List ℕ → Walk → ℕ → Walk
-wentOn sheet w l = cond (eqb l noStart) w (cond (leaves (machine sheet) (w .at) l) (onTo sheet w (link (machine sheet) l .next)) (lost w))
+wentOn sheet w l = cond (eqb l noStart) w (cond (goesBy (machine sheet) (w .at) l) (onTo sheet w (link (machine sheet) l .next)) (lost w))
 
 -- the links of a reading from here on, with those before them, and the node where it ends
 abbrev pub endedBy : ℕ → List ℕ → Option ℕ → Option (ℕ × ℕ)

@@ -7,13 +7,14 @@ ghost use Rattle.sheet.specs.Sheet.{statedLinks};
 ghost use Rattle.sheet.specs.Records.{firstLink};
 ghost use Rattle.sheet.specs.Machine.{machine as machineFor};
 ghost use Rattle.machine.specs.Readings.{link, final};
-ghost use Rattle.read_back.specs.Follows.{leaves, isMarked};
+ghost use Rattle.read_back.specs.Follows.{leaves, isEnding};
 ghost use Rattle.read_back.specs.Walks.{Walking, lost as lostBy, onTo, wentOn};
+use sheet::tr::BARRED;
 use sheet::words::word;
 use slots::NOTHING;
 
 // The node that it has come to, the number of that node's first link, and how many links it has taken;
-// not good where one did not leave the node that was reached.
+// not good where one did not leave the node that was reached, or was barred.
 pub struct Walk {
     pub good: bool,
     pub at: u32,
@@ -61,7 +62,8 @@ fn on_by(sheet: &[u8], links: u32, w: Walk, l: u32) -> Walk
     }
 }
 
-// The walk after a number that a result tells: it stays where that is none, and else goes on by the link.
+// The walk after a number that a result tells: it stays where that is none, and else goes on by the link,
+// unless it leaves another node or is barred.
 pub fn goes_on(sheet: &[u8], links: u32, w: Walk, l: u32) -> Walk
     requires { ⌜ Walking (now sheet) w × (links ≡ statedLinks (now sheet)) ⌝ }
     ensures { λ r. ⌜ r ≡ wentOn (now (sheet .entry)) w l ⌝ }
@@ -76,13 +78,20 @@ pub fn goes_on(sheet: &[u8], links: u32, w: Walk, l: u32) -> Walk
     if w.first + count <= l {
         return lost(w);
     }
+    if word(sheet, 16 * (l as usize) + 8) == BARRED {
+        return lost(w);
+    }
     on_by(sheet, links, w, l)
 }
 
-// Whether the node that it has come to has mark 1.
+// Whether a reading may end at the node that it has come to: it has mark 1, and is not barred.
 pub fn at_final(sheet: &[u8], links: u32, w: Walk) -> bool
     requires { ⌜ Walking (now sheet) w × (links ≡ statedLinks (now sheet)) ⌝ }
-    ensures { λ r. ⌜ r ≡ isMarked (final (machineFor (now (sheet .entry))) (w .at)) ⌝ }
+    ensures { λ r. ⌜ r ≡ isEnding (final (machineFor (now (sheet .entry))) (w .at)) ⌝ }
 {
-    word(sheet, 16 * (links as usize) + 12 * (w.at as usize) + 4) != 0
+    let node = 16 * (links as usize) + 12 * (w.at as usize);
+    if word(sheet, node + 4) == 0 {
+        return false;
+    }
+    word(sheet, node + 8) != BARRED
 }

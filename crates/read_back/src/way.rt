@@ -97,7 +97,7 @@ fn number_of(result: &[u8], s: Shape, l: usize) -> u32
     )
 }
 
-// A walk's end at the last state: good where its node has mark 1.
+// A walk's end at the last state: good where a reading may end at its node.
 fn ended(sheet: &[u8], links: u32, w: Walk) -> Walk
     requires { ⌜ Walking (now sheet) w × (links ≡ statedLinks (now sheet)) × (w .good ≡ true) ⌝ }
     ensures { λ r. ⌜ Found (outcome (machineFor (now (sheet .entry))) (w .at) (w .count) (some [])) r ⌝ }

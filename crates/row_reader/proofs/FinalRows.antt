@@ -7,11 +7,10 @@ use mathlib.Core.Logic.{_⊎_, inl, inr}
 use Prim.Native.Nat.{ℕ, suc, _^_, _≤_, _<_}
 use native.Mathlib.Omega.{arith}
 use lib.Dec.{ltb, eqb}
-use lib.IntN.{ℤ}
 use lib.ListN.{length, getD}
 use borrow.Author.Tests.{lt-ltb, le-ltb, ltb-true, ltb-false, eq-eqb, ne-eqb, eqb-true, not-true}
 use Rattle.sheet.proofs.Apart.{both, or-left, or-right}
-use Rattle.text_rows.specs.Fields.{andThen}
+use Rattle.text_rows.specs.Fields.{Weight, andThen}
 use Rattle.text_rows.specs.Rows.{Row, link, final, anyFinal, finalsOnce}
 use Rattle.row_reader.specs.Places.{rowsLeft}
 use Rattle.row_reader.specs.RowReading.{rowAt}
@@ -141,7 +140,7 @@ module _ (first : ℕ) (xs : List ℕ) (limit : ℕ) where
   abbrev Rest : Option (List Row) → Going → Seen
   Rest rest g = goOn g (λ ys l. passFrom first ys l rest)
 
-  pull-link : (s t i o : ℕ) (w : ℤ) (rest : Option (List Row)) → passFrom first xs limit (andThen rest (λ rs. some (link s t i o w ∷ rs))) ≡ passFrom first xs limit rest
+  pull-link : (s t i o : ℕ) (w : Weight) (rest : Option (List Row)) → passFrom first xs limit (andThen rest (λ rs. some (link s t i o w ∷ rs))) ≡ passFrom first xs limit rest
   unfolding passRows
   pull-link s t i o w none = refl
   pull-link s t i o w (some rs) = refl
@@ -150,7 +149,7 @@ module _ (first : ℕ) (xs : List ℕ) (limit : ℕ) where
   pull-none twice = refl
   pull-none (on ys l) = refl
 
-  pull-final : (v : ℕ) (w : ℤ) (rest : Option (List Row)) → passFrom first xs limit (andThen rest (λ rs. some (final v w ∷ rs))) ≡ Rest rest (withFinal first v xs limit)
+  pull-final : (v : ℕ) (w : Weight) (rest : Option (List Row)) → passFrom first xs limit (andThen rest (λ rs. some (final v w ∷ rs))) ≡ Rest rest (withFinal first v xs limit)
   unfolding passRows
   pull-final v w none = pull-none (withFinal first v xs limit)
   pull-final v w (some rs) = refl
@@ -164,14 +163,14 @@ module _ (first : ℕ) (xs : List ℕ) (limit : ℕ) where
     pass-step (Read.Link s t i o w end) e ys l q =
         let st = step-link text at inside s t i o w end (sym e) in
         record {
-          same = ap (passFrom first xs limit) (st .rows) ∙ pull-link s t i o (st .millionths) (rowsLeft text end) ∙ sym (ap (Rest (rowsLeft text end)) q);
+          same = ap (passFrom first xs limit) (st .rows) ∙ pull-link s t i o (st .weight) (rowsLeft text end) ∙ sym (ap (Rest (rowsLeft text end)) q);
           later = st .later;
           inside = st .within;
         }
     pass-step (Read.Final v w end) e ys l q =
         let st = step-final text at inside v w end (sym e) in
         record {
-          same = ap (passFrom first xs limit) (st .rows) ∙ pull-final v (st .millionths) (rowsLeft text end) ∙ sym (ap (Rest (rowsLeft text end)) q);
+          same = ap (passFrom first xs limit) (st .rows) ∙ pull-final v (st .weight) (rowsLeft text end) ∙ sym (ap (Rest (rowsLeft text end)) q);
           later = st .later;
           inside = st .within;
         }
@@ -181,7 +180,7 @@ module _ (first : ℕ) (xs : List ℕ) (limit : ℕ) where
     pass-twice (Read.Link s t i o w end) e q = let z : _≡_ {A = ℕ} 0 1 = cc in absurd (omega arith)
     pass-twice (Read.Final v w end) e q =
         let st = step-final text at inside v w end (sym e) in
-        ap (passFrom first xs limit) (st .rows) ∙ pull-final v (st .millionths) (rowsLeft text end) ∙ sym (ap (Rest (rowsLeft text end)) q)
+        ap (passFrom first xs limit) (st .rows) ∙ pull-final v (st .weight) (rowsLeft text end) ∙ sym (ap (Rest (rowsLeft text end)) q)
     pass-twice Read.Unreadable e q = ap (passFrom first xs limit) (step-none text at inside (sym e))
 
 -- ---- what a final row does to the kept nodes
@@ -302,7 +301,7 @@ abbrev Unseen : List ℕ → List Row → Type 0
 Unseen xs rs = (u : ℕ) → among u xs ≡ true → anyFinal u rs ≡ false
 
 -- a final row before others
-module _ (first v : ℕ) (w : ℤ) (xs : List ℕ) (limit : ℕ) (rs : List Row) where
+module _ (first v : ℕ) (w : Weight) (xs : List ℕ) (limit : ℕ) (rs : List Row) where
   unseen-other : (u : ℕ) → (v ≡ u → ⊥) → anyFinal u rs ≡ false → anyFinal u (final v w ∷ rs) ≡ false
   unfolding anyFinal
   unseen-other u z e = both-false (eqb v u) (anyFinal u rs) (ne-eqb v u z) e

@@ -11,7 +11,7 @@ use Rattle.tropical_weight.specs.Limits.{weightLimit}
 use Rattle.text_rows.specs.Fields.{andThen}
 use Rattle.text_rows.specs.Rows.{onGrid, unitsOf}
 use Rattle.decimals.specs.Held.{held}
-use Rattle.row_reader.specs.Reading.{magnitudeRead, weightRead, unitsIn, signedRead}
+use Rattle.row_reader.specs.Reading.{magnitudeRead, decimalRead, unitsIn, signedRead}
 use Rattle.row_reader.specs.declared.values.Magnitude.{Magnitude}
 use Rattle.row_reader.specs.declared.values.Magnitude.the-variants as Magnitude
 use Rattle.row_reader.specs.declared.values.Weight.{Weight}
@@ -69,7 +69,7 @@ units-most (some n) = go (eqb (n * 64 % 1000000) 0) (leb (n * 64 / 1000000) weig
     go false b e = omega arith
 
 -- ---- the sign
-pub plus-read : (o : Option ℕ) → signedRead false (magnitudeRead o) ≡ weightRead (andThen o (λ n. some (pos n)))
+pub plus-read : (o : Option ℕ) → signedRead false (magnitudeRead o) ≡ decimalRead (andThen o (λ n. some (pos n)))
 plus-read none = refl
 plus-read (some n) = go (onGrid (pos n))
   where
@@ -77,7 +77,7 @@ plus-read (some n) = go (onGrid (pos n))
     go true = refl
     go false = refl
 
-pub minus-read : (o : Option ℕ) → signedRead true (magnitudeRead o) ≡ weightRead (andThen o (λ n. some (negℤ (pos n))))
+pub minus-read : (o : Option ℕ) → signedRead true (magnitudeRead o) ≡ decimalRead (andThen o (λ n. some (negℤ (pos n))))
 minus-read none = refl
 minus-read (some zero) = refl
 minus-read (some (suc n)) = go (onGrid (negsuc n))

@@ -1,6 +1,7 @@
 pub mod Runs
 pub mod Lexing
 pub mod Grids
+pub mod Same
 pub mod Weighing
 pub mod Signs
 pub mod Places

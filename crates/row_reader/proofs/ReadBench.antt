@@ -1,8 +1,9 @@
 -- Weights and rows read, by computation. Assumes nothing.
 use mathlib.Core.Path.{_≡_, refl}
-use mathlib.Core.List.{List, [], _∷_}
+use mathlib.Core.List.{List, [], _∷_, map}
 use Prim.Native.Nat.{ℕ, _-_}
 use lib.IntN.{pos, negℤ}
+use lib.ListN.{replicate}
 use Rattle.tropical_weight.specs.Limits.{weightLimit}
 use Rattle.text_rows.specs.Fields.{weightOf}
 use Rattle.row_reader.specs.Reading.{weightRead}
@@ -41,3 +42,23 @@ no-decimals = refl
 seven-decimals : weightRead (weightOf (49 ∷ 46 ∷ 48 ∷ 48 ∷ 48 ∷ 48 ∷ 48 ∷ 48 ∷ 48 ∷ [])) ≡ Weight.Unreadable
 unfolding weightOf
 seven-decimals = refl
+
+-- Infinity is infinity; infinity, INFINITY, inf, Infinit, Infinity1, -Infinity and +Infinity are not read
+spelled : weightRead (weightOf (73 ∷ 110 ∷ 102 ∷ 105 ∷ 110 ∷ 105 ∷ 116 ∷ 121 ∷ [])) ≡ Weight.Barred
+unfolding weightOf
+spelled = refl
+
+abbrev misspelled : List (List ℕ)
+misspelled =
+    (105 ∷ 110 ∷ 102 ∷ 105 ∷ 110 ∷ 105 ∷ 116 ∷ 121 ∷ [])
+    ∷ (73 ∷ 78 ∷ 70 ∷ 73 ∷ 78 ∷ 73 ∷ 84 ∷ 89 ∷ [])
+    ∷ (105 ∷ 110 ∷ 102 ∷ [])
+    ∷ (73 ∷ 110 ∷ 102 ∷ 105 ∷ 110 ∷ 105 ∷ 116 ∷ [])
+    ∷ (73 ∷ 110 ∷ 102 ∷ 105 ∷ 110 ∷ 105 ∷ 116 ∷ 121 ∷ 49 ∷ [])
+    ∷ (45 ∷ 73 ∷ 110 ∷ 102 ∷ 105 ∷ 110 ∷ 105 ∷ 116 ∷ 121 ∷ [])
+    ∷ (43 ∷ 73 ∷ 110 ∷ 102 ∷ 105 ∷ 110 ∷ 105 ∷ 116 ∷ 121 ∷ [])
+    ∷ []
+
+near-misses : map (λ (f : List ℕ). weightRead (weightOf f)) misspelled ≡ replicate 7 Weight.Unreadable
+unfolding weightOf
+near-misses = refl

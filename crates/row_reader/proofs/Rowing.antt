@@ -5,10 +5,11 @@ use mathlib.Core.Option.{Option, none, some}
 use mathlib.Core.List.{List, [], _∷_}
 use Prim.Native.Nat.{ℕ, _+_, _-_, _≤_, _<_}
 use lib.Dec.{ltb}
-use lib.IntN.{ℤ, pos}
+use lib.IntN.{pos}
 use lib.ListN.{length, take, drop}
 use borrow.Author.Tests.{lt-ltb, le-ltb}
-use Rattle.text_rows.specs.Fields.{numberOf, weightOf}
+use Rattle.text_rows.specs.Fields as Fields
+use Rattle.text_rows.specs.Fields.{finite, barred, numberOf, weightOf}
 use Rattle.text_rows.specs.Rows.{linkBy, finalBy, rowBy, onGrid, unitsOf}
 use Rattle.row_reader.specs.Places.{lineEnd, rowFields, Spans}
 use Rattle.row_reader.specs.Reading.{numberRead, weightRead, isReadable}
@@ -79,19 +80,20 @@ pub by-two : {A : Type 0} {x y z w : A} {r : Read} (answer : A → A → Read) �
 by-two answer e d h = h ∙ (λ i. answer (e i) (d i))
 
 -- ---- and by the definitions
-readable-some : (w : ℤ) → isReadable (weightRead (some w)) ≡ true
-readable-some w = go (onGrid w)
+readable-some : (w : Fields.Weight) → isReadable (weightRead (some w)) ≡ true
+readable-some barred = refl
+readable-some (finite w) = go (onGrid w)
   where
     go : (b : Bool) → isReadable (cond b (Weight.Units (unitsOf w)) Weight.Off) ≡ true
     go true = refl
     go false = refl
 
-final-by : (v : Option ℕ) (w : Option ℤ) (next : ℕ) → finalRead (numberRead v) (weightRead w) next ≡ rowRead (finalBy v w) next
+final-by : (v : Option ℕ) (w : Option Fields.Weight) (next : ℕ) → finalRead (numberRead v) (weightRead w) next ≡ rowRead (finalBy v w) next
 final-by none w next = refl
 final-by (some v) none next = refl
 final-by (some v) (some w) next = ap (λ (b : Bool). cond b (Read.Final v (weightRead (some w)) next) Read.Unreadable) (readable-some w)
 
-link-by : (s t i o : Option ℕ) (w : Option ℤ) (next : ℕ)
+link-by : (s t i o : Option ℕ) (w : Option Fields.Weight) (next : ℕ)
     → linkRead (numberRead s) (numberRead t) (numberRead i) (numberRead o) (weightRead w) next ≡ rowRead (linkBy s t i o w) next
 link-by none t i o w next = refl
 link-by (some s) none i o w next = refl
@@ -104,10 +106,10 @@ link-by (some s) (some t) (some i) (some o) (some w) next = ap (λ (b : Bool). c
 pub row-tail : (x : List ℕ) (xs : List (List ℕ)) (bytes end : ℕ)
     → firstTail (numberRead (numberOf x)) xs bytes end ≡ cond (ltb end bytes) (rowRead (rowBy (x ∷ xs)) (end + 1)) Read.Unreadable
 unfolding rowBy
-row-tail x [] bytes end = ap (λ (r : Read). cond (ltb end bytes) r Read.Unreadable) (final-by (numberOf x) (some (pos 0)) (end + 1))
+row-tail x [] bytes end = ap (λ (r : Read). cond (ltb end bytes) r Read.Unreadable) (final-by (numberOf x) (some (finite (pos 0))) (end + 1))
 row-tail x (w ∷ []) bytes end = ap (λ (r : Read). cond (ltb end bytes) r Read.Unreadable) (final-by (numberOf x) (weightOf w) (end + 1))
 row-tail x (t ∷ i ∷ []) bytes end = sym (either (ltb end bytes) Read.Unreadable refl)
-row-tail x (t ∷ i ∷ o ∷ []) bytes end = ap (λ (r : Read). cond (ltb end bytes) r Read.Unreadable) (link-by (numberOf x) (numberOf t) (numberOf i) (numberOf o) (some (pos 0)) (end + 1))
+row-tail x (t ∷ i ∷ o ∷ []) bytes end = ap (λ (r : Read). cond (ltb end bytes) r Read.Unreadable) (link-by (numberOf x) (numberOf t) (numberOf i) (numberOf o) (some (finite (pos 0))) (end + 1))
 row-tail x (t ∷ i ∷ o ∷ w ∷ []) bytes end = ap (λ (r : Read). cond (ltb end bytes) r Read.Unreadable) (link-by (numberOf x) (numberOf t) (numberOf i) (numberOf o) (weightOf w) (end + 1))
 row-tail x (t ∷ i ∷ o ∷ w ∷ y ∷ ys) bytes end = sym (either (ltb end bytes) Read.Unreadable refl)
 

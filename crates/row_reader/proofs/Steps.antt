@@ -6,9 +6,9 @@ use mathlib.Core.List.{List, _∷_}
 use Prim.Native.Nat.{ℕ, _+_, _≤_, _<_}
 use native.Mathlib.Omega.{arith}
 use lib.Dec.{ltb}
-use lib.IntN.{ℤ}
 use lib.ListN.{length}
 use borrow.Author.Tests.{ltb-true}
+use Rattle.text_rows.specs.Fields as Fields
 use Rattle.text_rows.specs.Fields.{andThen}
 use Rattle.text_rows.specs.Rows.{Row, link, final, rowBy}
 use Rattle.row_reader.specs.Places.{lineEnd, rowFields, rowsLeft}
@@ -33,10 +33,10 @@ none-by true (some (link s t i o w)) rest n e = let z : _≡_ {A = ℕ} 0 1 = cc
 none-by true (some (final v w)) rest n e = let z : _≡_ {A = ℕ} 0 1 = cc in absurd (omega arith)
 
 -- the weight that a row has, and the rows with it before those that are left at the place where the row ends
-pub record Begins (make : ℤ → Row) (weight : Weight) (end : ℕ) (left : ℕ → Option (List Row)) (b : Bool) (n : ℕ) (rows : Option (List Row)) : Type 0 where
-  pub millionths : ℤ
-  pub weighs : weight ≡ weightRead (some millionths)
-  pub is : rows ≡ andThen (left end) (λ rs. some (make millionths ∷ rs))
+pub record Begins (make : Fields.Weight → Row) (read : Weight) (end : ℕ) (left : ℕ → Option (List Row)) (b : Bool) (n : ℕ) (rows : Option (List Row)) : Type 0 where
+  pub weight : Fields.Weight
+  pub weighs : read ≡ weightRead (some weight)
+  pub is : rows ≡ andThen (left end) (λ rs. some (make weight ∷ rs))
   pub ended : b ≡ true
   pub next : end ≡ n
 
@@ -53,7 +53,7 @@ module _ (left : ℕ → Option (List Row)) (n : ℕ) where
       let eo : o′ ≡ o = cc in
       let ew : weightRead (some x) ≡ w = cc in
       let ee : n ≡ end = cc in
-      record { millionths = x; weighs = sym ew; is = λ j. andThen (left (ee j)) (λ rs. some (link (es j) (et j) (ei j) (eo j) x ∷ rs)); ended = refl; next = sym ee }
+      record { weight = x; weighs = sym ew; is = λ j. andThen (left (ee j)) (λ rs. some (link (es j) (et j) (ei j) (eo j) x ∷ rs)); ended = refl; next = sym ee }
 
   final-by : (b : Bool) (row : Option Row) (v : ℕ) (w : Weight) (end : ℕ) → cond b (rowRead row n) Read.Unreadable ≡ Read.Final v w end
       → Begins (final v) w end left b n (stepOf b row (left n))
@@ -64,13 +64,13 @@ module _ (left : ℕ → Option (List Row)) (n : ℕ) where
       let ev : v′ ≡ v = cc in
       let ew : weightRead (some x) ≡ w = cc in
       let ee : n ≡ end = cc in
-      record { millionths = x; weighs = sym ew; is = λ j. andThen (left (ee j)) (λ rs. some (final (ev j) x ∷ rs)); ended = refl; next = sym ee }
+      record { weight = x; weighs = sym ew; is = λ j. andThen (left (ee j)) (λ rs. some (final (ev j) x ∷ rs)); ended = refl; next = sym ee }
 
 -- ---- at a place of a text where a row begins
-pub record Stepped (text : List ℕ) (at : ℕ) (make : ℤ → Row) (weight : Weight) (end : ℕ) : Type 0 where
-  pub millionths : ℤ
-  pub weighs : weight ≡ weightRead (some millionths)
-  pub rows : rowsLeft text at ≡ andThen (rowsLeft text end) (λ rs. some (make millionths ∷ rs))
+pub record Stepped (text : List ℕ) (at : ℕ) (make : Fields.Weight → Row) (read : Weight) (end : ℕ) : Type 0 where
+  pub weight : Fields.Weight
+  pub weighs : read ≡ weightRead (some weight)
+  pub rows : rowsLeft text at ≡ andThen (rowsLeft text end) (λ rs. some (make weight ∷ rs))
   pub later : at < end
   pub within : end ≤ length text
 
@@ -79,11 +79,11 @@ module _ (text : List ℕ) (at : ℕ) (inside : at < length text) where
   pub step-none : rowAt text at ≡ Read.Unreadable → rowsLeft text at ≡ none
   step-none e = rows-step text at inside ∙ none-by (ltb (lineEnd text at) (length text)) (rowBy (rowFields text at)) (rowsLeft text (lineEnd text at + 1)) (lineEnd text at + 1) e
 
-  by : (make : ℤ → Row) (w : Weight) (end : ℕ)
+  by : (make : Fields.Weight → Row) (w : Weight) (end : ℕ)
       → Begins make w end (rowsLeft text) (ltb (lineEnd text at) (length text)) (lineEnd text at + 1) (stepOf (ltb (lineEnd text at) (length text)) (rowBy (rowFields text at)) (rowsLeft text (lineEnd text at + 1)))
       → Stepped text at make w end
   by make w end b = record {
-    millionths = b .millionths;
+    weight = b .weight;
     weighs = b .weighs;
     rows = rows-step text at inside ∙ b .is;
     later = omega (arith, b .next);

@@ -5,16 +5,16 @@ use mathlib.Core.Option.{Option, none, some}
 use mathlib.Core.List.{List, [], _∷_}
 use Prim.Native.Nat.{ℕ, _+_, _≤_, _<_, max}
 use native.Mathlib.Omega.{arith}
-use lib.IntN.{ℤ}
 use lib.ListN.{length}
 use borrow.Author.Tests.{lt-ltb, le-ltb}
-use Rattle.text_rows.specs.Fields.{andThen}
-use Rattle.text_rows.specs.Rows.{Row, link, final, firstNode, highest, highestIn, weightsOnGrid, weightIn, onGrid, unitsOf}
+use Rattle.text_rows.specs.Fields as Fields
+use Rattle.text_rows.specs.Fields.{finite, barred, andThen}
+use Rattle.text_rows.specs.Rows.{Row, link, final, firstNode, highest, highestIn, weightsPass, weightIn, weightPasses, onGrid, unitsOf}
 use Rattle.text_rows.specs.Convert.{linksIn, isLink}
 use Rattle.row_reader.specs.Places.{rowsLeft}
 use Rattle.row_reader.specs.Reading.{weightRead}
 use Rattle.row_reader.specs.RowReading.{rowAt}
-use Rattle.row_reader.specs.Surveying.{isUnits, isRead, endOf, surveyRead, surveyRow, surveyOnto, surveyFrom, surveyRows, surveyed, nodeOf}
+use Rattle.row_reader.specs.Surveying.{passes, isRead, endOf, surveyRead, surveyRow, surveyOnto, surveyFrom, surveyRows, surveyed, nodeOf}
 use Rattle.row_reader.specs.declared.values.Weight.{Weight}
 use Rattle.row_reader.specs.declared.values.Weight.the-variants as Weight
 use Rattle.row_reader.specs.declared.row.Read.{Read}
@@ -33,16 +33,16 @@ and-assoc : (a b c : Bool) → ((a && b) && c) ≡ (a && (b && c))
 and-assoc true b c = refl
 and-assoc false b c = refl
 
-onto-is : (x : Survey) (rs : List Row) → surveyOnto x rs ≡ record { gridded = x .gridded && weightsOnGrid rs; highest = max (x .highest) (highest rs); links = x .links + linksIn rs }
-unfolding surveyOnto weightsOnGrid highest linksIn
-onto-is x [] = λ j. record { gridded = and-true (x .gridded) j; highest = high j; links = more j }
+onto-is : (x : Survey) (rs : List Row) → surveyOnto x rs ≡ record { passing = x .passing && weightsPass rs; highest = max (x .highest) (highest rs); links = x .links + linksIn rs }
+unfolding surveyOnto weightsPass highest linksIn
+onto-is x [] = λ j. record { passing = and-true (x .passing) j; highest = high j; links = more j }
   where
     high : x .highest ≡ max (x .highest) 0
     high = omega arith
 
     more : x .links ≡ x .links + 0
     more = omega arith
-onto-is x (r ∷ rs) = onto-is (surveyRow x r) rs ∙ (λ j. record { gridded = and-assoc (x .gridded) (onGrid (weightIn r)) (weightsOnGrid rs) j; highest = high j; links = more j })
+onto-is x (r ∷ rs) = onto-is (surveyRow x r) rs ∙ (λ j. record { passing = and-assoc (x .passing) (weightPasses (weightIn r)) (weightsPass rs) j; highest = high j; links = more j })
   where
     high : max (max (x .highest) (highestIn r)) (highest rs) ≡ max (x .highest) (max (highestIn r) (highest rs))
     high = omega arith
@@ -51,11 +51,11 @@ onto-is x (r ∷ rs) = onto-is (surveyRow x r) rs ∙ (λ j. record { gridded = 
     more = omega arith
 
 abbrev pub nothing : Survey
-nothing = record { gridded = true; highest = 0; links = 0 }
+nothing = record { passing = true; highest = 0; links = 0 }
 
 pub from-is : (o : Option (List Row)) → surveyFrom nothing o ≡ surveyRows o
 from-is none = refl
-from-is (some rs) = ap Surveyed.Rows (onto-is nothing rs ∙ (λ j. record { gridded = weightsOnGrid rs; highest = high j; links = more j }))
+from-is (some rs) = ap Surveyed.Rows (onto-is nothing rs ∙ (λ j. record { passing = weightsPass rs; highest = high j; links = more j }))
   where
     high : max 0 (highest rs) ≡ highest rs
     high = omega arith
@@ -69,12 +69,16 @@ unfolding surveyOnto
 pull x r none = refl
 pull x r (some rs) = refl
 
-units-grid : (w : Weight) (z : ℤ) → w ≡ weightRead (some z) → onGrid z ≡ isUnits w
-units-grid w z e = go (onGrid z) ∙ sym (ap isUnits e)
+weight-passes : (w : Weight) (x : Fields.Weight) → w ≡ weightRead (some x) → weightPasses x ≡ passes w
+weight-passes w x e = by x ∙ sym (ap passes e)
   where
-    go : (b : Bool) → b ≡ isUnits (cond b (Weight.Units (unitsOf z)) Weight.Off)
-    go true = refl
-    go false = refl
+    by : (x : Fields.Weight) → weightPasses x ≡ passes (weightRead (some x))
+    by (finite z) = go (onGrid z)
+      where
+        go : (b : Bool) → b ≡ passes (cond b (Weight.Units (unitsOf z)) Weight.Off)
+        go true = refl
+        go false = refl
+    by barred = refl
 
 pub links-most : (x : Survey) (r : Read) → surveyRead x r .links ≤ x .links + 1
 links-most x (Read.Link s t i o w end) = omega arith
@@ -95,22 +99,22 @@ module _ (text : List ℕ) (at : ℕ) (inside : at < length text) (x : Survey) w
   pub survey-step : (r : Read) → r ≡ rowAt text at → isRead r ≡ true → Goes text at x r
   survey-step (Read.Link s t i o w end) e b =
       let st = step-link text at inside s t i o w end (sym e) in
-      let z = st .millionths in
+      let z = st .weight in
       record {
         same =
             ap (surveyFrom x) (st .rows) ∙ pull x (link s t i o z) (rowsLeft text end)
-            ∙ ap (λ (g : Bool). surveyFrom (record { gridded = x .gridded && g; highest = max (x .highest) (max s t); links = x .links + 1 }) (rowsLeft text end)) (units-grid w z (st .weighs));
+            ∙ ap (λ (g : Bool). surveyFrom (record { passing = x .passing && g; highest = max (x .highest) (max s t); links = x .links + 1 }) (rowsLeft text end)) (weight-passes w z (st .weighs));
         later = st .later;
         within = st .within;
       }
   survey-step (Read.Final v w end) e b =
       let st = step-final text at inside v w end (sym e) in
-      let z = st .millionths in
+      let z = st .weight in
       let more : x .links + 0 ≡ x .links = omega arith in
       record {
         same =
             ap (surveyFrom x) (st .rows) ∙ pull x (final v z) (rowsLeft text end)
-            ∙ (λ j. surveyFrom (record { gridded = x .gridded && units-grid w z (st .weighs) j; highest = max (x .highest) v; links = more j }) (rowsLeft text end));
+            ∙ (λ j. surveyFrom (record { passing = x .passing && weight-passes w z (st .weighs) j; highest = max (x .highest) v; links = more j }) (rowsLeft text end));
         later = st .later;
         within = st .within;
       }
@@ -120,8 +124,8 @@ pub survey-end : (text : List ℕ) (x : Survey) (o : Option (List Row)) → o �
 unfolding surveyOnto
 survey-end text x o e = ap (surveyFrom x) e
 
-pub survey-eq : {g g′ : Bool} {h h′ : ℕ} (l : ℕ) → g ≡ g′ → h ≡ h′ → _≡_ {A = Survey} (record { gridded = g; highest = h; links = l }) (record { gridded = g′; highest = h′; links = l })
-survey-eq l p q = λ j. record { gridded = p j; highest = q j; links = l }
+pub survey-eq : {g g′ : Bool} {h h′ : ℕ} (l : ℕ) → g ≡ g′ → h ≡ h′ → _≡_ {A = Survey} (record { passing = g; highest = h; links = l }) (record { passing = g′; highest = h′; links = l })
+survey-eq l p q = λ j. record { passing = p j; highest = q j; links = l }
 
 pub surveyed-none : (text : List ℕ) → length text ≡ 0 → surveyed text ≡ Surveyed.Unreadable
 surveyed-none text e = ap (λ (b : Bool). cond b (surveyRows (rowsLeft text 0)) Surveyed.Unreadable) (le-ltb 0 (length text) (omega arith))
@@ -141,6 +145,6 @@ start-first text inside rs e = go (rowAt text 0) refl
     head (final v w) (some xs) q = let z : final v w ∷ xs ≡ rs = cc in ap firstNode z
 
     go : (r : Read) → rowAt text 0 ≡ r → nodeOf r ≡ firstNode rs
-    go (Read.Link s t i o w end) q = let st = step-link text 0 inside s t i o w end q in head (link s t i o (st .millionths)) (rowsLeft text end) (sym (st .rows) ∙ e)
-    go (Read.Final v w end) q = let st = step-final text 0 inside v w end q in head (final v (st .millionths)) (rowsLeft text end) (sym (st .rows) ∙ e)
+    go (Read.Link s t i o w end) q = let st = step-link text 0 inside s t i o w end q in head (link s t i o (st .weight)) (rowsLeft text end) (sym (st .rows) ∙ e)
+    go (Read.Final v w end) q = let st = step-final text 0 inside v w end q in head (final v (st .weight)) (rowsLeft text end) (sym (st .rows) ∙ e)
     go Read.Unreadable q = let none-left = step-none text 0 inside q in let z : _≡_ {A = ℕ} 0 1 = cc in absurd (omega arith)

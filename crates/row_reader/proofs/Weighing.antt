@@ -12,10 +12,10 @@ use lib.ListN.{length, getD, take, drop, length-drop}
 use lib.Seq.{drop-cons, drop-length, take-all}
 use borrow.Author.Tests.{lt-ltb, le-ltb, le-leb, lt-leb, leb-true, ltb-true, eq-eqb, ne-eqb}
 use Rattle.decimals.specs.Decimal.{isDigit, withDigit, digitsOnto, digitsOf}
-use Rattle.text_rows.specs.Fields.{andThen, numberOf, beforePoint, fromPoint, partOf, bothParts, magnitudeOf, weightOf}
+use Rattle.text_rows.specs.Fields.{finite, barred, andThen, numberOf, beforePoint, fromPoint, partOf, infinityText, sameText, bothParts, magnitudeOf, decimalOf, weightOf}
 use Rattle.row_reader.specs.Runs.{runOf, notPoint}
 use Rattle.decimals.specs.Held.{held, digitsHeld}
-use Rattle.row_reader.specs.Reading.{digitsRead, numberRead, magnitudeRead, weightRead, signedRead}
+use Rattle.row_reader.specs.Reading.{digitsRead, numberRead, magnitudeRead, weightRead, decimalRead, signedRead}
 use Rattle.decimals.specs.declared.read.Digits.{Digits}
 use Rattle.decimals.specs.declared.read.Digits.the-variants as Digits
 use Rattle.row_reader.specs.declared.values.Number.{Number}
@@ -234,22 +234,31 @@ module _ (f : List ℕ) (p : ℕ) (run : p ≡ runOf notPoint f) where
   both-parts w m h e d = ap magnitudeRead two ∙ both-is (digitsOf (take p f)) (partOf (drop p f)) w m e (ap digitsRead (more h) ∙ d)
 
 -- ---- the sign
-pub weight-none : (f : List ℕ) → length f ≡ 0 → weightRead (weightOf f) ≡ Weight.Unreadable
-unfolding weightOf
-weight-none [] h = refl
-weight-none (c ∷ cs) h = absurd (omega arith)
+pub decimal-none : (f : List ℕ) → length f ≡ 0 → decimalRead (decimalOf f) ≡ Weight.Unreadable
+unfolding decimalOf
+decimal-none [] h = refl
+decimal-none (c ∷ cs) h = absurd (omega arith)
 
-pub weight-minus : (f : List ℕ) → 0 < length f → getD f 0 0 ≡ 45 → weightRead (weightOf f) ≡ signedRead true (magnitudeRead (magnitudeOf (restOf 1 f)))
-unfolding weightOf
-weight-minus [] h e = absurd (omega arith)
-weight-minus (c ∷ cs) h e =
-    ap (λ (b : Bool). weightRead (cond b (andThen (magnitudeOf cs) (λ n. some (negℤ (pos n)))) (andThen (magnitudeOf (c ∷ cs)) (λ n. some (pos n))))) (eq-eqb c 45 e)
+pub decimal-minus : (f : List ℕ) → 0 < length f → getD f 0 0 ≡ 45 → decimalRead (decimalOf f) ≡ signedRead true (magnitudeRead (magnitudeOf (restOf 1 f)))
+unfolding decimalOf
+decimal-minus [] h e = absurd (omega arith)
+decimal-minus (c ∷ cs) h e =
+    ap (λ (b : Bool). decimalRead (cond b (andThen (magnitudeOf cs) (λ n. some (negℤ (pos n)))) (andThen (magnitudeOf (c ∷ cs)) (λ n. some (pos n))))) (eq-eqb c 45 e)
     ∙ sym (minus-read (magnitudeOf cs))
     ∙ ap (λ (l : List ℕ). signedRead true (magnitudeRead (magnitudeOf l))) (sym (rest-is 1 (c ∷ cs)))
 
-pub weight-plus : (f : List ℕ) → 0 < length f → (getD f 0 0 ≡ 45 → ⊥) → weightRead (weightOf f) ≡ signedRead false (magnitudeRead (magnitudeOf f))
-unfolding weightOf
-weight-plus [] h e = absurd (omega arith)
-weight-plus (c ∷ cs) h e =
-    ap (λ (b : Bool). weightRead (cond b (andThen (magnitudeOf cs) (λ n. some (negℤ (pos n)))) (andThen (magnitudeOf (c ∷ cs)) (λ n. some (pos n))))) (ne-eqb c 45 e)
+pub decimal-plus : (f : List ℕ) → 0 < length f → (getD f 0 0 ≡ 45 → ⊥) → decimalRead (decimalOf f) ≡ signedRead false (magnitudeRead (magnitudeOf f))
+unfolding decimalOf
+decimal-plus [] h e = absurd (omega arith)
+decimal-plus (c ∷ cs) h e =
+    ap (λ (b : Bool). decimalRead (cond b (andThen (magnitudeOf cs) (λ n. some (negℤ (pos n)))) (andThen (magnitudeOf (c ∷ cs)) (λ n. some (pos n))))) (ne-eqb c 45 e)
     ∙ sym (plus-read (magnitudeOf (c ∷ cs)))
+
+-- ---- infinity
+pub weight-barred : (f : List ℕ) → sameText f infinityText ≡ true → weightRead (weightOf f) ≡ Weight.Barred
+unfolding weightOf
+weight-barred f e = ap (λ (b : Bool). weightRead (cond b (some barred) (andThen (decimalOf f) (λ w. some (finite w))))) e
+
+pub weight-decimal : (f : List ℕ) → sameText f infinityText ≡ false → weightRead (weightOf f) ≡ decimalRead (decimalOf f)
+unfolding weightOf
+weight-decimal f e = ap (λ (b : Bool). weightRead (cond b (some barred) (andThen (decimalOf f) (λ w. some (finite w))))) e

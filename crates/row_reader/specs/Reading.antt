@@ -3,7 +3,8 @@ use Prim.Native.Nat.{ℕ, _*_, _/_}
 use mathlib.Core.Bool.{Bool, true, false, cond}
 use mathlib.Core.Option.{Option, none, some}
 use lib.IntN.{ℤ, pos, negℤ}
-use Rattle.text_rows.specs.Fields.{million}
+use Rattle.text_rows.specs.Fields as Fields
+use Rattle.text_rows.specs.Fields.{million, andThen, finite, barred}
 use Rattle.text_rows.specs.Rows.{unitsInOne, onGrid, unitsOf}
 use Rattle.decimals.specs.declared.read.Digits.{Digits}
 use Rattle.decimals.specs.declared.read.Digits.the-variants as Digits
@@ -27,9 +28,13 @@ abbrev pub magnitudeRead : Option ℕ → Magnitude
 magnitudeRead none = Magnitude.Unreadable
 magnitudeRead (some n) = cond (onGrid (pos n)) (Magnitude.Units (n * unitsInOne / million)) Magnitude.Off
 
-abbrev pub weightRead : Option ℤ → Weight
+abbrev pub weightRead : Option Fields.Weight → Weight
 weightRead none = Weight.Unreadable
-weightRead (some w) = cond (onGrid w) (Weight.Units (unitsOf w)) Weight.Off
+weightRead (some (finite w)) = cond (onGrid w) (Weight.Units (unitsOf w)) Weight.Off
+weightRead (some barred) = Weight.Barred
+
+abbrev pub decimalRead : Option ℤ → Weight
+decimalRead o = weightRead (andThen o (λ w. some (finite w)))
 
 -- so many units, by their sign
 abbrev pub signedBy : Bool → ℕ → ℤ
@@ -48,5 +53,6 @@ signedRead minus Magnitude.Unreadable = Weight.Unreadable
 
 abbrev pub isReadable : Weight → Bool
 isReadable (Weight.Units k) = true
+isReadable Weight.Barred = true
 isReadable Weight.Off = true
 isReadable Weight.Unreadable = false

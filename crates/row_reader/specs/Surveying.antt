@@ -5,7 +5,7 @@ use mathlib.Core.Option.{Option, none, some}
 use mathlib.Core.List.{List, [], _∷_}
 use lib.Dec.{ltb}
 use lib.ListN.{length}
-use Rattle.text_rows.specs.Rows.{Row, highest, weightsOnGrid, highestIn, weightIn, onGrid}
+use Rattle.text_rows.specs.Rows.{Row, highest, weightsPass, highestIn, weightIn, weightPasses}
 use Rattle.text_rows.specs.Convert.{linksIn, isLink}
 use Rattle.row_reader.specs.Places.{rowsLeft}
 use Rattle.row_reader.specs.declared.values.Weight.{Weight}
@@ -16,10 +16,11 @@ use Rattle.row_reader.specs.declared.survey.Survey.{Survey}
 use Rattle.row_reader.specs.declared.survey.Surveyed.{Surveyed}
 use Rattle.row_reader.specs.declared.survey.Surveyed.the-variants as Surveyed
 
-abbrev pub isUnits : Weight → Bool
-isUnits (Weight.Units k) = true
-isUnits Weight.Off = false
-isUnits Weight.Unreadable = false
+abbrev pub passes : Weight → Bool
+passes (Weight.Units k) = true
+passes Weight.Barred = true
+passes Weight.Off = false
+passes Weight.Unreadable = false
 
 abbrev pub isRead : Read → Bool
 isRead (Read.Link s t i o w end) = true
@@ -33,12 +34,12 @@ endOf Read.Unreadable at = at
 
 -- a row more, by the code's answer and by the definition
 abbrev pub surveyRead : Survey → Read → Survey
-surveyRead x (Read.Link s t i o w end) = record { gridded = x .gridded && isUnits w; highest = max (x .highest) (max s t); links = x .links + 1 }
-surveyRead x (Read.Final v w end) = record { gridded = x .gridded && isUnits w; highest = max (x .highest) v; links = x .links }
+surveyRead x (Read.Link s t i o w end) = record { passing = x .passing && passes w; highest = max (x .highest) (max s t); links = x .links + 1 }
+surveyRead x (Read.Final v w end) = record { passing = x .passing && passes w; highest = max (x .highest) v; links = x .links }
 surveyRead x Read.Unreadable = x
 
 abbrev pub surveyRow : Survey → Row → Survey
-surveyRow x r = record { gridded = x .gridded && onGrid (weightIn r); highest = max (x .highest) (highestIn r); links = x .links + isLink r }
+surveyRow x r = record { passing = x .passing && weightPasses (weightIn r); highest = max (x .highest) (highestIn r); links = x .links + isLink r }
 
 -- rows onto what others say
 unfoldable pub surveyOnto : Survey → List Row → Survey
@@ -51,7 +52,7 @@ surveyFrom x (some rs) = Surveyed.Rows (surveyOnto x rs)
 
 -- what rows say
 abbrev pub surveyIn : List Row → Survey
-surveyIn rs = record { gridded = weightsOnGrid rs; highest = highest rs; links = linksIn rs }
+surveyIn rs = record { passing = weightsPass rs; highest = highest rs; links = linksIn rs }
 
 abbrev pub surveyRows : Option (List Row) → Surveyed
 surveyRows none = Surveyed.Unreadable

@@ -34,6 +34,7 @@ fn readable(w: Weight) -> bool
 {
     match w {
         Weight::Units(_) => true,
+        Weight::Barred => true,
         Weight::Off => true,
         Weight::Unreadable => false,
     }

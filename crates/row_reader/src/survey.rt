@@ -2,16 +2,15 @@
 ghost use mathlib.Core.Path.{_≡_};
 ghost use mathlib.Core.Bool.{_&&_};
 ghost use Prim.Native.Nat.{_-_, _^_, _<_, max};
-ghost use lib.ListN.{length};
-ghost use Rattle.row_reader.specs.Surveying.{isUnits, surveyRead, endOf, isRead, surveyed, nodeOf};
+ghost use Rattle.row_reader.specs.Surveying.{passes, surveyRead, endOf, isRead, surveyed, nodeOf};
 ghost use Rattle.row_reader.specs.RowReading.{rowAt};
 use crate::row::Read;
 use crate::row::row_at;
 use crate::values::Weight;
 
-// What rows say: whether their weights are on the grid, the highest node, and how many are links.
+// What rows say: whether their weights pass, the highest node, and how many are links.
 pub struct Survey {
-    pub gridded: bool,
+    pub passing: bool,
     pub highest: u32,
     pub links: usize,
 }
@@ -28,11 +27,12 @@ fn greater(a: u32, b: u32) -> u32
     if a < b { b } else { a }
 }
 
-fn weight_on_grid(w: Weight) -> bool
-    ensures { λ r. ⌜ r ≡ isUnits w ⌝ }
+fn weight_passes(w: Weight) -> bool
+    ensures { λ r. ⌜ r ≡ passes w ⌝ }
 {
     match w {
         Weight::Units(_) => true,
+        Weight::Barred => true,
         Weight::Off => false,
         Weight::Unreadable => false,
     }
@@ -103,7 +103,7 @@ fn with_row(s: Survey, r: Read) -> Survey
         } => {
             let most = greater(source, next);
             Survey {
-                gridded: both(s.gridded, weight_on_grid(weight)),
+                passing: both(s.passing, weight_passes(weight)),
                 highest: greater(s.highest, most),
                 links: s.links + 1,
             }
@@ -113,7 +113,7 @@ fn with_row(s: Survey, r: Read) -> Survey
             weight,
             end: _,
         } => Survey {
-            gridded: both(s.gridded, weight_on_grid(weight)),
+            passing: both(s.passing, weight_passes(weight)),
             highest: greater(s.highest, node),
             links: s.links,
         },
@@ -129,7 +129,7 @@ pub fn survey_of(text: &[u8]) -> Surveyed
         return Surveyed::Unreadable;
     }
     let mut s = Survey {
-        gridded: true,
+        passing: true,
         highest: 0,
         links: 0,
     };

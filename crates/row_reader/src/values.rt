@@ -1,14 +1,13 @@
 // Numbers and weights of fields.
 ghost use mathlib.Core.Path.{_≡_};
-ghost use mathlib.Core.Bool.{Bool, true};
-ghost use mathlib.Core.Option.{Option, some};
+ghost use mathlib.Core.Option.{some};
 ghost use mathlib.Core.List.{_∷_};
 ghost use Prim.Native.Nat.{_+_, _*_, _^_, _≤_, _<_};
 ghost use lib.ListN.{length};
 ghost use Rattle.tropical_weight.specs.Limits.{weightLimit};
-ghost use Rattle.text_rows.specs.Fields.{million, numberOf, partOf, magnitudeOf, weightOf};
+ghost use Rattle.text_rows.specs.Fields.{million, numberOf, infinityText, sameText, partOf, magnitudeOf, decimalOf, weightOf};
 ghost use Rattle.row_reader.specs.Runs.{runOf, notPoint};
-ghost use Rattle.row_reader.specs.Reading.{digitsRead, numberRead, magnitudeRead, weightRead, signedBy, unitsIn, signedRead};
+ghost use Rattle.row_reader.specs.Reading.{digitsRead, numberRead, magnitudeRead, weightRead, decimalRead, signedBy, unitsIn, signedRead};
 use decimals::read::Digits;
 use decimals::read::HELD;
 use decimals::read::digits_in;
@@ -114,9 +113,10 @@ fn magnitude_in(field: &[u8]) -> Magnitude
     on_grid(whole, part)
 }
 
-// A weight: a whole number of units within the limit, one off the grid or past it, or none.
+// A weight: a whole number of units within the limit, infinity, one off the grid or past the limit, or none.
 pub enum Weight {
     Units(i32),
+    Barred,
     Off,
     Unreadable,
 }
@@ -140,9 +140,9 @@ fn signed(minus: bool, m: Magnitude) -> Weight
     }
 }
 
-// The weight of a field.
-pub fn weight_in(field: &[u8]) -> Weight
-    ensures { λ r. ⌜ r ≡ weightRead (weightOf (now (field .entry))) ⌝ }
+// The weight of a field that is not infinity.
+fn decimal_in(field: &[u8]) -> Weight
+    ensures { λ r. ⌜ r ≡ decimalRead (decimalOf (now (field .entry))) ⌝ }
 {
     if field.len() == 0 {
         return Weight::Unreadable;
@@ -151,4 +151,34 @@ pub fn weight_in(field: &[u8]) -> Weight
         return signed(true, magnitude_in(&field[1..]));
     }
     signed(false, magnitude_in(field))
+}
+
+// How infinity is written.
+const INFINITY: [u8; 8] = [b'I', b'n', b'f', b'i', b'n', b'i', b't', b'y'];
+
+// Whether a field is infinity.
+fn is_infinity(field: &[u8]) -> bool
+    ensures { λ r. ⌜ r ≡ sameText (now (field .entry)) infinityText ⌝ }
+{
+    if field.len() != INFINITY.len() {
+        return false;
+    }
+    let mut p = 0usize;
+    while p < INFINITY.len() {
+        if field[p] != INFINITY[p] {
+            return false;
+        }
+        p += 1;
+    }
+    true
+}
+
+// The weight of a field.
+pub fn weight_in(field: &[u8]) -> Weight
+    ensures { λ r. ⌜ r ≡ weightRead (weightOf (now (field .entry))) ⌝ }
+{
+    if is_infinity(field) {
+        return Weight::Barred;
+    }
+    decimal_in(field)
 }

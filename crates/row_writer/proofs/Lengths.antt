@@ -10,10 +10,11 @@ use borrow.Author.Tests.{ltb-false}
 use Rattle.tropical_weight.specs.Limits.{weightLimit}
 use Rattle.io.specs.Digits.{digits}
 use Rattle.decimals.specs.Decimal.{placesBy, decimal}
+use Rattle.text_rows.specs.Fields.{infinityText}
 use Rattle.text_rows.specs.Rows.{unitsInOne}
 use Rattle.text_rows.specs.Written.{shortest}
 use Rattle.text_rows.proofs.Texts.{length-digits}
-use Rattle.row_writer.specs.Room.{onesMost}
+use Rattle.row_writer.specs.Room.{onesMost, unitsMost}
 
 places-most : (most : ℕ) (small : Bool) (n j : ℕ) → ltb n 10 ≡ small → 1 ≤ j → n < 10 ^ j → placesBy most small n ≤ j
 unfolding placesBy
@@ -39,3 +40,8 @@ shortest-most (suc k) n = go (eqb (n % 10) 0) (shortest-most k (n / 10))
 -- a weight's digits before its point
 pub ones-most : (k : ℕ) → k ≤ weightLimit → length (decimal (k / unitsInOne)) ≤ onesMost
 ones-most k h = decimal-most (k / unitsInOne) onesMost (omega arith) (omega arith)
+
+-- infinity has room where a weight has
+pub infinity-most : length infinityText ≤ unitsMost
+unfolding infinityText
+infinity-most = omega arith

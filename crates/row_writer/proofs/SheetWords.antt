@@ -1,4 +1,4 @@
--- The labels and the weights of an accepted sheet are words of its bytes, within its length, and the weights are on the grid. Assumes nothing.
+-- The labels and the weights of an accepted sheet are words of its bytes, within its length, and the weights pass test 4. Assumes nothing.
 use mathlib.Core.Path.{_≡_, sym, ap, _∙_, subst}
 use mathlib.Core.Bool.{Bool, true, _||_}
 use mathlib.Core.List.{List}
@@ -7,7 +7,7 @@ use native.Mathlib.Omega.{arith}
 use lib.ListN.{length, getD}
 use borrow.Author.Tests.{ne-eqb}
 use Rattle.sheet.specs.Words.{word}
-use Rattle.sheet.specs.Sheet.{Parts, linkCount, nodeCount, ilabel, olabel, linkBits, mark, finalBits, onGridBits, weightsFit, partsOf, sizesFit, readNumber, statedLinks}
+use Rattle.sheet.specs.Sheet.{Parts, linkCount, nodeCount, ilabel, olabel, linkBits, mark, finalBits, weightFits, weightsFit, partsOf, sizesFit, readNumber, statedLinks}
 use Rattle.sheet.proofs.Fields.{getD-words, read-fields}
 use Rattle.text_rows.proofs.Fitting as Fitting
 use Rattle.text_rows.proofs.RowsBack.{accepted}
@@ -42,8 +42,8 @@ module _ (bytes : List ℕ) (zero-number : readNumber bytes ≡ 0) where
     pub bits-at : word bytes (16 * l + 8) ≡ linkBits p l
     bits-at = sym (read-fields bytes .bits-is l l-in)
 
-    pub link-on : onGridBits (word bytes (16 * l + 8)) ≡ true
-    link-on = ap onGridBits bits-at ∙ Fitting.link-on p weights-fit l h
+    pub link-on : weightFits (word bytes (16 * l + 8)) ≡ true
+    link-on = ap weightFits bits-at ∙ Fitting.link-on p weights-fit l h
 
   -- ---- a node, whose fields follow those of so many links
   module _ (links : ℕ) (are : links ≡ linkCount p) (v : ℕ) (h : v < nodeCount p) where
@@ -55,5 +55,5 @@ module _ (bytes : List ℕ) (zero-number : readNumber bytes ≡ 0) where
         ap (λ (t : ℕ). word bytes (16 * t + 12 * v + 8)) (are ∙ read-fields bytes .links-are)
         ∙ sym (read-fields bytes .final-is v (subst (λ (n : ℕ). v < n) (read-fields bytes .nodes-are) h))
 
-    pub final-on : (mark p v ≡ 0 → ⊥) → onGridBits (word bytes (16 * links + 12 * v + 8)) ≡ true
-    final-on n = ap onGridBits final-at ∙ ap (λ (b : Bool). b || onGridBits (finalBits p v)) (sym (ne-eqb (mark p v) 0 n)) ∙ Fitting.final-on p weights-fit v h
+    pub final-on : (mark p v ≡ 0 → ⊥) → weightFits (word bytes (16 * links + 12 * v + 8)) ≡ true
+    final-on n = ap weightFits final-at ∙ ap (λ (b : Bool). b || weightFits (finalBits p v)) (sym (ne-eqb (mark p v) 0 n)) ∙ Fitting.final-on p weights-fit v h

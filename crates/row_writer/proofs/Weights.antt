@@ -1,6 +1,6 @@
 -- The text of a weight by its sign, and the units of a field on the grid. Assumes nothing.
 use mathlib.Core.Path.{_≡_, refl, sym, ap, _∙_, subst}
-use mathlib.Core.Bool.{true, false, true≢false}
+use mathlib.Core.Bool.{Bool, true, false, _||_, true≢false}
 use mathlib.Core.List.{_∷_}
 use Prim.Native.Nat.{ℕ, _≤_}
 use native.Mathlib.Nat.{le-trans}
@@ -13,13 +13,13 @@ use lib.Ieee.Bits.{ofBits-fits}
 use mir.Syntax.{w32}
 use mir.Val.{SFits, toZ, ofZ}
 use mir.ValLaws.{toZ-ofZ}
-use borrow.Author.Tests.{ltb-true}
+use borrow.Author.Tests.{ltb-true, ne-eqb}
 use Rattle.tropical_weight.specs.Limits.{unit, weightLimit}
 use Rattle.tropical_weight.specs.Single.{Costs}
 use Rattle.tropical_weight.proofs.Grid.{onGrid-whole}
 use Rattle.tropical_weight.specs.Grid as Grid
 use Rattle.tropical_weight.specs.Grid.{gridBits}
-use Rattle.sheet.specs.Sheet.{onGridBits}
+use Rattle.sheet.specs.Sheet.{barredBits, onGridBits, weightFits}
 use Rattle.text_rows.specs.Written.{magnitudeText, weightText}
 
 pub weight-minus : (z : ℤ) → ltZ z (pos 0) ≡ true → 45 ∷ magnitudeText (natAbs z) ≡ weightText z
@@ -31,6 +31,10 @@ pub weight-plain : (z : ℤ) → ltZ z (pos 0) ≡ false → magnitudeText (natA
 unfolding weightText
 weight-plain (pos n) e = refl
 weight-plain (negsuc n) e = absurd (true≢false e)
+
+-- a field that passes and does not bar is on the grid
+pub on-grid : (bits : ℕ) → weightFits bits ≡ true → (bits ≡ barredBits → ⊥) → onGridBits bits ≡ true
+on-grid bits e n = sym (ap (λ (b : Bool). b || onGridBits bits) (ne-eqb bits barredBits n)) ∙ e
 
 -- what `cost` answers at the value of a field on the grid, as an i32 has it
 fits-units : (z : ℤ) → natAbs z ≤ weightLimit → SFits w32 z

@@ -21,7 +21,7 @@ partMost = 1 + decimalsMost
 abbrev pub magnitudeMost : ℕ
 magnitudeMost = onesMost + partMost
 
--- a sign and a weight
+-- a sign and a weight; Infinity is shorter (proofs/Lengths, `infinity-most`)
 abbrev pub unitsMost : ℕ
 unitsMost = 1 + magnitudeMost
 

@@ -6,12 +6,13 @@ ghost use lib.IntN.{natAbs};
 ghost use lib.ListN.{length};
 ghost use Rattle.decimals.specs.Stored.{Puts};
 ghost use Rattle.tropical_weight.specs.Limits.{weightLimit};
-ghost use Rattle.sheet.specs.Sheet.{linkCount, nodeCount, partsOf, readNumber, onGridBits};
+ghost use Rattle.sheet.specs.Sheet.{linkCount, nodeCount, partsOf, readNumber, weightFits};
 ghost use Rattle.text_rows.specs.Fields.{million};
 ghost use Rattle.row_writer.specs.Room.{partMost, magnitudeMost, unitsMost, weightMost, fieldMost, rowMost};
-ghost use Rattle.text_rows.specs.Written.{partText, magnitudeText, weightText, andNumber, andWeight, linkRow, finalRow};
+ghost use Rattle.text_rows.specs.Written.{partText, magnitudeText, weightText, fieldText, andNumber, andWeight, linkRow, finalRow};
 use decimals::write::put_decimal;
 use decimals::write::put_text;
+use sheet::tr::BARRED;
 use sheet::tr::link_at;
 use sheet::words::word;
 use tropical_weight::UNIT;
@@ -72,9 +73,23 @@ fn put_units(out: &mut [u8], at: usize, units: i32) -> usize
     put_magnitude(out, at, size)
 }
 
+// A weight, by its field.
+fn put_field(out: &mut [u8], at: usize, bits: u32) -> usize
+    requires { ⌜ weightFits bits ≡ true ⌝ }
+    requires { ⌜ at + unitsMost ≤ length (now out) ⌝ }
+    ensures { λ r. ⌜ Puts (now (out .entry)) at (fieldText bits) (now (out .exit)) r ⌝ }
+    ensures { λ r. ⌜ r ≤ at + unitsMost ⌝ }
+{
+    if bits == BARRED {
+        return put_text(out, at, b"Infinity");
+    }
+    let units = tropical_weight::cost(tropical_weight::from_bits(bits));
+    put_units(out, at, units)
+}
+
 // A tab and a weight, by its field; nothing for a weight of 0.
 fn put_weight(out: &mut [u8], at: usize, bits: u32) -> usize
-    requires { ⌜ onGridBits bits ≡ true ⌝ }
+    requires { ⌜ weightFits bits ≡ true ⌝ }
     requires { ⌜ at + weightMost ≤ length (now out) ⌝ }
     ensures { λ r. ⌜ Puts (now (out .entry)) at (andWeight bits) (now (out .exit)) r ⌝ }
     ensures { λ r. ⌜ r ≤ at + weightMost ⌝ }
@@ -82,9 +97,8 @@ fn put_weight(out: &mut [u8], at: usize, bits: u32) -> usize
     if bits == 0 {
         return at;
     }
-    let units = tropical_weight::cost(tropical_weight::from_bits(bits));
     let next = put_text(out, at, b"\t");
-    put_units(out, next, units)
+    put_field(out, next, bits)
 }
 
 // A tab and a number.

@@ -9,7 +9,7 @@ use lib.Dec.{ltb, eqb}
 use lib.ListN.{length, drop}
 use borrow.Author.Tests.{ltb-true, lt-ltb, le-ltb}
 use Rattle.text_rows.specs.Fields.{andThen}
-use Rattle.text_rows.specs.Rows.{Row, readRows, finalsOnce, weightsOnGrid, highest}
+use Rattle.text_rows.specs.Rows.{Row, readRows, finalsOnce, weightsPass, highest}
 use Rattle.text_rows.specs.Convert.{linksIn, nodesIn, lengthOf, fieldsHold, numberBy, rowsNumber, orNoRows, rowsIn, sheetOfRows, sheetOver}
 use Rattle.rows.specs.Answers.{convertedBy, sheetAnswer}
 use Rattle.row_reader.specs.Places.{rowsLeft}
@@ -76,11 +76,11 @@ module _ (text : List ℕ) (s : Survey) (r : Readable text s) where
   abbrev rs : List Row
   rs = r .rows
 
-  judged-is : judged text ≡ cond (not (fieldsHold rs)) (Refused 1) (cond (not (weightsOnGrid rs)) (Refused 4) (Rows (surveyIn rs)))
+  judged-is : judged text ≡ cond (not (fieldsHold rs)) (Refused 1) (cond (not (weightsPass rs)) (Refused 4) (Rows (surveyIn rs)))
   judged-is = ap judgedBy (r .read)
 
-  by-fields : (b : Bool) → fieldsHold rs ≡ b → judged text ≡ cond (not b) (Refused 1) (cond (not (weightsOnGrid rs)) (Refused 4) (Rows (surveyIn rs)))
-  by-fields b e = judged-is ∙ ap (λ (c : Bool). cond (not c) (Refused 1) (cond (not (weightsOnGrid rs)) (Refused 4) (Rows (surveyIn rs)))) e
+  by-fields : (b : Bool) → fieldsHold rs ≡ b → judged text ≡ cond (not b) (Refused 1) (cond (not (weightsPass rs)) (Refused 4) (Rows (surveyIn rs)))
+  by-fields b e = judged-is ∙ ap (λ (c : Bool). cond (not c) (Refused 1) (cond (not (weightsPass rs)) (Refused 4) (Rows (surveyIn rs)))) e
 
   pub judged-high : s .highest ≡ 0xffff_ffff → Refused 1 ≡ judged text
   judged-high e = sym (by-fields false (ap (λ (b : Bool). b && ltb (16 * linksIn rs) (2 ^ 32)) (le-ltb (nodesIn rs) (2 ^ 32) (omega (arith, ap (λ (x : Survey). x .highest) (r .is))))))
@@ -97,13 +97,13 @@ module _ (text : List ℕ) (s : Survey) (r : Readable text s) where
     holds =
         λ i. lt-ltb (nodesIn rs) (2 ^ 32) (omega (arith, ap (λ (x : Survey). x .highest) (r .is))) i && lt-ltb (16 * linksIn rs) (2 ^ 32) (omega (arith, ap (λ (x : Survey). x .links) (r .is))) i
 
-    by-weights : (b : Bool) → s .gridded ≡ b → judged text ≡ cond (not b) (Refused 4) (Rows (surveyIn rs))
-    by-weights b e = by-fields true holds ∙ ap (λ (c : Bool). cond (not c) (Refused 4) (Rows (surveyIn rs))) (sym (ap (λ (x : Survey). x .gridded) (r .is)) ∙ e)
+    by-weights : (b : Bool) → s .passing ≡ b → judged text ≡ cond (not b) (Refused 4) (Rows (surveyIn rs))
+    by-weights b e = by-fields true holds ∙ ap (λ (c : Bool). cond (not c) (Refused 4) (Rows (surveyIn rs))) (sym (ap (λ (x : Survey). x .passing) (r .is)) ∙ e)
 
-    pub judged-off : s .gridded ≡ false → Refused 4 ≡ judged text
+    pub judged-off : s .passing ≡ false → Refused 4 ≡ judged text
     judged-off e = sym (by-weights false e)
 
-    pub judged-rows : s .gridded ≡ true → Rows s ≡ judged text
+    pub judged-rows : s .passing ≡ true → Rows s ≡ judged text
     judged-rows e = ap Rows (r .is) ∙ sym (by-weights true e)
 
 -- ---- what is known where nothing is refused
@@ -111,7 +111,7 @@ pub record Passed (text : List ℕ) (s : Survey) : Type 0 where
   pub rows : List Row
   pub read : readRows text ≡ some rows
   pub holds : fieldsHold rows ≡ true
-  pub weighs : weightsOnGrid rows ≡ true
+  pub weighs : weightsPass rows ≡ true
   pub is : s ≡ surveyIn rows
 
 pub passed : (text : List ℕ) (s : Survey) → Rows s ≡ judged text → Passed text s
@@ -119,9 +119,9 @@ passed text s e = go (readRows text) refl e
   where
     go : (o : Option (List Row)) → readRows text ≡ o → Rows s ≡ judgedBy o → Passed text s
     go none q e = let z : _≡_ {A = ℕ} 0 1 = cc in absurd (omega arith)
-    go (some rs) q e = by (fieldsHold rs) refl (weightsOnGrid rs) refl e
+    go (some rs) q e = by (fieldsHold rs) refl (weightsPass rs) refl e
       where
-        by : (b : Bool) → fieldsHold rs ≡ b → (c : Bool) → weightsOnGrid rs ≡ c → Rows s ≡ cond (not b) (Refused 1) (cond (not c) (Refused 4) (Rows (surveyIn rs))) → Passed text s
+        by : (b : Bool) → fieldsHold rs ≡ b → (c : Bool) → weightsPass rs ≡ c → Rows s ≡ cond (not b) (Refused 1) (cond (not c) (Refused 4) (Rows (surveyIn rs))) → Passed text s
         by false x c y e = let z : _≡_ {A = ℕ} 0 1 = cc in absurd (omega arith)
         by true x false y e = let z : _≡_ {A = ℕ} 0 1 = cc in absurd (omega arith)
         by true x true y e = record { rows = rs; read = q; holds = x; weighs = y; is = cc }
@@ -135,7 +135,7 @@ module _ (room : ℕ) where
   -- the number of a refusal is that of the tests, whatever the room
   number-refused : (o : Option (List Row)) (k : ℕ) → Refused k ≡ judgedBy o → (numberBy o room ≡ k) × (eqb k 0 ≡ false)
   number-refused none k e = let z : k ≡ 8 = cc in (sym z, ap (λ (n : ℕ). eqb n 0) z)
-  number-refused (some rs) k e = by (fieldsHold rs) (weightsOnGrid rs) e
+  number-refused (some rs) k e = by (fieldsHold rs) (weightsPass rs) e
     where
       by : (b c : Bool) → Refused k ≡ cond (not b) (Refused 1) (cond (not c) (Refused 4) (Rows (surveyIn rs))) → (cond (not b) 1 (cond (not c) 4 (cond (ltb room (lengthOf rs)) 21 0)) ≡ k) × (eqb k 0 ≡ false)
       by false c e = let z : k ≡ 1 = cc in (sym z, ap (λ (n : ℕ). eqb n 0) z)

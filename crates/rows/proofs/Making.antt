@@ -15,7 +15,7 @@ use Rattle.sheet.proofs.Apart.{both}
 use Rattle.sheet.proofs.Writing.{length-sheet}
 use Rattle.sheet.proofs.Round.{parts-back, number-back}
 use Rattle.decimals.proofs.Storing.{sets-front}
-use Rattle.text_rows.specs.Rows.{Row, readRows, weightsOnGrid}
+use Rattle.text_rows.specs.Rows.{Row, readRows, weightsPass}
 use Rattle.text_rows.specs.Convert.{linksIn, nodesIn, lengthOf, fieldsHold, numberBy, rowsNumber, partsOfRows, rowsIn, sheetOfRows, sheetOver}
 use Rattle.text_rows.specs.RowMachine.{machineOfRows}
 use Rattle.text_rows.specs.Written.{hasRows}
@@ -97,9 +97,9 @@ passed-zero text room e = go (readRows text) refl e
   where
     go : (o : Option (List Row)) → readRows text ≡ o → numberBy o room ≡ 0 → (s : Survey) × Passed text s
     go none q e = absurd (omega (arith, e))
-    go (some qs) q e = by (fieldsHold qs) refl (weightsOnGrid qs) refl e
+    go (some qs) q e = by (fieldsHold qs) refl (weightsPass qs) refl e
       where
-        by : (b : Bool) → fieldsHold qs ≡ b → (c : Bool) → weightsOnGrid qs ≡ c → _≡_ {A = ℕ} (cond (not b) 1 (cond (not c) 4 (cond (ltb room (lengthOf qs)) 21 0))) 0 → (s : Survey) × Passed text s
+        by : (b : Bool) → fieldsHold qs ≡ b → (c : Bool) → weightsPass qs ≡ c → _≡_ {A = ℕ} (cond (not b) 1 (cond (not c) 4 (cond (ltb room (lengthOf qs)) 21 0))) 0 → (s : Survey) × Passed text s
         by false x c y e = absurd (omega (arith, e))
         by true x false y e = absurd (omega (arith, e))
         by true x true y e = (surveyIn qs, record { rows = qs; read = q; holds = x; weighs = y; is = refl })

@@ -45,7 +45,7 @@ fn judge(text: &[u8]) -> Judged
     if LINKS_PAST <= s.links {
         return Judged::Refused(refusal::LAYOUT);
     }
-    if !s.gridded {
+    if !s.passing {
         return Judged::Refused(refusal::WEIGHT);
     }
     Judged::Rows(s)

@@ -7,19 +7,21 @@ use mathlib.Core.List.{List, [], _∷_, _++_, map, append-nil, append-assoc, Lis
 use Prim.Native.Nat.{ℕ, zero, suc, _≤_}
 use native.Mathlib.Omega.{arith}
 use lib.ListN.{length, length-map}
-use Rattle.tropical_weight.specs.Tropical.{Tropical, _≼_}
-use Rattle.tropical_weight.proofs.Semiring.{≼-eq, ≼-trans}
+use Rattle.tropical_weight.specs.Tropical.{Tropical, fin, inf, _≼_}
+use Rattle.tropical_weight.proofs.Semiring.{isFinite, ≼-eq, ≼-trans, ≼-fin}
+use Rattle.sheet.proofs.Apart.{not-both}
 use Rattle.machine.specs.Demand.{_∈_, NoDup}
 use Rattle.machine.proofs.Lists.{Perm, thru, perm-eq, perm-mem, perm-sym, perm-nodup, perm-left, perm-right, perm-middle, here, mem-eq, map-mem, mem-map, map-append, nodup-append, nodup-map, nodup-length, nodup-fills, each-or, keep, keep-mem, mem-keep}
 use Rattle.machine.proofs.Sort.{Ordered, ordered-snoc}
 use Rattle.search.specs.Reversed.{Reversed}
 use Rattle.search.proofs.Trails.{Move, Trail, site, play, play-inj, play-site, moves, moves-once, rankOf, Made, Legal, Consistent, plays, rank-step, rank-play, exchange}
 
--- what became of a trail that was taken: dropped is half-built and not expanded
+-- what became of a trail that was taken: dropped is half-built and not expanded, barred is finished at infinity
 pub data Fate : Type 0 where
   expanded : Fate
   dropped : Fate
   listed : Fate
+  barred : Fate
 
 pub record Taken : Type 0 where
   pub trail : Trail
@@ -32,7 +34,7 @@ abbrev pub trailsOf : List Taken → List Trail
 trailsOf ds = map (λ (d : Taken). d .trail) ds
 
 abbrev pub isListed : Taken → Bool
-isListed d = elim (d .fate) [ expanded ↦ false | dropped ↦ false | listed ↦ true ]
+isListed d = elim (d .fate) [ expanded ↦ false | dropped ↦ false | listed ↦ true | barred ↦ false ]
 
 -- those that were listed, in order
 abbrev pub listedOf : List Taken → List Trail
@@ -46,6 +48,14 @@ pub record State : Type 0 where
 -- all that were put in
 abbrev pub putIn : State → List Trail
 putIn g = g .waiting ++ trailsOf (g .taken)
+
+-- what is at most something finite is finite
+finite-le : {a b : Tropical} → a ≼ b → isFinite b ≡ true → isFinite a ≡ true
+finite-le {a} {b} h f = go b h f
+  where
+    go : (c : Tropical) → a ≼ c → isFinite c ≡ true → isFinite a ≡ true
+    go (fin k) h f = ap isFinite (≼-fin a k h .1)
+    go inf h f = let z : _≡_ {A = ℕ} 0 1 = cc in absurd (omega arith)
 
 abbrev pub Open : Trail → Type 0
 Open t = (v : ℕ) × (site t ≡ some v)
@@ -62,9 +72,10 @@ took-listed ds {t} h = let x = mem-map (λ (d : Taken). d .trail) (keep isListed
     go : (d : Taken) → d ∈ ds → isListed d ≡ true → t ≡ d .trail → took t listed ∈ ds
     go d m e q = kind (d .fate) refl e
       where
-        kind : (f : Fate) → d .fate ≡ f → elim f [ expanded ↦ false | dropped ↦ false | listed ↦ true ] ≡ true → took t listed ∈ ds
+        kind : (f : Fate) → d .fate ≡ f → elim f [ expanded ↦ false | dropped ↦ false | listed ↦ true | barred ↦ false ] ≡ true → took t listed ∈ ds
         kind expanded k z = let w : _≡_ {A = ℕ} 0 1 = cc in absurd (omega arith)
         kind dropped k z = let w : _≡_ {A = ℕ} 0 1 = cc in absurd (omega arith)
+        kind barred k z = let w : _≡_ {A = ℕ} 0 1 = cc in absurd (omega arith)
         kind listed k z = mem-eq (λ i. record { trail = sym q i; fate = k i }) m
 
 module _ (r : Reversed) (n : ℕ) where
@@ -81,7 +92,8 @@ module _ (r : Reversed) (n : ℕ) where
   abbrev pub Fits : List Taken → Trail → Fate → Type 0
   Fits ds t expanded = Open t
   Fits ds t dropped = Open t × Peers ds t
-  Fits ds t listed = site t ≡ none
+  Fits ds t listed = (site t ≡ none) × (isFinite (rankOf r t) ≡ true)
+  Fits ds t barred = (site t ≡ none) × (isFinite (rankOf r t) ≡ false)
 
   pub record Sound (g : State) : Type 0 where
     -- no trail was put in twice
@@ -140,29 +152,31 @@ module _ (r : Reversed) (n : ℕ) where
     no-move : {A : Type 0} {s : Option ℕ} {m : Move} → s ≡ none → m ∈ moves r s → A
     no-move {m} e h = absurd (List·Memᴰ·not-nil (subst (λ s. m ∈ moves r s) e h))
 
-    fate : (p : List Move) (t : Trail) → t ∈ putIn g → Legal r (site t) p → site (play t p) ≡ none → Safe g (play t p) ⊎ Lost g (length p) (play t p)
-    fate [] t h l o = go (placed g h)
+    fate : (p : List Move) (t : Trail) → t ∈ putIn g → Legal r (site t) p → site (play t p) ≡ none → isFinite (rankOf r (play t p)) ≡ true → Safe g (play t p) ⊎ Lost g (length p) (play t p)
+    fate [] t h l o b = go (placed g h)
       where
         go : (t ∈ g .waiting) ⊎ ((f : Fate) × (took t f ∈ g .taken)) → Safe g t ⊎ Lost g 0 t
         go (inl w) = inl (to-come t [] w tt refl)
         go (inr (expanded, q)) = not-open t (i .fits t expanded q) o
         go (inr (dropped, q)) = not-open t (i .fits t dropped q .0) o
         go (inr (listed, q)) = inl (on-list q)
-    fate (m ∷ p) t h l o = go (placed g h) (λ q. fate p (m ∷ t) q (l .1) o)
+        go (inr (barred, q)) = absurd (not-both b (i .fits t barred q .1))
+    fate (m ∷ p) t h l o b = go (placed g h) (λ q. fate p (m ∷ t) q (l .1) o b)
       where
         go : (t ∈ g .waiting) ⊎ ((f : Fate) × (took t f ∈ g .taken)) → ((m ∷ t) ∈ putIn g → Safe g (play (m ∷ t) p) ⊎ Lost g (length p) (play (m ∷ t) p))
             → Safe g (play (m ∷ t) p) ⊎ Lost g (suc (length p)) (play (m ∷ t) p)
         go (inl w) on = inl (to-come t (m ∷ p) w l refl)
         go (inr (expanded, q)) on = longer (on (i .all-moves m t q (l .0)))
         go (inr (dropped, q)) on = inr (record { at = t; rest = m ∷ p; was = q; legal = l; short = omega arith; ends = refl })
-        go (inr (listed, q)) on = no-move (i .fits t listed q) (l .0)
+        go (inr (listed, q)) on = no-move (i .fits t listed q .0) (l .0)
+        go (inr (barred, q)) on = no-move (i .fits t barred q .0) (l .0)
 
     -- A dropped one does no harm: its peers, played on in its place, or what stands in for those.
-    harmless : (k : ℕ) (u : Trail) (p : List Move) → took u dropped ∈ g .taken → Legal r (site u) p → site (play u p) ≡ none → length p ≤ k → Cover g (rankOf r (play u p))
-    harmless zero u [] d l o b = not-open u (i .fits u dropped d .0) o
-    harmless zero u (m ∷ p) d l o b = absurd (omega arith)
-    harmless (suc k) u [] d l o b = not-open u (i .fits u dropped d .0) o
-    harmless (suc k) u (m ∷ p) d l o b = go (each-or (q .all) each) (λ v o. harmless k v o)
+    harmless : (k : ℕ) (u : Trail) (p : List Move) → took u dropped ∈ g .taken → Legal r (site u) p → site (play u p) ≡ none → isFinite (rankOf r (play u p)) ≡ true → length p ≤ k → Cover g (rankOf r (play u p))
+    harmless zero u [] d l o z b = not-open u (i .fits u dropped d .0) o
+    harmless zero u (m ∷ p) d l o z b = absurd (omega arith)
+    harmless (suc k) u [] d l o z b = not-open u (i .fits u dropped d .0) o
+    harmless (suc k) u (m ∷ p) d l o z b = go (each-or (q .all) each) (λ v o. harmless k v o)
       where
         q : Peers (g .taken) u
         q = i .fits u dropped d .1
@@ -173,17 +187,20 @@ module _ (r : Reversed) (n : ℕ) where
         less : (e : Trail) → e ∈ q .all → rankOf r (play e (m ∷ p)) ≼ rankOf r (play u (m ∷ p))
         less e h = exchange r c (m ∷ p) e u (q .same e h) (q .low e h) l o
 
+        cheap : (e : Trail) → e ∈ q .all → isFinite (rankOf r (play e (m ∷ p))) ≡ true
+        cheap e h = finite-le (less e h) z
+
         each : (e : Trail) → e ∈ q .all → Safe g (play e (m ∷ p)) ⊎ ((x : Trail) × (x ∈ q .all) × Lost g (length p) (play x (m ∷ p)))
-        each e h = elim (fate p (m ∷ e) (i .all-moves m e (q .were e h) (subst (λ s. m ∈ moves r s) (sym (q .same e h)) (l .0))) (l .1) (over e h)) [
+        each e h = elim (fate p (m ∷ e) (i .all-moves m e (q .were e h) (subst (λ s. m ∈ moves r s) (sym (q .same e h)) (l .0))) (l .1) (over e h) (cheap e h)) [
           | inl s ↦ inl s
           | inr w ↦ inr (e, h, w)
         ]
 
         go : ((e : Trail) → e ∈ q .all → Safe g (play e (m ∷ p))) ⊎ ((x : Trail) × (x ∈ q .all) × Lost g (length p) (play x (m ∷ p)))
-            → ((v : Trail) (o : List Move) → took v dropped ∈ g .taken → Legal r (site v) o → site (play v o) ≡ none → length o ≤ k → Cover g (rankOf r (play v o)))
+            → ((v : Trail) (o : List Move) → took v dropped ∈ g .taken → Legal r (site v) o → site (play v o) ≡ none → isFinite (rankOf r (play v o)) ≡ true → length o ≤ k → Cover g (rankOf r (play v o)))
             → Cover g (rankOf r (play u (m ∷ p)))
         go (inr (e, h, w)) ih =
-            let x = ih (w .at) (w .rest) (w .was) (w .legal) (ap site (w .ends) ∙ over e h) (omega (arith, w .short)) in
+            let x = ih (w .at) (w .rest) (w .was) (w .legal) (ap site (w .ends) ∙ over e h) (ap (λ y. isFinite (rankOf r y)) (w .ends) ∙ cheap e h) (omega (arith, w .short)) in
             record { all = x .all; size = x .size; apart = x .apart; safe = x .safe; low = λ y j. ≼-trans (x .low y j) (≼-trans (≼-eq (ap (rankOf r) (w .ends))) (less e h)) }
         go (inl f) ih = record {
           all = map (λ e. play e (m ∷ p)) (q .all);
@@ -206,12 +223,12 @@ module _ (r : Reversed) (n : ℕ) where
       behind : (u x : Trail) (p : List Move) → u ∈ g .waiting → Legal r (site u) p → x ∈ listedOf (g .taken) → rankOf r x ≼ rankOf r (play u p)
       behind u x p w l h = ≼-trans (i .low x u (trail-of (took-listed (g .taken) h)) w) (rank-play r c p u l)
 
-      settled : (p : List Move) → Legal r (some 0) p → site (play [] p) ≡ none → Settled (play [] p)
-      settled p l o = go (fate p [] (i .first) l o)
+      settled : (p : List Move) → Legal r (some 0) p → site (play [] p) ≡ none → isFinite (rankOf r (play [] p)) ≡ true → Settled (play [] p)
+      settled p l o f = go (fate p [] (i .first) l o f)
         where
           covered : Lost g (length p) (play [] p) → Cover g (rankOf r (play [] p))
           covered w =
-              let x = harmless (length p) (w .at) (w .rest) (w .was) (w .legal) (ap site (w .ends) ∙ o) (w .short) in
+              let x = harmless (length p) (w .at) (w .rest) (w .was) (w .legal) (ap site (w .ends) ∙ o) (ap (λ y. isFinite (rankOf r y)) (w .ends) ∙ f) (w .short) in
               record { all = x .all; size = x .size; apart = x .apart; safe = x .safe; low = λ y j. ≼-trans (x .low y j) (≼-eq (ap (rankOf r) (w .ends))) }
 
           safe : (z : Trail) → rankOf r z ≼ rankOf r (play [] p) → Safe g z → (z ∈ listedOf (g .taken)) ⊎ Settled (play [] p)
@@ -220,18 +237,18 @@ module _ (r : Reversed) (n : ℕ) where
 
           by : (k : Cover g (rankOf r (play [] p))) → ((e : Trail) → e ∈ k .all → e ∈ listedOf (g .taken)) ⊎ Settled (play [] p) → Settled (play [] p)
           by k (inr s) = s
-          by k (inl f) = inr (
-            omega (arith, nodup-length (k .all) (listedOf (g .taken)) (k .apart) f, k .size),
-            λ x j. k .low x (nodup-fills (k .all) (listedOf (g .taken)) (k .apart) f (omega (arith, k .size, few)) x j),
+          by k (inl a) = inr (
+            omega (arith, nodup-length (k .all) (listedOf (g .taken)) (k .apart) a, k .size),
+            λ x j. k .low x (nodup-fills (k .all) (listedOf (g .taken)) (k .apart) a (omega (arith, k .size, few)) x j),
           )
 
           go : Safe g (play [] p) ⊎ Lost g (length p) (play [] p) → Settled (play [] p)
           go (inl s) = elim (safe (play [] p) (≼-eq refl) s) [ inl q ↦ inl q | inr q ↦ q ]
           go (inr w) = let k = covered w in by k (each-or (k .all) (λ e h. safe e (k .low e h) (k .safe e h)))
 
-      -- so for every end that can be made
-      pub all-settled : (t : Trail) → Made r t → site t ≡ none → Settled t
-      all-settled t h o = let x = plays r t h in subst Settled (x .2) (settled (x .0) (x .1) (ap site (x .2) ∙ o))
+      -- so for every end of finite cost that can be made
+      pub all-settled : (t : Trail) → Made r t → site t ≡ none → isFinite (rankOf r t) ≡ true → Settled t
+      all-settled t h o f = let x = plays r t h in subst Settled (x .2) (settled (x .0) (x .1) (ap site (x .2) ∙ o) (ap (λ y. isFinite (rankOf r y)) (x .2) ∙ f))
 
   -- ---- one is taken
   -- what it puts in
@@ -239,6 +256,7 @@ module _ (r : Reversed) (n : ℕ) where
   born expanded x = map (λ m. m ∷ x) (moves r (site x))
   born dropped x = []
   born listed x = []
+  born barred x = []
 
   abbrev pub taking : Fate → Trail → List Trail → List Taken → State
   taking f x ws ds = record { waiting = born f x ++ ws; taken = ds ++ (took x f ∷ []) }
@@ -287,11 +305,13 @@ module _ (r : Reversed) (n : ℕ) where
     is-born expanded t h = let y = mem-map (λ m. m ∷ x) (moves r (site x)) h in (y .0, y .1, y .2, refl)
     is-born dropped t h = absurd (List·Memᴰ·not-nil h)
     is-born listed t h = absurd (List·Memᴰ·not-nil h)
+    is-born barred t h = absurd (List·Memᴰ·not-nil h)
 
     born-once : (g : Fate) → NoDup (born g x)
     born-once expanded = nodup-map (λ m. m ∷ x) (moves r (site x)) (λ a b e. cc) (moves-once r c (site x))
     born-once dropped = tt
     born-once listed = tt
+    born-once barred = tt
 
     -- x waited, so that nothing has come from it
     fresh : (t : Trail) → t ∈ born f x → t ∈ was → ⊥
@@ -321,6 +341,7 @@ module _ (r : Reversed) (n : ℕ) where
     fits-more t expanded h = h
     fits-more t dropped h = (h .0, record { all = h .1 .all; size = h .1 .size; apart = h .1 .apart; were = λ e q. more (h .1 .were e q); same = h .1 .same; low = h .1 .low })
     fits-more t listed h = h
+    fits-more t barred h = h
 
     pub sound-taking : Sound (taking f x ws ds)
     sound-taking = record {

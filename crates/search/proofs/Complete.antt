@@ -8,7 +8,7 @@ use Prim.Native.Nat.{ℕ, suc, _≤_, _<_, min}
 use native.Mathlib.Omega.{arith}
 use lib.ListN.{getD, length, take, length-map}
 use Rattle.tropical_weight.specs.Tropical.{_≼_}
-use Rattle.tropical_weight.proofs.Semiring.{≼-eq, ≼-trans}
+use Rattle.tropical_weight.proofs.Semiring.{isFinite, ≼-eq, ≼-trans}
 use Rattle.sheet.specs.Machine.{Machine}
 use Rattle.sheet.proofs.Below.{split-at}
 use Rattle.machine.specs.Readings.{Reading, IsReading, readingOf, readingCost, readings}
@@ -20,9 +20,9 @@ use Rattle.machine.proofs.Readings.{readings-are, readings-once}
 use Rattle.machine.proofs.Demand.{sorted, demand-costs}
 use Rattle.search.specs.Reversed.{Reversed, reversed}
 use Rattle.search.specs.Search.{first, costOf, Search, stopped, after, begun, mostTaken, allowed, search, costs, runs, runOf}
-use Rattle.search.proofs.Trails.{Trail, site, inputs, rankOf, Made, finished-rank}
+use Rattle.search.proofs.Trails.{Trail, site, cost, inputs, rankOf, Made, finished-rank}
 use Rattle.search.proofs.Backwards.{consistent, leads-in}
-use Rattle.search.proofs.Unreversed.{unmoved, trail-reads, reading-made, inputs-once}
+use Rattle.search.proofs.Unreversed.{unmoved, trail-cost, trail-reads, reading-made, inputs-once}
 use Rattle.search.proofs.Fans.{put-bound}
 use Rattle.search.proofs.BestFirst.{Fate, expanded, listed, Taken, took, trailsOf, isListed, listedOf, State, putIn, took-listed, made, all-settled}
 use Rattle.search.proofs.Mirror.{at, entry-cost, run-is}
@@ -139,13 +139,16 @@ module _ (m : Machine) (c : Climbs m) (n : ℕ) where
   few = omega (arith, run .few, as-listed)
 
   ended : (t : Trail) → t ∈ ls → Made r t × (site t ≡ none)
-  ended t h = let x = took-listed done h in (taken-made s holds t listed x, holds .sound .fits t listed x)
+  ended t h = let x = took-listed done h in (taken-made s holds t listed x, holds .sound .fits t listed x .0)
+
+  ended-finite : (t : Trail) → t ∈ ls → isFinite (cost t) ≡ true
+  ended-finite t h = let f = holds .sound .fits t listed (took-listed done h) in ap isFinite (sym (finished-rank r t (f .0))) ∙ f .1
 
   listed-ended : (i : ℕ) → i ∈ s .listed → Made r (at ts i) × (site (at ts i) ≡ none)
   listed-ended i h = ended (at ts i) (subst (λ l. at ts i ∈ l) (holds .lists) (map-mem (at ts) h))
 
   cost-is : (t : Trail) → Made r t → site t ≡ none → readingCost m (reads t) ≡ rankOf r t
-  cost-is t h e = trail-reads m t h e .1 ∙ sym (finished-rank r t e)
+  cost-is t h e = trail-cost m t h e ∙ sym (finished-rank r t e)
 
   same-runs : runs s ≡ map inputs ls
   unfolding runs
@@ -166,7 +169,7 @@ module _ (m : Machine) (c : Climbs m) (n : ℕ) where
   settles y i = go (reading-made m y i)
     where
       go : (t : Trail) × Made r t × (site t ≡ none) × (reads t ≡ y) → (y ∈ map reads ls) ⊎ ((n ≤ length ls) × ((x : Reading) → x ∈ map reads ls → readingCost m x ≼ readingCost m y))
-      go (t, h, e, q) = elim (all-settled r n (consistent m c) state (holds .sound) over few t h e) [
+      go (t, h, e, q) = elim (all-settled r n (consistent m c) state (holds .sound) over few t h e (ap isFinite (sym (cost-is t h e) ∙ ap (readingCost m) q ∙ i .finite))) [
         | inl k ↦ inl (mem-eq q (map-mem reads k))
         | inr k ↦ inr (
           k .0,
@@ -178,7 +181,7 @@ module _ (m : Machine) (c : Climbs m) (n : ℕ) where
       ]
 
   each-reads : (x : Reading) → x ∈ map reads ls → IsReading m x
-  each-reads x h = let y = mem-map reads ls h in let z = ended (y .0) (y .1) in subst (IsReading m) (sym (y .2)) (trail-reads m (y .0) (z .0) (z .1) .0)
+  each-reads x h = let y = mem-map reads ls h in let z = ended (y .0) (y .1) in subst (IsReading m) (sym (y .2)) (trail-reads m (y .0) (z .0) (z .1) (ended-finite (y .0) (y .1)))
 
   apart : NoDup (map reads ls)
   apart =
@@ -226,4 +229,4 @@ module _ (m : Machine) (c : Climbs m) (n : ℕ) where
       one-cost : (i : ℕ) → i ∈ s .listed → costOf (getD (s .entries) i first .entry) ≡ readingCost m (reads (at ts i))
       one-cost i h =
           let y = listed-ended i h in
-          ap costOf (holds .mirrors .told i .entry) ∙ entry-cost (at ts i) ∙ sym (trail-reads m (at ts i) (y .0) (y .1) .1)
+          ap costOf (holds .mirrors .told i .entry) ∙ entry-cost (at ts i) ∙ sym (trail-cost m (at ts i) (y .0) (y .1))

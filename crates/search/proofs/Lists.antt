@@ -13,7 +13,7 @@ use Rattle.sheet.specs.Machine.{Link, Machine, machineOf}
 use Rattle.sheet.proofs.Round.{Below, words-below}
 use Rattle.sheet.proofs.Sources.{machine-links, machine-nodes}
 use Rattle.machine.specs.Readings.{Reading, IsReading, readingOf, readings, marked}
-use Rattle.machine.specs.Climbs.{Climbs, Finite}
+use Rattle.machine.specs.Climbs.{Climbs}
 use Rattle.machine.specs.Parents.{best}
 use Rattle.machine.specs.Demand.{Demand}
 use Rattle.machine.specs.Input.{inputNumber}
@@ -21,7 +21,7 @@ use Rattle.machine.proofs.Lists.{nodup-length}
 use Rattle.machine.proofs.Runs.{run-length, run-in}
 use Rattle.machine.proofs.Readings.{final-in, reading-is, readings-are}
 use Rattle.machine.proofs.Parents.{best-is, best-some}
-use Rattle.machine.proofs.Accepted.{Passes, passes, few-nodes, few-links, link-at, climbs-machine, finite-machine}
+use Rattle.machine.proofs.Accepted.{Passes, passes, few-nodes, few-links, link-at, climbs-machine}
 use Rattle.machine.proofs.Demand.{demand-best, demand-none}
 use Rattle.search.specs.Search.{mostTaken, search, runs, runOf}
 use Rattle.search.specs.ListMachine.{Result, bestResult, trimmed, resultBy, resultFor, resultBytes}
@@ -40,7 +40,6 @@ listIn n r rest = listOf n (length (r .machine .finals)) (length (r .machine .li
 -- what is known of the machine of an accepted sheet
 pub record Accepted (m : Machine) : Type 0 where
   pub climbs : Climbs m
-  pub finite : Finite m
   pub labels : Labels m
   pub few-nodes : length (m .finals) ≤ nodeLimit
   pub few-links : length (m .links) ≤ linkLimit
@@ -99,7 +98,7 @@ module _ (m : Machine) (a : Accepted m) where
   demand-result n p b rest = go n p b (best m) refl
     where
       no-reading : best m ≡ none → (y : Reading) → IsReading m y → ⊥
-      no-reading e y i = let x = best-some m (a .climbs) (a .finite) y i in let q = x .1 in let z : _≡_ {A = ℕ} 0 1 = cc in omega arith
+      no-reading e y i = let x = best-some m (a .climbs) y i in let q = x .1 in let z : _≡_ {A = ℕ} 0 1 = cc in omega arith
 
       go : (n : ℕ) → 1 ≤ n → n ≤ listLimit → (o : Option Reading) → best m ≡ o → Demand m n (map (readingOf m) (listIn n (resultBy m n o) rest))
       go n p b none e = subst (λ l. Demand m n (map (readingOf m) l)) (sym (empty-back n rest)) (demand-none m (a .climbs) n (no-reading e))
@@ -123,7 +122,7 @@ module _ (m : Machine) (a : Accepted m) where
   result-many (suc zero) p b y i rest = absurd (omega arith)
   result-many (suc (suc k)) p b y i rest =
       let n = suc (suc k) in
-      let x = best-some m (a .climbs) (a .finite) y i in
+      let x = best-some m (a .climbs) y i in
       (ap (λ o. listIn n (resultBy m n o) rest) (x .1) ∙ list-many n p b y i rest, ap (λ o. resultBy m n o .taken) (x .1))
 
   -- entries taken, for every n
@@ -142,7 +141,6 @@ pub accepted : (bytes : List ℕ) → Below 256 bytes → inputNumber bytes ≡ 
 unfolding partsOf
 accepted bytes b e = record {
   climbs = climbs-machine p t;
-  finite = finite-machine p t;
   labels = labels;
   few-nodes = omega (arith, machine-nodes p, few-nodes p t);
   few-links = omega (arith, machine-links p, few-links p t);

@@ -2,7 +2,8 @@
 use mathlib.Core.Path.{_≡_, refl, ap}
 use mathlib.Core.Logic.{_⊎_, inl, inr}
 use mathlib.Core.Bool.{Bool, true, false, cond, _||_}
-use mathlib.Core.List.{List, [], _∷_}
+use mathlib.Core.List.{List, [], _∷_, _++_}
+use Rattle.tropical_weight.specs.Tropical.{inf, ltT}
 use Prim.Native.Nat.{ℕ, zero, suc, _+_, _≤_, _<_}
 use native.Mathlib.Omega.{arith}
 use lib.Dec.{eqb, leb}
@@ -24,7 +25,11 @@ module _ (r : Reversed) (n : ℕ) where
   OneMore s z = (length (z .listed) ≤ suc (length (s .listed))) × (z .taken ≡ suc (s .taken))
 
   taken-one : (x : ℕ) (h : List ℕ) (e : Entry) (s : Search) → OneMore s (takenBy r n x h e s)
-  taken-one x h (finished c) s = (omega (arith, length-append (s .listed) (x ∷ [])), refl)
+  taken-one x h (finished c) s = (go (ltT c inf), refl)
+    where
+      go : (t : Bool) → length (cond t (s .listed ++ (x ∷ [])) (s .listed)) ≤ suc (length (s .listed))
+      go true = omega (arith, length-append (s .listed) (x ∷ []))
+      go false = omega arith
   taken-one x h (half v c) s = go (leb (suc (getD (s .visits) v 0)) n)
     where
       z : Search

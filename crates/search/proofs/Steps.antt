@@ -12,7 +12,7 @@ use lib.ListN.{getD, set, length, length-replicate, length-append, length-map, l
 use lib.Seq.{getD-set-same, getD-set-other}
 use borrow.Author.Tests.{leb-true, leb-false}
 use Rattle.tropical_weight.specs.Tropical.{Tropical, _≼_}
-use Rattle.tropical_weight.proofs.Semiring.{≼-eq, ≼-trans}
+use Rattle.tropical_weight.proofs.Semiring.{isFinite, ≼-eq, ≼-trans}
 use Rattle.machine.specs.Readings.{isAt}
 use Rattle.machine.specs.Demand.{_∈_, NoDup}
 use Rattle.machine.proofs.Lists.{Perm, thru, perm-refl, perm-mem, perm-sym, perm-map, perm-length, perm-left, perm-right, perm-swap, here, mem-eq, map-mem, mem-map, map-append, map-same, keep, keep-append, keep-mem, keep-nodup, nodup-end}
@@ -24,9 +24,9 @@ use Rattle.search.proofs.Contents.{popped-keeps}
 use Rattle.search.proofs.Counts.{occurs, occurs-append, occurs-here, occurs-other, occurs-one}
 use Rattle.search.proofs.HeapOrder.{Ordered, popped-ordered, head-first}
 use Rattle.search.proofs.Ranks.{entries-strict, ranks-follow}
-use Rattle.search.proofs.Trails.{back, stop, Trail, site, cost, moves, movesFrom, rankOf, Made, Consistent, back-from}
+use Rattle.search.proofs.Trails.{back, stop, Trail, site, cost, moves, movesFrom, rankOf, Made, Consistent, back-from, finished-rank}
 use Rattle.search.proofs.Fans.{fanSum, fan-append, fanOf}
-use Rattle.search.proofs.BestFirst.{Fate, expanded, dropped, listed, Taken, took, trailsOf, isListed, listedOf, putIn, Sound, made, born, put-taking, sound-first, sound-perm, sound-taking}
+use Rattle.search.proofs.BestFirst.{Fate, expanded, dropped, listed, barred, Taken, took, trailsOf, isListed, listedOf, putIn, Sound, made, born, put-taking, sound-first, sound-perm, sound-taking}
 use Rattle.search.proofs.Mirror.{half-site, finished-site, rank-is, at, Mirrors, Told, putAll-keeps, Grown, putBy, expansion-moves, puts}
 
 -- ---- the nodes that were expanded
@@ -35,6 +35,7 @@ nodeBy expanded (some v) = v ∷ []
 nodeBy expanded none = []
 nodeBy dropped s = []
 nodeBy listed s = []
+nodeBy barred s = []
 
 -- in order
 unfoldable pub nodesOf : List Taken → List ℕ
@@ -42,7 +43,7 @@ nodesOf [] = []
 nodesOf (d ∷ ds) = nodeBy (d .fate) (site (d .trail)) ++ nodesOf ds
 
 abbrev expandedAt : ℕ → Taken → Bool
-expandedAt v d = elim (d .fate) [ expanded ↦ isAt (site (d .trail)) v | dropped ↦ false | listed ↦ false ]
+expandedAt v d = elim (d .fate) [ expanded ↦ isAt (site (d .trail)) v | dropped ↦ false | listed ↦ false | barred ↦ false ]
 
 nodes-snoc : (ds : List Taken) (t : Trail) (f : Fate) → nodesOf (ds ++ (took t f ∷ [])) ≡ nodesOf ds ++ nodeBy f (site t)
 unfolding nodesOf
@@ -56,19 +57,21 @@ nodes-count v [] = refl
 nodes-count v (d ∷ ds) = go (d .fate) (site (d .trail)) (nodes-count v ds)
   where
     go : (f : Fate) (s : Option ℕ) → length (keep (expandedAt v) ds) ≡ occurs v (nodesOf ds)
-        → length (cond (elim f [ expanded ↦ isAt s v | dropped ↦ false | listed ↦ false ]) (d ∷ keep (expandedAt v) ds) (keep (expandedAt v) ds)) ≡ occurs v (nodeBy f s ++ nodesOf ds)
+        → length (cond (elim f [ expanded ↦ isAt s v | dropped ↦ false | listed ↦ false | barred ↦ false ]) (d ∷ keep (expandedAt v) ds) (keep (expandedAt v) ds)) ≡ occurs v (nodeBy f s ++ nodesOf ds)
     go expanded none e = e
     go expanded (some u) e = occurs-one v u (nodesOf ds) d (keep (expandedAt v) ds) e
     go dropped s e = e
     go listed s e = e
+    go barred s e = e
 
 kind-at : (v : ℕ) (ds : List Taken) (d : Taken) → d ∈ ds → expandedAt v d ≡ true → (took (d .trail) expanded ∈ ds) × (site (d .trail) ≡ some v)
 kind-at v ds d h e = go (d .fate) refl e
   where
-    go : (f : Fate) → d .fate ≡ f → elim f [ expanded ↦ isAt (site (d .trail)) v | dropped ↦ false | listed ↦ false ] ≡ true → (took (d .trail) expanded ∈ ds) × (site (d .trail) ≡ some v)
+    go : (f : Fate) → d .fate ≡ f → elim f [ expanded ↦ isAt (site (d .trail)) v | dropped ↦ false | listed ↦ false | barred ↦ false ] ≡ true → (took (d .trail) expanded ∈ ds) × (site (d .trail) ≡ some v)
     go expanded q k = (mem-eq (λ i. record { trail = d .trail; fate = q i }) h, at-some (site (d .trail)) v k)
     go dropped q k = let z : _≡_ {A = ℕ} 0 1 = cc in absurd (omega arith)
     go listed q k = let z : _≡_ {A = ℕ} 0 1 = cc in absurd (omega arith)
+    go barred q k = let z : _≡_ {A = ℕ} 0 1 = cc in absurd (omega arith)
 
 pub node-mem : (v : ℕ) (ds : List Taken) → v ∈ nodesOf ds → (t : Trail) × (took t expanded ∈ ds) × (site t ≡ some v)
 unfolding nodesOf
@@ -220,18 +223,39 @@ module _ (r : Reversed) (n size : ℕ) where
       lists-more = ap trailsOf (keep-append isListed (i .done) (took t listed ∷ [])) ∙ map-append (λ (d : Taken). d .trail) (keep isListed (i .done)) (took t listed ∷ [])
 
       take-finished : (k : Tropical) → getD (s .entries) x first .entry ≡ finished k → Holds (takenBy r n x h (finished k) s)
-      take-finished k e = record {
-        trails = ts;
-        done = i .done ++ (took t listed ∷ []);
-        mirrors = mirrors-h (s .visits) (s .listed ++ (x ∷ [])) (suc (s .taken)) (λ j q. elim (List·Memᴰ·append-cases (s .listed) q) [ inl z ↦ i .mirrors .in-list j z | inr z ↦ omega (arith, List·Memᴰ·eq-of-singleton z, x-in) ]);
-        sound = sound-taking r n c listed t (map (at ts) h) (i .done) ready least (finished-site (site t) (cost t) k (sym e ∙ i .mirrors .told x .entry) .0);
-        lists = map-append (at ts) (s .listed) (x ∷ []) ∙ ap (λ l. l ++ (t ∷ [])) (i .lists) ∙ sym lists-more;
-        wide = i .wide;
-        visited = λ v. ap (occurs v) (nodes-same listed refl) ∙ i .visited v;
-        counted = longer listed;
-        all = thru all-ready (perm-sym (put-taking r n listed t (map (at ts) h) (i .done)));
-        grew = i .grew ∙ ap (λ l. 1 + fanSum (fanOf r) l) (sym (nodes-same listed refl));
-      }
+      take-finished k e = go (isFinite k) refl
+        where
+          over : (site t ≡ none) × (cost t ≡ k)
+          over = finished-site (site t) (cost t) k (sym e ∙ i .mirrors .told x .entry)
+
+          rank-k : rankOf r t ≡ k
+          rank-k = finished-rank r t (over .0) ∙ over .1
+
+          go : (b : Bool) → isFinite k ≡ b → Holds (record { entries = s .entries; heap = h; visits = s .visits; listed = cond b (s .listed ++ (x ∷ [])) (s .listed); taken = suc (s .taken) })
+          go true f = record {
+            trails = ts;
+            done = i .done ++ (took t listed ∷ []);
+            mirrors = mirrors-h (s .visits) (s .listed ++ (x ∷ [])) (suc (s .taken)) (λ j q. elim (List·Memᴰ·append-cases (s .listed) q) [ inl z ↦ i .mirrors .in-list j z | inr z ↦ omega (arith, List·Memᴰ·eq-of-singleton z, x-in) ]);
+            sound = sound-taking r n c listed t (map (at ts) h) (i .done) ready least (over .0, ap isFinite rank-k ∙ f);
+            lists = map-append (at ts) (s .listed) (x ∷ []) ∙ ap (λ l. l ++ (t ∷ [])) (i .lists) ∙ sym lists-more;
+            wide = i .wide;
+            visited = λ v. ap (occurs v) (nodes-same listed refl) ∙ i .visited v;
+            counted = longer listed;
+            all = thru all-ready (perm-sym (put-taking r n listed t (map (at ts) h) (i .done)));
+            grew = i .grew ∙ ap (λ l. 1 + fanSum (fanOf r) l) (sym (nodes-same listed refl));
+          }
+          go false f = record {
+            trails = ts;
+            done = i .done ++ (took t barred ∷ []);
+            mirrors = mirrors-h (s .visits) (s .listed) (suc (s .taken)) (i .mirrors .in-list);
+            sound = sound-taking r n c barred t (map (at ts) h) (i .done) ready least (over .0, ap isFinite rank-k ∙ f);
+            lists = i .lists ∙ sym (lists-same barred refl);
+            wide = i .wide;
+            visited = λ v. ap (occurs v) (nodes-same barred refl) ∙ i .visited v;
+            counted = longer barred;
+            all = thru all-ready (perm-sym (put-taking r n barred t (map (at ts) h) (i .done)));
+            grew = i .grew ∙ ap (λ l. 1 + fanSum (fanOf r) l) (sym (nodes-same barred refl));
+          }
 
       module _ (v : ℕ) (k : Tropical) (e : getD (s .entries) x first .entry ≡ half v k) where
         parts : (site t ≡ some v) × (cost t ≡ k)

@@ -6,11 +6,11 @@ use mathlib.Core.List.{List, [], _∷_}
 use Prim.Native.Nat.{ℕ, zero, suc}
 use native.Mathlib.Omega.{arith}
 use Rattle.tropical_weight.specs.Tropical.{Tropical, _⊗_}
-use Rattle.tropical_weight.proofs.Semiring.{⊗-comm, ⊗-assoc, ⊗-one}
+use Rattle.tropical_weight.proofs.Semiring.{isFinite, is-finite, ⊗-comm, ⊗-assoc, ⊗-one}
 use Rattle.sheet.specs.Machine.{Machine}
 use Rattle.machine.specs.Readings.{link, final, finalWeight, nodeOr, IsRun, runCost, Reading, IsReading, endFrom, readingOf, readingCost}
 use Rattle.machine.specs.Demand.{_∈_}
-use Rattle.machine.proofs.Readings.{reading-is}
+use Rattle.machine.proofs.Readings.{Way, reading-is}
 use Rattle.machine.proofs.Runs.{at-some, some-at}
 use Rattle.search.specs.Reversed.{Back, outOf, isEnd, reversed}
 use Rattle.search.proofs.Trails.{back, stop, Trail, site, cost, inputs, moves, Made, back-from, stop-from, out-moves, end-moves}
@@ -95,12 +95,12 @@ module _ (m : Machine) where
   pub half-sum : (u : ℕ) (t : Trail) → Half u t → cost t ≡ runCost m (inputs t) ⊗ finalWeight (final m (endFrom m u (inputs t)))
   half-sum u t y = ap cost (y .is) ∙ half-cost u (inputs t)
 
-  whole : (t : Trail) → Made (reversed m) t → site t ≡ none → (t ≡ wholeOf (inputs t)) × IsReading m (readingOf m (inputs t))
+  whole : (t : Trail) → Made (reversed m) t → site t ≡ none → (t ≡ wholeOf (inputs t)) × Way m (readingOf m (inputs t))
   whole [] q o = let z : _≡_ {A = ℕ} 0 1 = cc in absurd (omega arith)
   whole (back b ∷ t) q o = let z : _≡_ {A = ℕ} 0 1 = cc in absurd (omega arith)
   whole (stop ∷ t) q o = let x = stop-from (reversed m) (site t) (q .0) in go (x .0) (x .1) (x .2)
     where
-      go : (v : ℕ) → site t ≡ some v → isEnd m v ≡ true → (stop ∷ t ≡ wholeOf (inputs t)) × IsReading m (readingOf m (inputs t))
+      go : (v : ℕ) → site t ≡ some v → isEnd m v ≡ true → (stop ∷ t ≡ wholeOf (inputs t)) × Way m (readingOf m (inputs t))
       go zero s e = let z : _≡_ {A = ℕ} 0 1 = cc in absurd (omega arith)
       go (suc v) s e =
           let f : m .start ≡ some v = at-some (m .start) v e in
@@ -108,12 +108,15 @@ module _ (m : Machine) where
           let y : Half (nodeOr (m .start)) t = subst (λ k. Half k t) (sym g) (half-is t (q .1) v s) in
           (ap (λ k. stop ∷ k) (y .is), record { from = nodeOr (m .start); weight = y .weight; starts = f ∙ ap some (sym g); runs = y .runs; marked = y .marked })
 
-  -- ---- finished trails are readings, each once
-  pub trail-reads : (t : Trail) → Made (reversed m) t → site t ≡ none → IsReading m (readingOf m (inputs t)) × (readingCost m (readingOf m (inputs t)) ≡ cost t)
-  trail-reads t q o =
-      let x = whole t q o in
-      let u = nodeOr (m .start) in
-      (x .1, sym (ap cost (x .0) ∙ ⊗-one (cost (halfOf u (inputs t))) ∙ half-cost u (inputs t)))
+  -- ---- finished trails are ways, and those of finite cost are readings, each once
+  pub trail-cost : (t : Trail) → Made (reversed m) t → site t ≡ none → readingCost m (readingOf m (inputs t)) ≡ cost t
+  trail-cost t q o = let x = whole t q o in let u = nodeOr (m .start) in sym (ap cost (x .0) ∙ ⊗-one (cost (halfOf u (inputs t))) ∙ half-cost u (inputs t))
+
+  pub trail-reads : (t : Trail) → Made (reversed m) t → site t ≡ none → isFinite (cost t) ≡ true → IsReading m (readingOf m (inputs t))
+  trail-reads t q o f =
+      let x = whole t q o .1 in
+      let k = is-finite (cost t) f in
+      record { from = x .from; weight = x .weight; starts = x .starts; runs = x .runs; marked = x .marked; costs = k .0; finite = trail-cost t q o ∙ k .1 }
 
   pub reading-made : (x : Reading) → IsReading m x → (t : Trail) × Made (reversed m) t × (site t ≡ none) × (readingOf m (inputs t) ≡ x)
   reading-made x i =

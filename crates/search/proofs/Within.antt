@@ -6,8 +6,8 @@ use Prim.Native.Nat.{ℕ, zero, suc, _≤_, _<_}
 use native.Mathlib.Omega.{arith}
 use lib.ListN.{getD, length}
 use Rattle.tropical_weight.specs.Limits.{weightLimit, nodeLimit, sumLimit}
-use Rattle.tropical_weight.specs.Tropical.{Tropical, _⊗_, Within}
-use Rattle.tropical_weight.proofs.Semiring.{one-⊗, ⊗-one}
+use Rattle.tropical_weight.specs.Tropical.{Tropical, fin, inf, _⊗_, Within}
+use Rattle.tropical_weight.proofs.Semiring.{isFinite, one-⊗, ⊗-one}
 use Rattle.tropical_weight.proofs.Sums.{within-one, limits}
 use Rattle.sheet.specs.Machine.{Machine}
 use Rattle.machine.specs.Readings.{endFrom, readingOf, readingCost, readings}
@@ -23,7 +23,7 @@ use Rattle.machine.proofs.Bounds.{dist-limit, rest-limit, rank-limit, reading-l
 use Rattle.search.specs.Reversed.{distanceTo, reversed}
 use Rattle.search.specs.Search.{half, costOf, first, Search, rank, after, begun, mostTaken}
 use Rattle.search.proofs.Trails.{Trail, site, cost, inputs, ahead, rankOf, Made}
-use Rattle.search.proofs.Unreversed.{half-is, half-sum, unmoved, trail-reads}
+use Rattle.search.proofs.Unreversed.{half-is, half-sum, unmoved, trail-cost, trail-reads}
 use Rattle.search.proofs.Mirror.{at, half-site, rank-is, entry-cost}
 use Rattle.search.proofs.Steps.{Holds}
 use Rattle.search.proofs.Complete.{ran-begun, node-in, trails-few}
@@ -65,10 +65,13 @@ module _ (m : Machine) (c : Climbs m) (b : Small weightLimit m) (few : length (m
   pub trail-within : (t : Trail) → Made (reversed m) t → Within sumLimit (cost t) × Within sumLimit (rankOf (reversed m) t)
   trail-within t h = go (site t) refl
     where
+      ended : site t ≡ none → (a : Tropical) → cost t ≡ a → Within sumLimit a
+      ended e inf q = tt
+      ended e (fin k) q = subst (Within sumLimit) (trail-cost m t h e ∙ q) (reading-limit m c weightLimit b nodeLimit limits few (readingOf m (inputs t)) (trail-reads m t h e (ap isFinite q)))
+
       go : (o : Option ℕ) → site t ≡ o → Both (ahead (reversed m) o) (cost t)
       go none e =
-          let x = trail-reads m t h e in
-          let w = subst (Within sumLimit) (x .1) (reading-limit m c weightLimit b nodeLimit limits few (readingOf m (inputs t)) (x .0)) in
+          let w = ended e (cost t) refl in
           (w, subst (Within sumLimit) (sym (one-⊗ (cost t))) w)
       go (some zero) e = subst (λ d. Both d (cost t)) (sym (weight-of (total m))) (subst (Both (total m)) (sym (ap cost (unmoved m t h e))) (within-one sumLimit, subst (Within sumLimit) (sym (⊗-one (total m))) total-within))
       go (some (suc u)) e =

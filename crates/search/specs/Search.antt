@@ -5,7 +5,7 @@ use mathlib.Core.List.{List, [], _∷_, _++_, map}
 use Prim.Native.Nat.{ℕ, zero, suc, _+_, _*_}
 use lib.Dec.{eqb, leb}
 use lib.ListN.{length, getD, set, replicate}
-use Rattle.tropical_weight.specs.Tropical.{Tropical, one, eqT, ltT, _⊗_}
+use Rattle.tropical_weight.specs.Tropical.{Tropical, inf, one, eqT, ltT, _⊗_}
 use Rattle.sheet.specs.Machine.{Machine}
 use Rattle.machine.specs.Readings.{marked}
 use Rattle.machine.specs.Distance.{asWeight}
@@ -74,9 +74,9 @@ module _ (r : Reversed) where
       map (λ b. record { from = x; input = b .input; entry = half (b .next) (c ⊗ b .weight) }) (r .out v)
       ++ cond (r .ends v) (record { from = x; input = none; entry = finished c } ∷ []) []
 
-  -- number x taken, where h is the heap without it: a finished one is listed next, a half-built one expanded unless its node has now been taken more than n times
+  -- number x taken, where h is the heap without it: a finished one is listed next if its cost is finite, a half-built one expanded unless its node has now been taken more than n times
   abbrev pub takenBy : ℕ → ℕ → List ℕ → Entry → Search → Search
-  takenBy n x h (finished c) s = record { entries = s .entries; heap = h; visits = s .visits; listed = s .listed ++ (x ∷ []); taken = suc (s .taken) }
+  takenBy n x h (finished c) s = record { entries = s .entries; heap = h; visits = s .visits; listed = cond (ltT c inf) (s .listed ++ (x ∷ [])) (s .listed); taken = suc (s .taken) }
   takenBy n x h (half v c) s =
       let k = suc (getD (s .visits) v 0) in
       let t : Search = record { entries = s .entries; heap = h; visits = set (s .visits) v k; listed = s .listed; taken = suc (s .taken) } in
@@ -86,7 +86,7 @@ module _ (r : Reversed) where
   unfolding pushed popped
   step n s = let x = getD (s .heap) 0 0 in takenBy n x (popped (before (s .entries)) (s .heap)) (getD (s .entries) x first .entry) s
 
-  -- at the n-th finished entry, or when the heap is empty
+  -- at the n-th listed entry, or when the heap is empty
   abbrev pub stopped : ℕ → Search → Bool
   stopped n s = eqb (length (s .heap)) 0 || leb n (length (s .listed))
 

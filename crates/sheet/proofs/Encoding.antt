@@ -12,16 +12,16 @@ use lib.Dec.{ltb, eqb}
 use lib.IntN.{ℤ}
 use lib.ListN.{length, getD, length-map, List·getD-append}
 use lib.Seq.{getD-append-add, ext-getD}
-use lib.Ieee.{Float, binary32}
+use lib.Ieee.{Float, binary32, ofBits, toBits}
 use lib.Ieee.Bits.{toBits-lt}
 use borrow.Author.Tests.{lt-ltb, le-ltb, eq-eqb, ne-eqb}
 use Rattle.tropical_weight.specs.Limits.{unit, sumLimit}
 use Rattle.tropical_weight.specs.Tropical.{Tropical, fin, inf, one, Within}
 use Rattle.tropical_weight.specs.Grid.{ofT, unitsOf}
-use Rattle.tropical_weight.proofs.Exact.{ofT-fits, bits-back}
+use Rattle.tropical_weight.proofs.Exact.{ofT-fits, ofT-injective, bits-back}
 use Rattle.tropical_weight.proofs.Grid.{unitsOf-ofK}
 use Rattle.sheet.specs.Below.{sumBelow, listBelow}
-use Rattle.sheet.specs.Sheet.{noStart, linkCount, nodeCount, ilabel, olabel, linkBits, next, count, mark, finalBits, recordsFit, verdict, sheetOf, partsOf, readNumber}
+use Rattle.sheet.specs.Sheet.{barredBits, noStart, linkCount, nodeCount, ilabel, olabel, linkBits, next, count, mark, finalBits, recordsFit, verdict, sheetOf, partsOf, readNumber}
 use Rattle.sheet.specs.Machine.{Link, Machine, sourcesBelow, weightOf, startOf, finalOf, linkOf, machineOf, bitsOf, linkFields, leaving, finalFields, nodeFields, startField, partsFor}
 use Rattle.sheet.proofs.Below.{split-at, sumBelow-same, length-listBelow, getD-listBelow}
 use Rattle.sheet.proofs.Writing.{length-sheet}
@@ -153,7 +153,7 @@ pub record Writable (m : Machine) : Type 0 where
 pub bits-lt : (w : Tropical) → bitsOf w < 4294967296
 bits-lt w = toBits-lt binary32 (ofT unit w) (ofT-fits unit (omega arith) w)
 
-links-below : (n : ℕ) (ks : List Link) → ((l : ℕ) (d : Link) → l < length ks → LinkFits n (getD ks l d)) → Below 4294967296 (flatMap linkFields ks)
+pub links-below : (n : ℕ) (ks : List Link) → ((l : ℕ) (d : Link) → l < length ks → LinkFits n (getD ks l d)) → Below 4294967296 (flatMap linkFields ks)
 unfolding flatMap
 links-below n [] f i = omega arith
 links-below n (k ∷ ks) f zero = f 0 k (omega arith) .ilabel-fits
@@ -171,7 +171,7 @@ leaving-le (k ∷ ks) v = go (eqb (k .source) v) (leaving-le ks v)
     go true h = omega arith
     go false h = omega arith
 
-nodes-below : (ks : List Link) (v : ℕ) (fs : List (Option Tropical)) → length ks < 4294967296 → Below 4294967296 (nodeFields ks v fs)
+pub nodes-below : (ks : List Link) (v : ℕ) (fs : List (Option Tropical)) → length ks < 4294967296 → Below 4294967296 (nodeFields ks v fs)
 unfolding nodeFields
 nodes-below ks v [] h i = omega arith
 nodes-below ks v (none ∷ fs) h zero = omega (arith, leaving-le ks v)
@@ -293,7 +293,7 @@ module _ (m : Machine) (w : Writable m) where
 -- ---- the machine itself
 -- a weight that its field gives back
 abbrev pub Held : Tropical → Type 0
-Held w = ((k : ℤ) × (w ≡ fin k)) × Within sumLimit w
+Held w = Within sumLimit w
 
 pub record AllHeld (m : Machine) : Type 0 where
   pub weights : (l : ℕ) (d : Link) → l < length (m .links) → Held (getD (m .links) l d .weight)
@@ -301,9 +301,21 @@ pub record AllHeld (m : Machine) : Type 0 where
   -- a start at FFFFFFFF would be read as none
   pub start-told : (v : ℕ) → m .start ≡ some v → v < noStart
 
+-- infinity's bits, and no other weight's
+pub bits-inf : bitsOf inf ≡ barredBits
+bits-inf = unfold toBits in refl
+
+pub bits-finite : (k : ℤ) → Within sumLimit (fin k) → eqb (bitsOf (fin k)) barredBits ≡ false
+bits-finite k h = ne-eqb (bitsOf (fin k)) barredBits (λ e. clash (ofT-injective unit (omega arith) (fin k) inf h tt (sym (bits-back unit (omega arith) (fin k)) ∙ ap (ofBits binary32) (e ∙ sym bits-inf) ∙ bits-back unit (omega arith) inf)))
+  where
+    clash : fin k ≡ inf → ⊥
+    clash e = let z : _≡_ {A = ℕ} 0 1 = cc in omega arith
+
 weight-back : (w : Tropical) → Held w → weightOf (bitsOf w) ≡ w
-weight-back (fin k) h = ap (λ (x : Float). fin (unitsOf unit x)) (bits-back unit (omega arith) (fin k)) ∙ ap fin (unitsOf-ofK unit (omega arith) k (h .1))
-weight-back inf h = let e : inf ≡ fin (h .0 .0) = h .0 .1 in let z : _≡_ {A = ℕ} 0 1 = cc in absurd (omega arith)
+weight-back (fin k) h =
+    ap (λ (t : Bool). cond t inf (fin (unitsOf unit (ofBits binary32 (bitsOf (fin k)))))) (bits-finite k h)
+    ∙ ap (λ (x : Float). fin (unitsOf unit x)) (bits-back unit (omega arith) (fin k)) ∙ ap fin (unitsOf-ofK unit (omega arith) k h)
+weight-back inf h = ap (λ (t : Bool). cond t inf (fin (unitsOf unit (ofBits binary32 (bitsOf inf))))) (eq-eqb (bitsOf inf) barredBits bits-inf)
 
 start-back : (o : Option ℕ) → ((v : ℕ) → o ≡ some v → v < noStart) → startOf (startField o) ≡ o
 start-back none f = refl

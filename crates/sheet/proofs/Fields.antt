@@ -13,7 +13,7 @@ use Rattle.sheet.specs.declared.tests.NodeTests.{NodeTests}
 use Rattle.sheet.specs.declared.tests.LinkTests.{LinkTests}
 use Rattle.sheet.specs.Below.{allBelow, sumBelow}
 use Rattle.sheet.specs.Words.{word, words}
-use Rattle.sheet.specs.Sheet.{Parts, linkCount, nodeCount, count, mark, finalBits, linkBits, next, wellMarked, startFits, onGridBits, nodesFit, nextsFit, weightsFit, verdict, partsOf, sizesFit, readNumber, statedLinks, statedNodes, trailerField, trailerLength}
+use Rattle.sheet.specs.Sheet.{Parts, linkCount, nodeCount, count, mark, finalBits, linkBits, next, wellMarked, startFits, weightFits, nodesFit, nextsFit, weightsFit, verdict, partsOf, sizesFit, readNumber, statedLinks, statedNodes, trailerField, trailerLength}
 use Rattle.sheet.specs.Records.{trailerAt}
 use Rattle.sheet.specs.Tests.{nodeTests, linkTests, judged}
 use Rattle.sheet.proofs.Below.{allBelow-same, sumBelow-same}
@@ -57,11 +57,11 @@ verdict-judged p T N counts marks finals bits nexts f = λ i. firstFailing (mark
         (λ i. allBelow (f .links-are i) (λ l. ltb (next p l) (f .nodes-are i)))
         ∙ allBelow-same T (λ l. ltb (next p l) N) (λ l. ltb (nexts l) N) (λ l h j. ltb (f .next-is l h j) N)
 
-    weighed : weightsFit p ≡ allBelow T (λ l. onGridBits (bits l)) && allBelow N (λ v. eqb (marks v) 0 || onGridBits (finals v))
+    weighed : weightsFit p ≡ allBelow T (λ l. weightFits (bits l)) && allBelow N (λ v. eqb (marks v) 0 || weightFits (finals v))
     weighed =
-        (λ i. allBelow (f .links-are i) (λ l. onGridBits (linkBits p l)) && allBelow (f .nodes-are i) (λ v. eqb (mark p v) 0 || onGridBits (finalBits p v)))
-        ∙ (λ i. allBelow-same T (λ l. onGridBits (linkBits p l)) (λ l. onGridBits (bits l)) (λ l h j. onGridBits (f .bits-is l h j)) i
-        && allBelow-same N (λ v. eqb (mark p v) 0 || onGridBits (finalBits p v)) (λ v. eqb (marks v) 0 || onGridBits (finals v)) (λ v h j. eqb (f .mark-is v h j) 0 || onGridBits (f .final-is v h j)) i)
+        (λ i. allBelow (f .links-are i) (λ l. weightFits (linkBits p l)) && allBelow (f .nodes-are i) (λ v. eqb (mark p v) 0 || weightFits (finalBits p v)))
+        ∙ (λ i. allBelow-same T (λ l. weightFits (linkBits p l)) (λ l. weightFits (bits l)) (λ l h j. weightFits (f .bits-is l h j)) i
+        && allBelow-same N (λ v. eqb (mark p v) 0 || weightFits (finalBits p v)) (λ v. eqb (marks v) 0 || weightFits (finals v)) (λ v h j. eqb (f .mark-is v h j) 0 || weightFits (f .final-is v h j)) i)
 
 -- ---- reading
 module _ (bytes : List ℕ) where

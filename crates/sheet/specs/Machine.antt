@@ -7,10 +7,10 @@ use lib.Dec.{eqb}
 use lib.ListN.{getD, replicate}
 use lib.Ieee.{binary32, ofBits, toBits}
 use Rattle.tropical_weight.specs.Limits.{unit}
-use Rattle.tropical_weight.specs.Tropical.{Tropical, fin}
+use Rattle.tropical_weight.specs.Tropical.{Tropical, fin, inf}
 use Rattle.tropical_weight.specs.Grid.{unitsOf, ofT}
 use Rattle.sheet.specs.Below.{listBelow}
-use Rattle.sheet.specs.Sheet.{Parts, noStart, linkCount, nodeCount, ilabel, olabel, linkBits, next, count, mark, finalBits, partsOf}
+use Rattle.sheet.specs.Sheet.{Parts, noStart, barredBits, linkCount, nodeCount, ilabel, olabel, linkBits, next, count, mark, finalBits, partsOf}
 
 -- A link leaves its source for its next node.
 pub record Link : Type 0 where
@@ -27,9 +27,9 @@ pub record Machine : Type 0 where
   pub start : Option ℕ
 
 -- ---- of a sheet
--- the units of a weight's field
+-- the weight of a field: infinity, or its units
 abbrev pub weightOf : ℕ → Tropical
-weightOf bits = fin (unitsOf unit (ofBits binary32 bits))
+weightOf bits = cond (eqb bits barredBits) inf (fin (unitsOf unit (ofBits binary32 bits)))
 
 -- the sources of the links of the nodes below n: a node's links follow those of the node before
 unfoldable pub sourcesBelow : Parts → ℕ → List ℕ

@@ -69,13 +69,20 @@ unfoldable pub nextsFit : Parts → Bool
 unfolding allBelow
 nextsFit p = allBelow (linkCount p) (λ l. ltb (next p l) (nodeCount p))
 
--- test 4: each link's weight, and each final weight, is on the grid
+-- the field of positive infinity, the weight of what is barred
+abbrev pub barredBits : ℕ
+barredBits = 0x7f80_0000
+
 abbrev pub onGridBits : ℕ → Bool
 onGridBits bits = gridBits unit weightLimit bits
 
+-- test 4: each link's weight, and each final weight, bars or is on the grid
+abbrev pub weightFits : ℕ → Bool
+weightFits bits = eqb bits barredBits || onGridBits bits
+
 unfoldable pub weightsFit : Parts → Bool
 unfolding allBelow gridBits
-weightsFit p = allBelow (linkCount p) (λ l. onGridBits (linkBits p l)) && allBelow (nodeCount p) (λ v. eqb (mark p v) 0 || onGridBits (finalBits p v))
+weightsFit p = allBelow (linkCount p) (λ l. weightFits (linkBits p l)) && allBelow (nodeCount p) (λ v. eqb (mark p v) 0 || weightFits (finalBits p v))
 
 -- The first number of 1 to 4 whose test fails, or 0; `laidOut` is what test 1 says besides the nodes.
 unfoldable pub verdict : Bool → Parts → ℕ

@@ -9,9 +9,10 @@ ghost use lib.ListN.{length, getD};
 ghost use Rattle.tropical_weight.specs.Limits.{unit};
 ghost use Rattle.tropical_weight.specs.Grid.{ShiftTable};
 ghost use Rattle.sheet.specs.Words.{word as wordAt};
-ghost use Rattle.sheet.specs.Sheet.{wellMarked, startFits, onGridBits};
+ghost use Rattle.sheet.specs.Sheet.{wellMarked, startFits, weightFits};
 ghost use Rattle.sheet.specs.Tests.{withNode, withLink, nodeTests, linkTests, judged};
 use crate::refusal;
+use crate::tr::BARRED;
 use crate::words::word;
 
 // What the nodes so far pass: the marks and the weights of absent finals (test 1), the links that
@@ -40,14 +41,25 @@ fn well_marked(mark: u32, bits: u32) -> bool
     if mark == 0 { bits == 0 } else { mark == 1 }
 }
 
+// Whether a weight's field bars, or is on the grid.
+fn weight_fits(shifts: &[u8; 256], bits: u32) -> bool
+    requires { ⌜ ShiftTable unit (now shifts) ⌝ }
+    ensures { λ r. ⌜ r ≡ weightFits bits ⌝ }
+{
+    if bits == BARRED {
+        return true;
+    }
+    tropical_weight::on_grid_by(shifts, bits)
+}
+
 fn final_fits(shifts: &[u8; 256], mark: u32, bits: u32) -> bool
     requires { ⌜ ShiftTable unit (now shifts) ⌝ }
-    ensures { λ r. ⌜ r ≡ eqb mark 0 || onGridBits bits ⌝ }
+    ensures { λ r. ⌜ r ≡ eqb mark 0 || weightFits bits ⌝ }
 {
     if mark == 0 {
         return true;
     }
-    tropical_weight::on_grid_by(shifts, bits)
+    weight_fits(shifts, bits)
 }
 
 fn start_fits(start: u32, nodes: u32) -> bool
@@ -79,7 +91,7 @@ fn with_link(shifts: &[u8; 256], t: LinkTests, bits: u32, next: u32, nodes: u32)
 {
     LinkTests {
         nexts: both(t.nexts, next < nodes),
-        weights: both(t.weights, tropical_weight::on_grid_by(shifts, bits)),
+        weights: both(t.weights, weight_fits(shifts, bits)),
     }
 }
 

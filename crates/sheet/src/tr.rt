@@ -29,6 +29,9 @@ pub struct Trailer {
     pub start: u32,
 }
 
+// The bits of positive infinity, the weight of what is barred.
+pub const BARRED: u32 = 0x7f80_0000;
+
 // The bytes of a trailer.
 pub const TRAILER: usize = 20;
 

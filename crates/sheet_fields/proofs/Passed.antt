@@ -13,7 +13,7 @@ use Rattle.sheet.specs.Below.{allBelow, sumBelow}
 use Rattle.sheet.specs.Words.{word}
 use Rattle.sheet.specs.Records.{linkAt, nodeAt, countAt, markAt, finalAt}
 use Rattle.sheet.specs.Reading.{nextLink}
-use Rattle.sheet.specs.Sheet.{Parts, linkCount, nodeCount, linkBits, count, mark, finalBits, wellMarked, onGridBits, nodesFit, weightsFit, partsOf, sizesFit, readNumber, statedLinks, statedNodes, trailerLength}
+use Rattle.sheet.specs.Sheet.{Parts, linkCount, nodeCount, linkBits, count, mark, finalBits, wellMarked, weightFits, nodesFit, weightsFit, partsOf, sizesFit, readNumber, statedLinks, statedNodes, trailerLength}
 use Rattle.sheet.specs.Machine.{Machine, machine, weightOf, bitsOf, finalOf, finalFields, leaving, linkFields}
 use Rattle.sheet.proofs.Apart.{both, or-either}
 use Rattle.sheet.proofs.Below.{allBelow-at, split-at}
@@ -83,10 +83,10 @@ module _ (bytes : List ℕ) (read : readNumber bytes ≡ 0) where
   unfolding partsOf
   link-word i at h e = sym (getD-words bytes 0 (4 * T) i h ∙ ap (word bytes) (let z : 0 + 4 * i ≡ at = omega arith in z))
 
-  link-grid : (l : ℕ) → l < T → onGridBits (linkBits p l) ≡ true
+  link-grid : (l : ℕ) → l < T → weightFits (linkBits p l) ≡ true
   unfolding weightsFit
   link-grid l h =
-      allBelow-at (linkCount p) (λ l. onGridBits (linkBits p l)) (both (allBelow (linkCount p) (λ l. onGridBits (linkBits p l))) (allBelow (nodeCount p) (λ v. eqb (mark p v) 0 || onGridBits (finalBits p v))) weights-fit .0) l (in-links l h)
+      allBelow-at (linkCount p) (λ l. weightFits (linkBits p l)) (both (allBelow (linkCount p) (λ l. weightFits (linkBits p l))) (allBelow (nodeCount p) (λ v. eqb (mark p v) 0 || weightFits (finalBits p v))) weights-fit .0) l (in-links l h)
 
   pub link-fields : (l : ℕ) → l < T → linkWords (linkAt bytes l) ≡ linkFields (link m l)
   link-fields l h =
@@ -113,15 +113,15 @@ module _ (bytes : List ℕ) (read : readNumber bytes ≡ 0) where
       (λ i. wellMarked (sym (f .mark-is v h) i) (sym (f .final-is v h) i))
       ∙ allBelow-at (nodeCount p) (λ v. wellMarked (mark p v) (finalBits p v)) (both (allBelow (nodeCount p) (λ v. wellMarked (mark p v) (finalBits p v))) (eqb (sumBelow (nodeCount p) (count p)) (linkCount p)) nodes-fit .0) v (in-nodes v h)
 
-  final-grid : (v : ℕ) → v < N → eqb (markAt bytes T v) 0 || onGridBits (finalAt bytes T v) ≡ true
+  final-grid : (v : ℕ) → v < N → eqb (markAt bytes T v) 0 || weightFits (finalAt bytes T v) ≡ true
   unfolding weightsFit
   final-grid v h =
       let f = read-fields bytes in
-      (λ i. eqb (sym (f .mark-is v h) i) 0 || onGridBits (sym (f .final-is v h) i))
-      ∙ allBelow-at (nodeCount p) (λ v. eqb (mark p v) 0 || onGridBits (finalBits p v)) (both (allBelow (linkCount p) (λ l. onGridBits (linkBits p l))) (allBelow (nodeCount p) (λ v. eqb (mark p v) 0 || onGridBits (finalBits p v))) weights-fit .1) v (in-nodes v h)
+      (λ i. eqb (sym (f .mark-is v h) i) 0 || weightFits (sym (f .final-is v h) i))
+      ∙ allBelow-at (nodeCount p) (λ v. eqb (mark p v) 0 || weightFits (finalBits p v)) (both (allBelow (linkCount p) (λ l. weightFits (linkBits p l))) (allBelow (nodeCount p) (λ v. eqb (mark p v) 0 || weightFits (finalBits p v))) weights-fit .1) v (in-nodes v h)
 
   -- a mark and a weight's field that pass are those of the final weight
-  final-words : (mark bits : ℕ) → wellMarked mark bits ≡ true → eqb mark 0 || onGridBits bits ≡ true → mark ∷ toBits binary32 (ofBits binary32 bits) ∷ [] ≡ finalFields (finalOf mark bits)
+  final-words : (mark bits : ℕ) → wellMarked mark bits ≡ true → eqb mark 0 || weightFits bits ≡ true → mark ∷ toBits binary32 (ofBits binary32 bits) ∷ [] ≡ finalFields (finalOf mark bits)
   final-words mark bits w g = go (or-either (eqb mark 1) (eqb mark 0 && eqb bits 0) w)
     where
       zero-bits : toBits binary32 (ofBits binary32 0) ≡ 0
@@ -130,7 +130,7 @@ module _ (bytes : List ℕ) (read : readNumber bytes ≡ 0) where
       go : (eqb mark 1 ≡ true) ⊎ (eqb mark 0 && eqb bits 0 ≡ true) → mark ∷ toBits binary32 (ofBits binary32 bits) ∷ [] ≡ finalFields (finalOf mark bits)
       go (inl e) =
           let one = eqb-true mark 1 e in
-          let grid : onGridBits bits ≡ true = ap (λ (b : Bool). b || onGridBits bits) (sym (ne-eqb mark 0 (λ z. omega (arith, one, z)))) ∙ g in
+          let grid : weightFits bits ≡ true = ap (λ (b : Bool). b || weightFits bits) (sym (ne-eqb mark 0 (λ z. omega (arith, one, z)))) ∙ g in
           (λ i. one i ∷ toBits binary32 (weight-value bits grid i) ∷ []) ∙ sym (ap (λ (k : ℕ). finalFields (finalOf k bits)) one)
       go (inr e) =
           let z = both (eqb mark 0) (eqb bits 0) e in

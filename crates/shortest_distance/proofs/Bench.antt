@@ -1,4 +1,4 @@
--- Case P1 of document 01, nodes that no run leads to, and the tests of the areas at their limits, by computation on the definitions. Assumes nothing.
+-- Case P1 of document 01, nodes that no run leads to, barred links, and the tests of the areas at their limits, by computation on the definitions. Assumes nothing.
 use mathlib.Core.Path.{_≡_, refl}
 use mathlib.Core.List.{List, [], _∷_}
 use Prim.Native.Nat.{ℕ}
@@ -29,3 +29,16 @@ lone = bytesOfAll (0 ∷ 0 ∷ 0 ∷ 0 ∷ 0 ∷ 0 ∷ 0 ∷ 0 ∷ 0 ∷ 0 ∷ 0
 values-lone : (answerOf lone ≡ bytesOfAll (0 ∷ 0 ∷ 0 ∷ 0 ∷ 1 ∷ 0 ∷ [])) × (distanceAnswer lone 24 24 ≡ Count 3) × (distanceAnswer lone 24 23 ≡ Refused 21)
 unfolding lone machineOf distanceNumber ofK round toBits bytesOfAll
 values-lone = (refl, refl, refl)
+
+-- links 0-1 at 5, a barred 0-1, a barred 1-2, and 2-3 at 0
+unfoldable sheetE : List ℕ
+unfolding bytesOfAll
+sheetE =
+    bytesOfAll (1 ∷ 1 ∷ 0x40a0_0000 ∷ 1 ∷ 2 ∷ 2 ∷ 0x7f80_0000 ∷ 1 ∷ 3 ∷ 3 ∷ 0x7f80_0000 ∷ 2 ∷ 4 ∷ 4 ∷ 0 ∷ 3
+    ∷ 2 ∷ 0 ∷ 0 ∷ 1 ∷ 1 ∷ 0x3f80_0000 ∷ 1 ∷ 1 ∷ 0x7f80_0000 ∷ 0 ∷ 1 ∷ 0
+    ∷ 0 ∷ 64 ∷ 4 ∷ 4 ∷ 0 ∷ [])
+
+-- node 2 counts and is unreached: a barred link leads to it from node 1; node 3 is led to from node 2 alone, and does not count
+values-E : (answerOf sheetE ≡ bytesOfAll (1 ∷ 0 ∷ 1 ∷ 0x40a0_0000 ∷ 0 ∷ 0 ∷ [])) × (distanceAnswer sheetE 32 24 ≡ Count 3) × (distanceAnswer sheetE 32 23 ≡ Refused 21)
+unfolding sheetE machineOf distanceNumber ofK round toBits bytesOfAll
+values-E = (refl, refl, refl)

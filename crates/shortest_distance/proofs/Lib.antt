@@ -4,6 +4,7 @@ pub mod Turns
 pub mod Kept
 pub mod Rows
 pub mod Starts
+pub mod Lengths
 pub mod Outcomes
 pub mod Promises
 pub mod Making

@@ -68,7 +68,7 @@ module _ (bytes old : List ℕ) (e : inputNumber bytes ≡ 0) (room : 8 * stated
         go false q = refl
 
     infinite : (v : ℕ) → dist (machine bytes) v ≡ inf
-    infinite v = unreached-inf (machine bytes) (fields-nodes bytes e .climbs) v (unreached v)
+    infinite v = unreached-inf (machine bytes) v (unreached v)
 
     made-none : Made bytes old (prepared bytes (statedLinks bytes) (statedNodes bytes) old)
     made-none = record {

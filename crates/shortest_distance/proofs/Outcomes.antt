@@ -3,7 +3,6 @@ use mathlib.Core.Path.{_≡_, refl, sym, ap, _∙_, subst}
 use mathlib.Core.Bool.{Bool, true, false, not, _||_, cond}
 use mathlib.Core.List.{List, _++_, flatMap}
 use Prim.Native.Nat.{ℕ, zero, suc, _*_, _/_, _≤_, _<_}
-use native.Mathlib.Nat.{le-refl}
 use native.Mathlib.Omega.{arith}
 use lib.Dec.{ltb, eqb}
 use lib.ListN.{length, drop}
@@ -11,7 +10,7 @@ use borrow.Author.Tests.{lt-ltb, le-ltb, ne-eqb}
 use Rattle.sheet.specs.declared.tr.Trailer.{Trailer}
 use Rattle.sheet.specs.Below.{listBelow}
 use Rattle.sheet.specs.Records.{trailerAt}
-use Rattle.sheet.specs.Sheet.{partsOf, statedLinks}
+use Rattle.sheet.specs.Sheet.{partsOf}
 use Rattle.sheet.proofs.Fields.{read-fields}
 use Rattle.sheet.proofs.Below.{length-listBelow, flat-snoc}
 use Rattle.sheet.proofs.Bytes.{length-bytesOfAll}
@@ -21,22 +20,21 @@ use Rattle.sheet.specs.Machine.{machine}
 use Rattle.machine.specs.Distance as Named
 use Rattle.machine.specs.Distance.{distance, distances, height}
 use Rattle.machine.specs.Input.{inputNumber}
-use Rattle.machine.proofs.SheetFields.{fields-nodes}
-use Rattle.machine.proofs.Accepted.{passes, finite-machine}
+use Rattle.machine.proofs.SheetFields.{fields-for}
 use Rattle.machine.proofs.Reached.{height-le}
 use Rattle.distance.specs.Written.{written}
-use Rattle.distance.specs.Held.{held, reachedIn, wordsIn}
+use Rattle.distance.specs.Held.{held, wordsIn}
 use Rattle.distance.proofs.Words.{words-written}
 use Rattle.distance.proofs.Written.{length-written}
 use Rattle.shortest_distance.specs.declared.Distances.{Distances}
 use Rattle.shortest_distance.specs.declared.Distances.the-variants.{Count, Refused}
 use Rattle.slots.specs.Slots.{cleared}
-use Rattle.shortest_distance.specs.NodeSlots.{distanceAt, distanceWords, heightIn}
+use Rattle.shortest_distance.specs.NodeSlots.{distanceAt, distanceWords, lengthIn}
 use Rattle.shortest_distance.specs.Handed.{handed, handedBy, handedOver}
 use Rattle.shortest_distance.specs.Outcome.{answerOf, slotsNeeded, distanceNumber, distancesBy, distanceAnswer, workAfter, resultAfter}
 use Rattle.shortest_distance.specs.Sound.{Made}
 use Rattle.slots.proofs.Clearing.{cleared-same}
-use Rattle.shortest_distance.proofs.Starts.{height-is}
+use Rattle.shortest_distance.proofs.Lengths.{length-is}
 
 -- ---- the words of slots that hold these distances are those they are written in
 words-are : (work : List ℕ) (f : ℕ → Named.Distance) (n : ℕ) → ((v : ℕ) → v < n → distanceAt work v ≡ held (f v)) → distanceWords work n ≡ flatMap written (listBelow n f)
@@ -92,38 +90,27 @@ module _ (bytes work result : List ℕ) where
       (number-state bytes (length work) (length result) e ∙ ap (λ (b : Bool). cond b 20 (cond (ltb (length result) (length (answerOf bytes))) 21 0)) (lt-ltb (length work / 8) (slotsNeeded bytes) h))
 
   -- ---- distances made, handed over and cleared
-  module _ (e : inputNumber bytes ≡ 0) (slots : slotsNeeded bytes ≤ length work / 8) (made : List ℕ) (h : Made bytes work made) where
-    n : ℕ
-    n = heightIn made (slotsNeeded bytes)
-
-    nodes : length (machine bytes .finals) ≡ slotsNeeded bytes
-    nodes = machine-nodes (partsOf bytes)
-
-    height-same : heightIn made (slotsNeeded bytes) ≡ height (machine bytes)
-    height-same =
-        ap (heightIn made) (sym nodes)
-        ∙ height-is bytes (statedLinks bytes) (machine bytes) (fields-nodes bytes e) work (finite-machine (partsOf bytes) (passes bytes e)) made (λ v b. h .each v (subst (λ (k : ℕ). v < k) nodes b)) (length (machine bytes .finals)) (le-refl (length (machine bytes .finals)))
-
-    count-same : heightIn made (slotsNeeded bytes) ≡ length (distances (machine bytes))
+  module _ (e : inputNumber bytes ≡ 0) (slots : slotsNeeded bytes ≤ length work / 8) (made : List ℕ) (h : Made bytes work made) (n : ℕ) (height-same : n ≡ height (machine bytes)) where
+    count-same : n ≡ length (distances (machine bytes))
     unfolding distances
     count-same = height-same ∙ sym (length-listBelow (height (machine bytes)) (distance (machine bytes)))
 
-    words-same : distanceWords made (heightIn made (slotsNeeded bytes)) ≡ flatMap written (distances (machine bytes))
+    words-same : distanceWords made n ≡ flatMap written (distances (machine bytes))
     unfolding distances
     words-same =
         ap (λ (k : ℕ). distanceWords made k) height-same
-        ∙ words-are made (distance (machine bytes)) (height (machine bytes)) (λ v b. h .each v (omega (arith, height-le (machine bytes), nodes)))
+        ∙ words-are made (distance (machine bytes)) (height (machine bytes)) (λ v b. h .each v (omega (arith, height-le (machine bytes), machine-nodes (partsOf bytes))))
 
-    answer-length : length (answerOf bytes) ≡ 8 * heightIn made (slotsNeeded bytes)
+    answer-length : length (answerOf bytes) ≡ 8 * n
     answer-length = answer-bytes bytes ∙ ap (λ (k : ℕ). 8 * k) (sym count-same)
 
     number : distanceNumber bytes (length work) (length result) ≡ cond (ltb (length result) (length (answerOf bytes))) 21 0
     number = number-state bytes (length work) (length result) e ∙ ap (λ (b : Bool). cond b 20 (cond (ltb (length result) (length (answerOf bytes))) 21 0)) (le-ltb (length work / 8) (slotsNeeded bytes) slots)
 
-    outcome-made : Outcome (handed (heightIn made (slotsNeeded bytes)) (length result)) (cleared (slotsNeeded bytes) made) (handedOver (distanceWords made (heightIn made (slotsNeeded bytes))) result)
+    outcome-made : Outcome (handed n (length result)) (cleared (slotsNeeded bytes) made) (handedOver (distanceWords made n) result)
     outcome-made = record {
       answer-is =
-          ap (λ (k : ℕ). handedBy (ltb (length result) k) (heightIn made (slotsNeeded bytes))) (sym answer-length)
+          ap (λ (k : ℕ). handedBy (ltb (length result) k) n) (sym answer-length)
           ∙ by-room (ltb (length result) (length (answerOf bytes)))
           ∙ sym (ap (λ (k : ℕ). distancesBy (eqb k 0) (length (distances (machine bytes))) k) number);
       work-is =
@@ -136,7 +123,7 @@ module _ (bytes work result : List ℕ) where
           ∙ sym (ap (λ (k : ℕ). cond (eqb k 0) (answerOf bytes ++ drop (length (answerOf bytes)) result) result) number);
     }
       where
-        by-room : (b : Bool) → handedBy b (heightIn made (slotsNeeded bytes)) ≡ distancesBy (eqb (cond b 21 0) 0) (length (distances (machine bytes))) (cond b 21 0)
+        by-room : (b : Bool) → handedBy b n ≡ distancesBy (eqb (cond b 21 0) 0) (length (distances (machine bytes))) (cond b 21 0)
         by-room true = refl
         by-room false = ap Count count-same
 
@@ -149,15 +136,6 @@ module _ (bytes work result : List ℕ) where
         turned false = refl
 
 -- ---- as the code goes, by the fields of the trailer that reading found
-pub height-low : (work : List ℕ) (n : ℕ) → heightIn work n ≤ n
-unfolding heightIn
-height-low work zero = omega arith
-height-low work (suc v) = go (reachedIn (distanceAt work v)) (height-low work v)
-  where
-    go : (b : Bool) → heightIn work v ≤ v → cond b (suc v) (heightIn work v) ≤ suc v
-    go true h = omega arith
-    go false h = omega arith
-
 module _ (bytes work result : List ℕ) (e : inputNumber bytes ≡ 0) (t : Trailer) (same : t ≡ trailerAt bytes) where
   nodes-same : t .nodes ≡ slotsNeeded bytes
   nodes-same = ap (λ (t : Trailer). t .nodes) same ∙ sym (read-fields bytes .nodes-are)
@@ -165,8 +143,14 @@ module _ (bytes work result : List ℕ) (e : inputNumber bytes ≡ 0) (t : Trail
   pub few-slots : length work / 8 < t .nodes → Outcome bytes work result (Refused 20) work result
   few-slots h = outcome-20 bytes work result e (subst (λ (n : ℕ). length work / 8 < n) nodes-same h)
 
-  pub handed-over : t .nodes ≤ length work / 8 → (made : List ℕ) → Made bytes work made
-      → Outcome bytes work result (handed (heightIn made (t .nodes)) (length result)) (cleared (t .nodes) made) (handedOver (distanceWords made (heightIn made (t .nodes))) result)
-  handed-over h made is =
-      subst (λ (n : ℕ). Outcome bytes work result (handed (heightIn made n) (length result)) (cleared n made) (handedOver (distanceWords made (heightIn made n)) result)) (sym nodes-same)
-      (outcome-made bytes work result e (subst (λ (n : ℕ). n ≤ length work / 8) nodes-same h) made is)
+  module _ (made : List ℕ) (is : Made bytes work made) (n : ℕ) (found : n ≡ lengthIn bytes (t .links) (t .nodes) made) where
+    height-found : n ≡ height (machine bytes)
+    height-found = found ∙ length-is bytes (t .links) (t .nodes) (machine bytes) (fields-for bytes e t same) made (λ v b. is .each v (subst (λ (k : ℕ). v < k) nodes-same b))
+
+    pub height-low : n ≤ t .nodes
+    height-low = omega (arith, height-found, height-le (machine bytes), fields-for bytes e t same .nodes-are)
+
+    pub handed-over : t .nodes ≤ length work / 8 → Outcome bytes work result (handed n (length result)) (cleared (t .nodes) made) (handedOver (distanceWords made n) result)
+    handed-over h =
+        subst (λ (k : ℕ). Outcome bytes work result (handed n (length result)) (cleared k made) (handedOver (distanceWords made n) result)) (sym nodes-same)
+        (outcome-made bytes work result e (subst (λ (k : ℕ). k ≤ length work / 8) nodes-same h) made is n height-found)

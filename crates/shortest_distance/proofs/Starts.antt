@@ -1,10 +1,10 @@
--- The state before the first link, and what the answer is made of once all are relaxed. Assumes nothing.
-use mathlib.Core.Path.{_≡_, refl, sym, ap, _∙_, subst}
+-- The state before the first link. Assumes nothing.
+use mathlib.Core.Path.{_≡_, sym, ap, _∙_, subst}
 use mathlib.Core.Logic.{_⊎_, inl, inr}
-use mathlib.Core.Bool.{Bool, true, false, _&&_, _||_, cond, and-false, or-false}
+use mathlib.Core.Bool.{Bool, false, _&&_, _||_, and-false, or-false}
 use mathlib.Core.Option.{some}
 use mathlib.Core.List.{List}
-use Prim.Native.Nat.{ℕ, zero, suc, _*_, _≤_, _<_}
+use Prim.Native.Nat.{ℕ, _*_, _≤_, _<_}
 use native.Mathlib.Decide.{ℕ-discrete}
 use native.Mathlib.Omega.{arith}
 use lib.Dec.{leb, ltb, eqb}
@@ -15,21 +15,17 @@ use borrow.Author.Tests.{le-leb, lt-ltb, le-ltb, eq-eqb, ne-eqb}
 use Rattle.tropical_weight.specs.Limits.{nodeLimit}
 use Rattle.sheet.specs.Machine.{Machine}
 use Rattle.sheet.proofs.Below.{split-at}
-use Rattle.machine.specs.Climbs.{Finite}
-use Rattle.machine.specs.Distance.{Distance, reached, unreached, asWeight, startRow, relax, dist, distance, isReached, heightBelow}
+use Rattle.machine.specs.Distance.{Distance, reached, unreached, asWeight, startRow, relax}
 use Rattle.machine.specs.Parents.{lowest}
 use Rattle.machine.proofs.SheetFields.{SheetFields}
-use Rattle.machine.proofs.Named.{weight-of}
 use Rattle.machine.proofs.Fold.{chosen, offer}
 use Rattle.machine.proofs.Relax.{rowAt}
-use Rattle.machine.proofs.Reached.{reached-finite, unreached-inf}
 use Rattle.state_order_queue.specs.Queues.{holds, emptied, enqueued}
 use Rattle.state_order_queue.proofs.Sets.{emptied-full, emptied-valid, emptied-empty, empty-exactly, enqueued-holds}
-use Rattle.distance.specs.Held.{held, reachedIn, withDistance}
+use Rattle.distance.specs.Held.{held, withDistance}
 use Rattle.distance.proofs.Words.{put-back, put-other, put-drop, put-length}
-use Rattle.distance.proofs.Offers.{reached-held}
 use Rattle.shortest_distance.specs.ParentWords.{parentAt, parentFrom}
-use Rattle.shortest_distance.specs.NodeSlots.{distanceAt, prepared, heightIn}
+use Rattle.shortest_distance.specs.NodeSlots.{distanceAt, prepared}
 use Rattle.shortest_distance.specs.Relaxation.{State}
 use Rattle.shortest_distance.specs.Sound.{Sound}
 use Rattle.shortest_distance.proofs.ParentWords.{put-parent}
@@ -104,20 +100,3 @@ module _ (bytes : List ℕ) (links : ℕ) (m : Machine) (f : SheetFields bytes l
       beyond = put-drop (prepared bytes links (length (m .finals)) old) (8 * s) (held zero-cost) (8 * length (m .finals)) (omega arith) ∙ prepared-beyond bytes links (length (m .finals)) old;
       flags = flag-begun;
     }
-
-  -- ---- distances made: how many are written
-  module _ (finite : Finite m) (work : List ℕ) (made : (v : ℕ) → v < length (m .finals) → distanceAt work v ≡ held (distance m v)) where
-    reached-is : (v : ℕ) → v < length (m .finals) → isReached m v ≡ isFinite (dist m v)
-    reached-is v b = go (isReached m v) refl
-      where
-        go : (t : Bool) → isReached m v ≡ t → t ≡ isFinite (dist m v)
-        go true e = sym (ap isFinite (reached-finite m (f .climbs) finite v e .1))
-        go false e = sym (ap isFinite (unreached-inf m (f .climbs) v e))
-
-    pub height-is : (n : ℕ) → n ≤ length (m .finals) → heightIn work n ≡ heightBelow m n
-    unfolding heightIn heightBelow
-    height-is zero h = refl
-    height-is (suc v) h =
-        let b : v < length (m .finals) = h in
-        let found : reachedIn (distanceAt work v) ≡ isReached m v = ap reachedIn (made v b) ∙ reached-held (distance m v) ∙ ap isFinite (weight-of (dist m v)) ∙ sym (reached-is v b) in
-        λ i. cond (found i) (suc v) (height-is v (omega arith) i)

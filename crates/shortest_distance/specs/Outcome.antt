@@ -14,7 +14,7 @@ use Rattle.shortest_distance.specs.declared.Distances.{Distances}
 use Rattle.shortest_distance.specs.declared.Distances.the-variants as Distances
 use Rattle.slots.specs.Slots.{cleared}
 
--- one distance per node up to the highest reached, two words each
+-- one distance per node up to the highest reached, or led to from a reached one, two words each
 abbrev pub answerOf : List ℕ → List ℕ
 answerOf bytes = bytesOfAll (flatMap written (distances (machine bytes)))
 

@@ -6,19 +6,29 @@ use mathlib.Core.Option.{some}
 use mathlib.Core.List.{List}
 use Prim.Native.Nat.{ℕ, suc, _+_, _*_, _<_}
 use lib.IntN.{ℤ}
+use lib.ListN.{length}
 use Rattle.tropical_weight.specs.Tropical.{fin, _≼_}
 use Rattle.sheet.specs.Words.{word}
 use Rattle.sheet.specs.Machine.{Machine, machine, bitsOf}
-use Rattle.machine.specs.Readings.{IsRun, runCost}
+use Rattle.machine.specs.Readings.{link, IsRun, runCost}
 use Rattle.shortest_distance.specs.declared.Distances.{Distances}
 use Rattle.shortest_distance.specs.declared.Distances.the-variants as Distances
 
--- a run of links from the start to v
+-- a run of links from the start to v, at a finite cost
 pub record RunTo (m : Machine) (v : ℕ) : Type 0 where
   pub start : ℕ
   pub run : List ℕ
   pub starts : m .start ≡ some start
   pub runs : IsRun m start run v
+  pub costs : ℤ
+  pub finite : runCost m run ≡ fin costs
+
+-- a link, barred or not, that leads to v from a node that such a run leads to
+pub record LedTo (m : Machine) (v : ℕ) : Type 0 where
+  pub by : ℕ
+  pub exists : by < length (m .links)
+  pub leads : link m by .next ≡ v
+  pub from : RunTo m (link m by .source)
 
 -- So many units are the least cost of a run to v.
 pub record LeastTo (m : Machine) (v : ℕ) (k : ℤ) : Type 0 where
@@ -34,7 +44,7 @@ pub record ReachedAt (m : Machine) (result : List ℕ) (v : ℕ) : Type 0 where
   pub bits : word result (8 * v + 4) ≡ bitsOf (fin cost)
   pub least : LeastTo m v cost
 
--- They are 0 and 0, and no run leads to it.
+-- They are 0 and 0, and no such run leads to it.
 pub record UnreachedAt (m : Machine) (result : List ℕ) (v : ℕ) : Type 0 where
   pub mark : word result (8 * v) ≡ 0
   pub bits : word result (8 * v + 4) ≡ 0
@@ -44,9 +54,9 @@ pub record UnreachedAt (m : Machine) (result : List ℕ) (v : ℕ) : Type 0 wher
 pub record Least (m : Machine) (count : ℕ) (result : List ℕ) : Type 0 where
   -- each is reached with its cost, or unreached
   pub values : (v : ℕ) → v < count → ReachedAt m result v ⊎ UnreachedAt m result v
-  -- the count is above every node that a run leads to, and one more than such a node, or 0
-  pub above : (v : ℕ) → RunTo m v → v < count
-  pub highest : (v : ℕ) → count ≡ suc v → RunTo m v
+  -- the count is above every node that such a run leads to, or such a link, and one more than such a node, or 0
+  pub above : (v : ℕ) → RunTo m v ⊎ LedTo m v → v < count
+  pub highest : (v : ℕ) → count ≡ suc v → RunTo m v ⊎ LedTo m v
 
 -- of an answer, and the result area afterwards
 abbrev pub Promised : List ℕ → Distances → List ℕ → Type 0

@@ -69,13 +69,13 @@ fn distances_of(sheet: &[u8], t: Trailer, work: &mut [u32], result: &mut [u8]) -
         return Distances::Refused(refusal::WORK);
     }
     make(sheet, t, work);
-    let answer = hand_over(work, node_slots::height(work, nodes), result);
+    let answer = hand_over(work, node_slots::height(sheet, t, work), result);
     slots::clear(work, nodes);
     answer
 }
 
-// Distances of a sheet's nodes, one per node up to the highest reached, into the result area: two
-// words each, 1 and the weight bits, or 0 and 0 where the node is unreached.
+// Distances of a sheet's nodes, one per node up to the highest reached, or led to from a reached one,
+// into the result area: two words each, 1 and the weight bits, or 0 and 0 where the node is unreached.
 // A work slot is eight words; the slots of the nodes are left zero unless the sheet or the count of
 // slots is refused.
 pub fn shortest_distance(sheet: &[u8], work: &mut [u32], result: &mut [u8]) -> Distances

@@ -27,7 +27,7 @@ pub record Keeps (m : Machine) (n nodes links taken : ℕ) (result : List ℕ) :
   pub parents : n ≡ 1 → map (readingOf m) (listOf n nodes links result) ≡ ifAny (best m)
   -- from n = 2, where there is a reading, the list holds those that the search lists, in its order, and taken is the number that it removes
   pub searched : 2 ≤ n → (x : Reading) → IsReading m x → (listOf n nodes links result ≡ runs (search m n)) × (taken ≡ search m n .taken)
-  -- the search has stopped by itself: its n-th finished entry is taken, or its heap is empty
+  -- the search has stopped by itself: its n-th listed entry is taken, or its heap is empty
   pub stops : stopped (reversed m) n (search m n) ≡ true
   -- taken is 0 without a reading, as it is for n below 2
   pub unread : ((x : Reading) → IsReading m x → ⊥) → taken ≡ 0

@@ -31,7 +31,7 @@ module _ (m : Machine) (c : Climbs m) where
   start-none v l s e =
       let p = parent-is m v l e in
       let u = term (dist m (link m l .source)) (link m l .weight) (p .1 .0) (p .0 .sum ∙ p .1 .1) in
-      let up = reached-above m c v (link m l .source) s (finite-reached m c (link m l .source) (u .0) (u .1)) in
+      let up = reached-above m c v (link m l .source) s (finite-reached m (link m l .source) (u .0) (u .1)) in
       omega (arith, parent-up v l e .1)
 
   module _ (work : List ℕ) (parents : (v : ℕ) → v < length (m .finals) → parentAt work v ≡ parentFrom m (parent m v)) where

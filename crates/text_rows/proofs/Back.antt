@@ -20,20 +20,22 @@ use Rattle.tropical_weight.proofs.Exact.{bits-back}
 use Rattle.tropical_weight.proofs.Grid.{gridBits-means, unitsOf-ofK}
 use Rattle.sheet.specs.Below.{sumBelow, listBelow, allBelow}
 use Rattle.sheet.specs.Machine.{bitsOf}
-use Rattle.sheet.specs.Sheet.{Parts, linkCount, nodeCount, ilabel, olabel, linkBits, next, count, mark, finalBits, wellMarked, onGridBits, nodesFit, nextsFit, weightsFit}
+use Rattle.sheet.specs.Sheet.{Parts, linkCount, nodeCount, ilabel, olabel, linkBits, next, count, mark, finalBits, wellMarked, barredBits, onGridBits, weightFits, nodesFit, nextsFit, weightsFit}
 use Rattle.sheet.proofs.Below.{allBelow-at, allBelow-of, split-at, flat-snoc}
 use Rattle.sheet.proofs.Apart.{both, or-either}
 use Rattle.sheet.proofs.Sources.{counts-sum}
-use Rattle.text_rows.specs.Rows.{Row, link, final, highest, firstNode, unitsOf, onGrid, weightIn, weightsOnGrid, anyFinal, finalsOnce}
+use Rattle.sheet.proofs.Encoding.{bits-inf}
+use Rattle.text_rows.specs.Fields.{finite, barred}
+use Rattle.text_rows.specs.Rows.{Row, link, final, highest, firstNode, unitsOf, onGrid, weightIn, weightPasses, weightsPass, anyFinal, finalsOnce}
 use Rattle.text_rows.specs.Convert.{fieldOf, linkFrom, countFrom, markFields, nodesIn, partsOfRows}
 use Rattle.text_rows.specs.Written.{firstOf, hasOwn, isLed, hasRows}
-use Rattle.text_rows.specs.RowsFor.{inMillionths, millionths, linkRowFor, finalRowFor, nodeRowsFor, rowsFor}
+use Rattle.text_rows.specs.RowsFor.{inMillionths, millionths, weightFor, linkRowFor, finalRowFor, nodeRowsFor, rowsFor}
 use Rattle.text_rows.proofs.Segments.{segments, same-segments, sum-to, length-links}
 use Rattle.text_rows.proofs.Filled.{Named, named-under, segments-flat, by-threes, finals-two, in-pieces}
 use Rattle.text_rows.proofs.Fitting.{link-on, final-on}
 use Rattle.text_rows.proofs.Judged.{Fours, fours-at, fours-segments, fours-rows, each-next, natAbs-neg}
 
--- ---- a weight's field from its millionths
+-- ---- a weight's field back
 units-back : (k : ℤ) → unitsOf (inMillionths k) ≡ k
 units-back (pos k) = ap pos (let e : 15625 * k * 64 / 1000000 ≡ k = omega arith in e)
 units-back (negsuc k) = neg (15625 * suc k) (omega arith) ∙ ap (λ (x : ℕ). negℤ (pos x)) (let e : 15625 * suc k * 64 / 1000000 ≡ suc k = omega arith in e)
@@ -52,9 +54,13 @@ units-of bits h e =
     ap (λ (b : ℕ). Grid.unitsOf unit (ofBits binary32 b)) (sym (g .2)) ∙ ap (Grid.unitsOf unit) (bits-back unit (omega arith) (fin k)) ∙ unitsOf-ofK unit (omega arith) k few in
     (subst (λ (z : ℤ). natAbs z ≤ weightLimit) (sym units) (g .1), ap (λ (z : ℤ). bitsOf (fin z)) units ∙ g .2)
 
-pub field-back : (bits : ℕ) → bits < 4294967296 → onGridBits bits ≡ true → fieldOf (millionths bits) ≡ bits
+field-back : (bits : ℕ) → bits < 4294967296 → weightFits bits ≡ true → fieldOf (weightFor bits) ≡ bits
 unfolding millionths
-field-back bits h e = ap (λ (z : ℤ). bitsOf (fin z)) (units-back (Grid.unitsOf unit (ofBits binary32 bits))) ∙ units-of bits h e .1
+field-back bits h e = go (eqb bits barredBits) refl e
+  where
+    go : (b : Bool) → eqb bits barredBits ≡ b → b || onGridBits bits ≡ true → fieldOf (cond b barred (finite (millionths bits))) ≡ bits
+    go true q e = bits-inf ∙ sym (eqb-true bits barredBits q)
+    go false q e = ap (λ (z : ℤ). bitsOf (fin z)) (units-back (Grid.unitsOf unit (ofBits binary32 bits))) ∙ units-of bits h e .1
 
 on-grid : (k : ℤ) → natAbs k ≤ weightLimit → onGrid (inMillionths k) ≡ true
 on-grid (pos k) h = λ i. eq-eqb (15625 * k * 64 % 1000000) 0 (omega arith) i && le-leb (15625 * k * 64 / 1000000) weightLimit (omega arith) i
@@ -62,14 +68,18 @@ on-grid (negsuc k) h =
     (λ i. eqb (natAbs-neg (15625 * suc k) i * 64 % 1000000) 0 && leb (natAbs-neg (15625 * suc k) i * 64 / 1000000) weightLimit)
     ∙ λ i. eq-eqb (15625 * suc k * 64 % 1000000) 0 (omega arith) i && le-leb (15625 * suc k * 64 / 1000000) weightLimit (omega arith) i
 
-pub millionths-on : (bits : ℕ) → bits < 4294967296 → onGridBits bits ≡ true → onGrid (millionths bits) ≡ true
+weight-passes : (bits : ℕ) → bits < 4294967296 → weightFits bits ≡ true → weightPasses (weightFor bits) ≡ true
 unfolding millionths
-millionths-on bits h e = on-grid (Grid.unitsOf unit (ofBits binary32 bits)) (units-of bits h e .0)
+weight-passes bits h e = go (eqb bits barredBits) e
+  where
+    go : (b : Bool) → b || onGridBits bits ≡ true → weightPasses (cond b barred (finite (millionths bits))) ≡ true
+    go true e = refl
+    go false e = on-grid (Grid.unitsOf unit (ofBits binary32 bits)) (units-of bits h e .0)
 
-weights-append : (xs ys : List Row) → weightsOnGrid xs ≡ true → weightsOnGrid ys ≡ true → weightsOnGrid (xs ++ ys) ≡ true
-unfolding weightsOnGrid
+weights-append : (xs ys : List Row) → weightsPass xs ≡ true → weightsPass ys ≡ true → weightsPass (xs ++ ys) ≡ true
+unfolding weightsPass
 weights-append [] ys h k = k
-weights-append (x ∷ xs) ys h k = let r = both (onGrid (weightIn x)) (weightsOnGrid xs) h in λ i. r .0 i && weights-append xs ys (r .1) k i
+weights-append (x ∷ xs) ys h k = let r = both (weightPasses (weightIn x)) (weightsPass xs) h in λ i. r .0 i && weights-append xs ys (r .1) k i
 
 -- ---- rows collected by node
 module _ (F : Row → List ℕ) where
@@ -231,7 +241,7 @@ module _ (p : Parts) (four : length (p .links) ≡ 4 * linkCount p) (three : len
   owned-final : (v : ℕ) → Owned v (finalRowFor p v)
   owned-final v = go (eqb (mark p v) 0)
     where
-      go : (b : Bool) → Owned v (cond b [] (final v (millionths (finalBits p v)) ∷ []))
+      go : (b : Bool) → Owned v (cond b [] (final v (weightFor (finalBits p v)) ∷ []))
       go true = tt
       go false = (refl, tt)
 
@@ -274,7 +284,7 @@ module _ (p : Parts) (four : length (p .links) ≡ 4 * linkCount p) (three : len
         ∙ λ i. others (p .start) (λ q. omega (arith, q)) i ++ only-none F N (λ u. cond (eqb u (p .start)) [] (nodeRowsFor p u)) (λ u b. not-v u (λ q. omega (arith, q))) i
 
   -- ---- a node's links
-  link-fields : (l : ℕ) → l < T → ilabel p l ∷ olabel p l ∷ fieldOf (millionths (linkBits p l)) ∷ next p l ∷ [] ≡ take 4 (drop (4 * l) (p .links))
+  link-fields : (l : ℕ) → l < T → ilabel p l ∷ olabel p l ∷ fieldOf (weightFor (linkBits p l)) ∷ next p l ∷ [] ≡ take 4 (drop (4 * l) (p .links))
   link-fields l h =
       let ls = p .links in
       let k = 4 * l in
@@ -289,7 +299,7 @@ module _ (p : Parts) (four : length (p .links) ≡ 4 * linkCount p) (three : len
   one-link : (v l : ℕ) → l < T → flatMap (linkFrom v) (linkRowFor p v l ∷ []) ≡ take 4 (drop (4 * l) (p .links))
   unfolding flatMap
   one-link v l h =
-      ap (λ (b : Bool). cond b (ilabel p l ∷ olabel p l ∷ fieldOf (millionths (linkBits p l)) ∷ next p l ∷ []) [] ++ []) (eq-eqb v v refl) ∙ link-fields l h
+      ap (λ (b : Bool). cond b (ilabel p l ∷ olabel p l ∷ fieldOf (weightFor (linkBits p l)) ∷ next p l ∷ []) [] ++ []) (eq-eqb v v refl) ∙ link-fields l h
 
   some-links : (v c : ℕ) → firstOf p v + c ≤ T → flatMap (linkFrom v) (flatMap (λ i. linkRowFor p v (firstOf p v + i) ∷ []) (listBelow c (λ i. i))) ≡ take (4 * c) (drop (4 * firstOf p v) (p .links))
   unfolding listBelow flatMap
@@ -310,7 +320,7 @@ module _ (p : Parts) (four : length (p .links) ≡ 4 * linkCount p) (three : len
   unfolding flatMap
   no-links v = go (eqb (mark p v) 0)
     where
-      go : (b : Bool) → flatMap (linkFrom v) (cond b [] (final v (millionths (finalBits p v)) ∷ [])) ≡ []
+      go : (b : Bool) → flatMap (linkFrom v) (cond b [] (final v (weightFor (finalBits p v)) ∷ [])) ≡ []
       go true = refl
       go false = refl
 
@@ -340,16 +350,16 @@ module _ (p : Parts) (four : length (p .links) ≡ 4 * linkCount p) (three : len
   unfolding flatMap
   no-finals v c = only-none (finalFrom v) c (λ i. linkRowFor p v (firstOf p v + i) ∷ []) (λ u h. refl)
 
-  finals-of : (v : ℕ) → v < N → flatMap (finalFrom v) rows ≡ cond (eqb (mark p v) 0) [] (1 ∷ fieldOf (millionths (finalBits p v)) ∷ [])
+  finals-of : (v : ℕ) → v < N → flatMap (finalFrom v) rows ≡ cond (eqb (mark p v) 0) [] (1 ∷ fieldOf (weightFor (finalBits p v)) ∷ [])
   unfolding nodeRowsFor
   finals-of v h =
       from-v (finalFrom v) v (λ u q. owned-finals u v (nodeRowsFor p u) (owned u) q) h
       ∙ flat-both (finalFrom v) (flatMap (λ i. linkRowFor p v (firstOf p v + i) ∷ []) (listBelow (count p v) (λ i. i))) (finalRowFor p v)
       ∙ (λ i. no-finals v (count p v) i ++ at (eqb (mark p v) 0) i)
     where
-      at : (b : Bool) → flatMap (finalFrom v) (cond b [] (final v (millionths (finalBits p v)) ∷ [])) ≡ cond b [] (1 ∷ fieldOf (millionths (finalBits p v)) ∷ [])
+      at : (b : Bool) → flatMap (finalFrom v) (cond b [] (final v (weightFor (finalBits p v)) ∷ [])) ≡ cond b [] (1 ∷ fieldOf (weightFor (finalBits p v)) ∷ [])
       at true = unfold flatMap in refl
-      at false = unfold flatMap in ap (λ (b : Bool). cond b (1 ∷ fieldOf (millionths (finalBits p v)) ∷ []) [] ++ []) (eq-eqb v v refl)
+      at false = unfold flatMap in ap (λ (b : Bool). cond b (1 ∷ fieldOf (weightFor (finalBits p v)) ∷ []) [] ++ []) (eq-eqb v v refl)
 
   -- an absent mark has no weight, and a mark is 1
   unmarked : (v : ℕ) → v < N → eqb (mark p v) 0 ≡ true → finalBits p v ≡ 0
@@ -369,12 +379,12 @@ module _ (p : Parts) (four : length (p .links) ≡ 4 * linkCount p) (three : len
   pub fields-of : (v : ℕ) → v < N → markFields v rows ≡ mark p v ∷ finalBits p v ∷ []
   fields-of v h = finals-flat v rows ∙ ap (λ (l : List ℕ). take 2 (l ++ (0 ∷ 0 ∷ []))) (finals-of v h) ∙ go (eqb (mark p v) 0) refl
     where
-      go : (b : Bool) → eqb (mark p v) 0 ≡ b → take 2 (cond b [] (1 ∷ fieldOf (millionths (finalBits p v)) ∷ []) ++ (0 ∷ 0 ∷ [])) ≡ mark p v ∷ finalBits p v ∷ []
+      go : (b : Bool) → eqb (mark p v) 0 ≡ b → take 2 (cond b [] (1 ∷ fieldOf (weightFor (finalBits p v)) ∷ []) ++ (0 ∷ 0 ∷ [])) ≡ mark p v ∷ finalBits p v ∷ []
       go true e = λ i. sym (eqb-true (mark p v) 0 e) i ∷ sym (unmarked v h e) i ∷ []
       go false e = λ i. sym (marked v h e) i ∷ field-back (finalBits p v) (nodes-below (3 * v + 2)) on i ∷ []
         where
-          on : onGridBits (finalBits p v) ≡ true
-          on = sym (ap (λ (b : Bool). b || onGridBits (finalBits p v)) e) ∙ final-on p weights-fit v h
+          on : weightFits (finalBits p v) ≡ true
+          on = sym (ap (λ (b : Bool). b || weightFits (finalBits p v)) e) ∙ final-on p weights-fit v h
 
   pub nodes-whole : segments N (λ v. countFrom v rows ∷ markFields v rows) ≡ p .nodes
   nodes-whole = sym (by-threes (λ v. countFrom v rows ∷ markFields v rows) (λ v. ap suc (finals-two v rows)) N (p .nodes) three each)
@@ -388,7 +398,7 @@ module _ (p : Parts) (four : length (p .links) ≡ 4 * linkCount p) (three : len
   pub rows-once : finalsOnce rows ≡ true
   rows-once = once-by-node rows (λ v. go v (ℕ-discrete (N - v) 0))
     where
-      at : (v : ℕ) (b : Bool) → length (cond b [] (1 ∷ fieldOf (millionths (finalBits p v)) ∷ [])) ≤ 2
+      at : (v : ℕ) (b : Bool) → length (cond b [] (1 ∷ fieldOf (weightFor (finalBits p v)) ∷ [])) ≤ 2
       at v true = omega arith
       at v false = omega arith
 
@@ -408,7 +418,7 @@ module _ (p : Parts) (four : length (p .links) ≡ 4 * linkCount p) (three : len
   unfolding nodeRowsFor
   named-node v h = named-append N (flatMap (λ i. linkRowFor p v (firstOf p v + i) ∷ []) (listBelow (count p v) (λ i. i))) (finalRowFor p v) (named-some v (count p v) h (in-T v h)) (go (eqb (mark p v) 0))
     where
-      go : (b : Bool) → Named N (cond b [] (final v (millionths (finalBits p v)) ∷ []))
+      go : (b : Bool) → Named N (cond b [] (final v (weightFor (finalBits p v)) ∷ []))
       go true = tt
       go false = (h, tt)
 
@@ -452,7 +462,7 @@ module _ (p : Parts) (four : length (p .links) ≡ 4 * linkCount p) (three : len
       some (inl q) =
           omega (arith, length-append (flatMap (λ i. linkRowFor p (p .start) (firstOf p (p .start) + i) ∷ []) (listBelow (count p (p .start)) (λ i. i))) (finalRowFor p (p .start)), length-some (p .start) (count p (p .start)))
       some (inr q) =
-          let one : length (finalRowFor p (p .start)) ≡ 1 = ap {B = ℕ} (λ (k : ℕ). length (cond (eqb k 0) [] (final (p .start) (millionths (finalBits p (p .start))) ∷ []))) q in
+          let one : length (finalRowFor p (p .start)) ≡ 1 = ap {B = ℕ} (λ (k : ℕ). length (cond (eqb k 0) [] (final (p .start) (weightFor (finalBits p (p .start))) ∷ []))) q in
           omega (arith, length-append (flatMap (λ i. linkRowFor p (p .start) (firstOf p (p .start) + i) ∷ []) (listBelow (count p (p .start)) (λ i. i))) (finalRowFor p (p .start)), one)
 
   first-is : hasOwn p (p .start) ≡ true → firstNode rows ≡ p .start
@@ -507,39 +517,39 @@ module _ (p : Parts) (four : length (p .links) ≡ 4 * linkCount p) (three : len
         start = first-is (both (ltb (p .start) N) (hasOwn p (p .start)) (a .0) .1) i;
       }
 
-  -- ---- the rows' weights are on the grid
-  weights-some : (v c : ℕ) → firstOf p v + c ≤ T → weightsOnGrid (flatMap (λ i. linkRowFor p v (firstOf p v + i) ∷ []) (listBelow c (λ i. i))) ≡ true
-  unfolding listBelow flatMap weightsOnGrid
+  -- ---- the rows' weights pass
+  weights-some : (v c : ℕ) → firstOf p v + c ≤ T → weightsPass (flatMap (λ i. linkRowFor p v (firstOf p v + i) ∷ []) (listBelow c (λ i. i))) ≡ true
+  unfolding listBelow flatMap weightsPass
   weights-some v zero h = refl
   weights-some v (suc c) h =
-      ap weightsOnGrid (flat-snoc (λ i. linkRowFor p v (firstOf p v + i) ∷ []) (listBelow c (λ i. i)) c)
+      ap weightsPass (flat-snoc (λ i. linkRowFor p v (firstOf p v + i) ∷ []) (listBelow c (λ i. i)) c)
       ∙ weights-append (flatMap (λ i. linkRowFor p v (firstOf p v + i) ∷ []) (listBelow c (λ i. i))) (linkRowFor p v (firstOf p v + c) ∷ []) (weights-some v c (omega arith))
-      (λ i. millionths-on (linkBits p (firstOf p v + c)) (links-below (4 * (firstOf p v + c) + 2)) (link-on p weights-fit (firstOf p v + c) (omega arith)) i && true)
+      (λ i. weight-passes (linkBits p (firstOf p v + c)) (links-below (4 * (firstOf p v + c) + 2)) (link-on p weights-fit (firstOf p v + c) (omega arith)) i && true)
 
-  weights-final : (v : ℕ) → v < N → weightsOnGrid (finalRowFor p v) ≡ true
-  unfolding weightsOnGrid
+  weights-final : (v : ℕ) → v < N → weightsPass (finalRowFor p v) ≡ true
+  unfolding weightsPass
   weights-final v h = go (eqb (mark p v) 0) (final-on p weights-fit v h)
     where
-      go : (b : Bool) → b || onGridBits (finalBits p v) ≡ true → weightsOnGrid (cond b [] (final v (millionths (finalBits p v)) ∷ [])) ≡ true
+      go : (b : Bool) → b || weightFits (finalBits p v) ≡ true → weightsPass (cond b [] (final v (weightFor (finalBits p v)) ∷ [])) ≡ true
       go true e = refl
-      go false e = λ i. millionths-on (finalBits p v) (nodes-below (3 * v + 2)) e i && true
+      go false e = λ i. weight-passes (finalBits p v) (nodes-below (3 * v + 2)) e i && true
 
-  weights-node : (v : ℕ) → v < N → weightsOnGrid (nodeRowsFor p v) ≡ true
+  weights-node : (v : ℕ) → v < N → weightsPass (nodeRowsFor p v) ≡ true
   unfolding nodeRowsFor
   weights-node v h = weights-append (flatMap (λ i. linkRowFor p v (firstOf p v + i) ∷ []) (listBelow (count p v) (λ i. i))) (finalRowFor p v) (weights-some v (count p v) (in-T v h)) (weights-final v h)
 
-  weights-all : (n : ℕ) (g : ℕ → List Row) → ((u : ℕ) → u < n → weightsOnGrid (g u) ≡ true) → weightsOnGrid (flatMap g (listBelow n (λ u. u))) ≡ true
-  unfolding listBelow flatMap weightsOnGrid
+  weights-all : (n : ℕ) (g : ℕ → List Row) → ((u : ℕ) → u < n → weightsPass (g u) ≡ true) → weightsPass (flatMap g (listBelow n (λ u. u))) ≡ true
+  unfolding listBelow flatMap weightsPass
   weights-all zero g h = refl
   weights-all (suc n) g h =
-      ap weightsOnGrid (flat-snoc g (listBelow n (λ u. u)) n) ∙ weights-append (flatMap g (listBelow n (λ u. u))) (g n) (weights-all n g (λ u b. h u (omega arith))) (h n (omega arith))
+      ap weightsPass (flat-snoc g (listBelow n (λ u. u)) n) ∙ weights-append (flatMap g (listBelow n (λ u. u))) (g n) (weights-all n g (λ u b. h u (omega arith))) (h n (omega arith))
 
-  pub weights-rows : weightsOnGrid rows ≡ true
-  unfolding rowsFor weightsOnGrid
+  pub weights-rows : weightsPass rows ≡ true
+  unfolding rowsFor weightsPass
   weights-rows =
       weights-append (nodeRowsFor p (p .start)) (flatMap (λ u. cond (eqb u (p .start)) [] (nodeRowsFor p u)) (listBelow N (λ u. u))) (weights-node (p .start) start-in)
       (weights-all N (λ u. cond (eqb u (p .start)) [] (nodeRowsFor p u)) (λ u h. go u (eqb u (p .start)) (weights-node u h)))
     where
-      go : (u : ℕ) (b : Bool) → weightsOnGrid (nodeRowsFor p u) ≡ true → weightsOnGrid (cond b [] (nodeRowsFor p u)) ≡ true
+      go : (u : ℕ) (b : Bool) → weightsPass (nodeRowsFor p u) ≡ true → weightsPass (cond b [] (nodeRowsFor p u)) ≡ true
       go u true h = refl
       go u false h = h

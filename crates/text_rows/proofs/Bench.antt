@@ -1,4 +1,4 @@
--- Sheet A's rows, rows in any order, and refusals, by computation. Assumes nothing.
+-- Sheet A's rows, rows in any order, barred weights, and refusals, by computation. Assumes nothing.
 use mathlib.Core.Path.{_≡_, refl}
 use mathlib.Core.List.{List, [], _∷_, _++_, map}
 use Prim.Native.Nat.{ℕ}
@@ -44,6 +44,21 @@ written-B : (textNumber sheetB 27 ≡ 0) × (textOf (partsOf sheetB) ≡ written
 unfolding sheetB writtenB textNumber textOf partsOf
 written-B = (refl, refl)
 
+-- a barred link to a node of barred weight: '0\t1\t1\t1\tInfinity\n1\tInfinity\n'
+unfoldable sheetC : List ℕ
+sheetC = 1 ∷ 0 ∷ 0 ∷ 0 ∷ 1 ∷ 0 ∷ 0 ∷ 0 ∷ 0 ∷ 0 ∷ 128 ∷ 127 ∷ 1 ∷ 0 ∷ 0 ∷ 0 ∷ 1 ∷ 0 ∷ 0 ∷ 0 ∷ 0 ∷ 0 ∷ 0 ∷ 0 ∷ 0 ∷ 0 ∷ 0 ∷ 0 ∷ 0 ∷ 0 ∷ 0 ∷ 0 ∷ 1 ∷ 0 ∷ 0 ∷ 0 ∷ 0 ∷ 0 ∷ 128 ∷ 127 ∷ 0 ∷ 0 ∷ 0 ∷ 0 ∷ 16 ∷ 0 ∷ 0 ∷ 0 ∷ 2 ∷ 0 ∷ 0 ∷ 0 ∷ 1 ∷ 0 ∷ 0 ∷ 0 ∷ 0 ∷ 0 ∷ 0 ∷ 0 ∷ []
+
+unfoldable rowsC : List ℕ
+rowsC = 48 ∷ 9 ∷ 49 ∷ 9 ∷ 49 ∷ 9 ∷ 49 ∷ 9 ∷ 73 ∷ 110 ∷ 102 ∷ 105 ∷ 110 ∷ 105 ∷ 116 ∷ 121 ∷ 10 ∷ 49 ∷ 9 ∷ 73 ∷ 110 ∷ 102 ∷ 105 ∷ 110 ∷ 105 ∷ 116 ∷ 121 ∷ 10 ∷ []
+
+converted-C : (rowsNumber rowsC 60 ≡ 0) × (rowsNumber rowsC 59 ≡ 21) × (sheetOfRows rowsC ≡ sheetC)
+unfolding rowsC sheetC rowsNumber sheetOfRows ofK round toBits
+converted-C = (refl, refl, refl)
+
+written-C : (textNumber sheetC 28 ≡ 0) × (textNumber sheetC 27 ≡ 21) × (textOf (partsOf sheetC) ≡ rowsC)
+unfolding rowsC sheetC textNumber textOf partsOf
+written-C = (refl, refl, refl)
+
 -- two nodes, with nothing of the start's own and a final weight's field for the other
 unfoldable bareStart : ℕ → List ℕ
 bareStart low = 0 ∷ 0 ∷ 0 ∷ 0 ∷ 0 ∷ 0 ∷ 0 ∷ 0 ∷ 0 ∷ 0 ∷ 0 ∷ 0 ∷ 0 ∷ 0 ∷ 0 ∷ 0 ∷ 1 ∷ 0 ∷ 0 ∷ 0 ∷ low ∷ 0 ∷ 0 ∷ 0 ∷ 0 ∷ 0 ∷ 0 ∷ 0 ∷ 0 ∷ 0 ∷ 0 ∷ 0 ∷ 2 ∷ 0 ∷ 0 ∷ 0 ∷ 0 ∷ 0 ∷ 0 ∷ 0 ∷ 0 ∷ 0 ∷ 0 ∷ 0 ∷ []
@@ -54,6 +69,7 @@ unfolding bareStart textNumber textOf partsOf
 written-bare = (refl, refl)
 
 -- '': 8; '0\n1': 8; '0\n\n': 8; '0 1 2\n': 8; '0\n1\n0 0\n': 8; '0 +1\n': 8; '0 1.\n': 8; '0 .5\n': 8; '0 0.0000000\n': 8; '0\r\n': 8; '4294967296\n': 8; '4294967295 9\n': 1; '0 128.000001\n': 4; '0 99999999999999999999\n': 4; '0 129\n1 x\n': 8; '4294967294\n': 21
+-- no other spelling of infinity: '0 infinity\n': 8; '0 inf\n': 8; '0 INFINITY\n': 8; '0 -Infinity\n': 8; '0 Infinit\n': 8; '0 Infinity1\n': 8; '0 Infinity\n1 x\n': 8
 refused : map (λ (text : List ℕ). rowsNumber text 1000) (
     ([])
     ∷ (48 ∷ 10 ∷ 49 ∷ [])
@@ -71,8 +87,15 @@ refused : map (λ (text : List ℕ). rowsNumber text 1000) (
     ∷ (48 ∷ 32 ∷ 57 ∷ 57 ∷ 57 ∷ 57 ∷ 57 ∷ 57 ∷ 57 ∷ 57 ∷ 57 ∷ 57 ∷ 57 ∷ 57 ∷ 57 ∷ 57 ∷ 57 ∷ 57 ∷ 57 ∷ 57 ∷ 57 ∷ 57 ∷ 10 ∷ [])
     ∷ (48 ∷ 32 ∷ 49 ∷ 50 ∷ 57 ∷ 10 ∷ 49 ∷ 32 ∷ 120 ∷ 10 ∷ [])
     ∷ (52 ∷ 50 ∷ 57 ∷ 52 ∷ 57 ∷ 54 ∷ 55 ∷ 50 ∷ 57 ∷ 52 ∷ 10 ∷ [])
+    ∷ (48 ∷ 32 ∷ 105 ∷ 110 ∷ 102 ∷ 105 ∷ 110 ∷ 105 ∷ 116 ∷ 121 ∷ 10 ∷ [])
+    ∷ (48 ∷ 32 ∷ 105 ∷ 110 ∷ 102 ∷ 10 ∷ [])
+    ∷ (48 ∷ 32 ∷ 73 ∷ 78 ∷ 70 ∷ 73 ∷ 78 ∷ 73 ∷ 84 ∷ 89 ∷ 10 ∷ [])
+    ∷ (48 ∷ 32 ∷ 45 ∷ 73 ∷ 110 ∷ 102 ∷ 105 ∷ 110 ∷ 105 ∷ 116 ∷ 121 ∷ 10 ∷ [])
+    ∷ (48 ∷ 32 ∷ 73 ∷ 110 ∷ 102 ∷ 105 ∷ 110 ∷ 105 ∷ 116 ∷ 10 ∷ [])
+    ∷ (48 ∷ 32 ∷ 73 ∷ 110 ∷ 102 ∷ 105 ∷ 110 ∷ 105 ∷ 116 ∷ 121 ∷ 49 ∷ 10 ∷ [])
+    ∷ (48 ∷ 32 ∷ 73 ∷ 110 ∷ 102 ∷ 105 ∷ 110 ∷ 105 ∷ 116 ∷ 121 ∷ 10 ∷ 49 ∷ 32 ∷ 120 ∷ 10 ∷ [])
     ∷ [])
-    ≡ 8 ∷ 8 ∷ 8 ∷ 8 ∷ 8 ∷ 8 ∷ 8 ∷ 8 ∷ 8 ∷ 8 ∷ 8 ∷ 1 ∷ 4 ∷ 4 ∷ 8 ∷ 21 ∷ []
+    ≡ 8 ∷ 8 ∷ 8 ∷ 8 ∷ 8 ∷ 8 ∷ 8 ∷ 8 ∷ 8 ∷ 8 ∷ 8 ∷ 1 ∷ 4 ∷ 4 ∷ 8 ∷ 21 ∷ 8 ∷ 8 ∷ 8 ∷ 8 ∷ 8 ∷ 8 ∷ 8 ∷ []
 unfolding rowsNumber
 refused = refl
 

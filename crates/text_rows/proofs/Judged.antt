@@ -1,5 +1,5 @@
--- The converter's number is the writer's: marks, counts, the start and the nexts of the rows' parts fit by construction, and weights that are whole
--- numbers of units within the limit have fields on the grid. Assumes nothing.
+-- The converter's number is the writer's: marks, counts, the start and the nexts of the rows' parts fit by construction, and weights that bar
+-- or are whole numbers of units within the limit have fields that pass. Assumes nothing.
 use mathlib.Core.Path.{_≡_, refl, sym, ap, _∙_, subst}
 use mathlib.Core.Bool.{Bool, true, false, not, _&&_, _||_, cond}
 use mathlib.Core.Option.{Option, none, some}
@@ -16,11 +16,12 @@ use lib.Ieee.{round, toBits, ofBits}
 use Rattle.tropical_weight.specs.Grid.{gridBits, ofK}
 use Rattle.tropical_weight.proofs.Grid.{gridBits-means}
 use Rattle.sheet.specs.Below.{sumBelow}
-use Rattle.sheet.specs.Sheet.{Parts, linkCount, nodeCount, next, linkBits, count, mark, finalBits, wellMarked, onGridBits, nodesFit, startFits, nextsFit, weightsFit, verdict, recordsFit, sheetLength, writeNumber}
+use Rattle.sheet.specs.Sheet.{Parts, linkCount, nodeCount, next, linkBits, count, mark, finalBits, wellMarked, barredBits, onGridBits, weightFits, nodesFit, startFits, nextsFit, weightsFit, verdict, recordsFit, sheetLength, writeNumber}
 use Rattle.sheet.proofs.Below.{allBelow-of, sumBelow-same}
-use Rattle.sheet.proofs.Apart.{both}
-use Rattle.sheet.proofs.Encoding.{bits-lt}
-use Rattle.text_rows.specs.Rows.{Row, link, final, firstNode, onGrid, unitsOf, weightsOnGrid, readRows}
+use Rattle.sheet.proofs.Apart.{both, or-left, or-right}
+use Rattle.sheet.proofs.Encoding.{bits-lt, bits-inf}
+use Rattle.text_rows.specs.Fields.{Weight, finite, barred}
+use Rattle.text_rows.specs.Rows.{Row, link, final, firstNode, onGrid, unitsOf, weightPasses, weightsPass, readRows}
 use Rattle.text_rows.specs.Convert.{fieldOf, linkFrom, countFrom, markFields, linksIn, nodesIn, partsOfRows, fieldsHold, lengthOf, numberBy, rowsNumber, orNoRows}
 use Rattle.text_rows.proofs.Segments.{segments, lengths, length-segments, length-links}
 use Rattle.text_rows.proofs.Filled.{Named, named, inside, links-by-node, segments-flat, length-threes, getD-segments, finals-two}
@@ -86,19 +87,21 @@ few-units (negsuc n) e =
     let l : natAbs (negsuc n) * 64 / 1000000 ≤ weightLimit = leb-true (natAbs (negsuc n) * 64 / 1000000) weightLimit (both (eqb (natAbs (negsuc n) * 64 % 1000000) 0) (leb (natAbs (negsuc n) * 64 / 1000000) weightLimit) e .1) in
     subst (λ (x : ℕ). x ≤ weightLimit) (ap (λ (x : ℕ). x * 64 / 1000000) m ∙ sym (natAbs-neg ((1 + n) * 64 / 1000000))) l
 
-pub field-on-grid : (w : ℤ) → onGrid w ≡ true → onGridBits (fieldOf w) ≡ true
-field-on-grid w e = gridBits-means unit (omega arith) weightLimit (omega arith) (fieldOf w) (bits-lt (fin (unitsOf w))) .1 (unitsOf w, few-units w e, refl)
+field-fits : (w : Weight) → weightPasses w ≡ true → weightFits (fieldOf w) ≡ true
+field-fits (finite w) e =
+    or-right (eqb (fieldOf (finite w)) barredBits) (onGridBits (fieldOf (finite w))) (gridBits-means unit (omega arith) weightLimit (omega arith) (fieldOf (finite w)) (bits-lt (fin (unitsOf w))) .1 (unitsOf w, few-units w e, refl))
+field-fits barred e = or-left (eqb (fieldOf barred) barredBits) (onGridBits (fieldOf barred)) (eq-eqb (fieldOf barred) barredBits bits-inf)
 
 pub each-next : (n : ℕ) (rs : List Row) → Named n rs → EachLink (λ c d. d < n) rs
 each-next n [] h = tt
 each-next n (link s t i o w ∷ rs) h = (h .1, each-next n rs (h .2))
 each-next n (final v w ∷ rs) h = each-next n rs (h .1)
 
-each-weight : (rs : List Row) → weightsOnGrid rs ≡ true → EachLink (λ c d. onGridBits c ≡ true) rs
-unfolding weightsOnGrid
+each-weight : (rs : List Row) → weightsPass rs ≡ true → EachLink (λ c d. weightFits c ≡ true) rs
+unfolding weightsPass
 each-weight [] e = tt
-each-weight (link s t i o w ∷ rs) e = let h = both (onGrid w) (weightsOnGrid rs) e in (field-on-grid w (h .0), each-weight rs (h .1))
-each-weight (final v w ∷ rs) e = each-weight rs (both (onGrid w) (weightsOnGrid rs) e .1)
+each-weight (link s t i o w ∷ rs) e = let h = both (weightPasses w) (weightsPass rs) e in (field-fits w (h .0), each-weight rs (h .1))
+each-weight (final v w ∷ rs) e = each-weight rs (both (weightPasses w) (weightsPass rs) e .1)
 
 -- ---- marks
 pub well-marked : (v : ℕ) (rs : List Row) → wellMarked (getD (markFields v rs) 0 0) (getD (markFields v rs) 1 0) ≡ true
@@ -111,15 +114,15 @@ well-marked v (final u w ∷ rs) = go (eqb u v) (well-marked v rs)
     go true e = refl
     go false e = e
 
-final-on-grid : (v : ℕ) (rs : List Row) → weightsOnGrid rs ≡ true → eqb (getD (markFields v rs) 0 0) 0 || onGridBits (getD (markFields v rs) 1 0) ≡ true
-unfolding markFields weightsOnGrid
-final-on-grid v [] e = refl
-final-on-grid v (link s t i o w ∷ rs) e = final-on-grid v rs (both (onGrid w) (weightsOnGrid rs) e .1)
-final-on-grid v (final u w ∷ rs) e = go (eqb u v) (both (onGrid w) (weightsOnGrid rs) e) (final-on-grid v rs)
+final-weight : (v : ℕ) (rs : List Row) → weightsPass rs ≡ true → eqb (getD (markFields v rs) 0 0) 0 || weightFits (getD (markFields v rs) 1 0) ≡ true
+unfolding markFields weightsPass
+final-weight v [] e = refl
+final-weight v (link s t i o w ∷ rs) e = final-weight v rs (both (weightPasses w) (weightsPass rs) e .1)
+final-weight v (final u w ∷ rs) e = go (eqb u v) (both (weightPasses w) (weightsPass rs) e) (final-weight v rs)
   where
-    go : (b : Bool) → (onGrid w ≡ true) × (weightsOnGrid rs ≡ true) → (weightsOnGrid rs ≡ true → eqb (getD (markFields v rs) 0 0) 0 || onGridBits (getD (markFields v rs) 1 0) ≡ true)
-        → eqb (getD (cond b (1 ∷ fieldOf w ∷ []) (markFields v rs)) 0 0) 0 || onGridBits (getD (cond b (1 ∷ fieldOf w ∷ []) (markFields v rs)) 1 0) ≡ true
-    go true h later = field-on-grid w (h .0)
+    go : (b : Bool) → (weightPasses w ≡ true) × (weightsPass rs ≡ true) → (weightsPass rs ≡ true → eqb (getD (markFields v rs) 0 0) 0 || weightFits (getD (markFields v rs) 1 0) ≡ true)
+        → eqb (getD (cond b (1 ∷ fieldOf w ∷ []) (markFields v rs)) 0 0) 0 || weightFits (getD (cond b (1 ∷ fieldOf w ∷ []) (markFields v rs)) 1 0) ≡ true
+    go true h later = field-fits w (h .0)
     go false h later = later (h .1)
 
 pub first-named : (n : ℕ) (rs : List Row) → 0 < n → Named n rs → firstNode rs < n
@@ -204,29 +207,29 @@ module _ (rs : List Row) where
   unfolding nextsFit
   nexts-fit = allBelow-of (linkCount p) (λ l. ltb (next p l) (nodeCount p)) (λ l h. lt-ltb (next p l) (nodeCount p) (omega (arith, node-count, fours-of (λ c d. d < n) (each-next n rs (named rs)) l h)))
 
-  weights-fit : weightsOnGrid rs ≡ true → weightsFit p ≡ true
+  weights-fit : weightsPass rs ≡ true → weightsFit p ≡ true
   unfolding weightsFit
   weights-fit e =
-      λ i. allBelow-of (linkCount p) (λ l. onGridBits (linkBits p l)) (fours-of (λ c d. onGridBits c ≡ true) (each-weight rs e)) i
-      && allBelow-of (nodeCount p) (λ v. eqb (mark p v) 0 || onGridBits (finalBits p v)) (λ v h. each v (omega (arith, node-count))) i
+      λ i. allBelow-of (linkCount p) (λ l. weightFits (linkBits p l)) (fours-of (λ c d. weightFits c ≡ true) (each-weight rs e)) i
+      && allBelow-of (nodeCount p) (λ v. eqb (mark p v) 0 || weightFits (finalBits p v)) (λ v h. each v (omega (arith, node-count))) i
     where
-      each : (v : ℕ) → v < n → eqb (mark p v) 0 || onGridBits (finalBits p v) ≡ true
-      each v h = (λ i. eqb (mark-is v h i) 0 || onGridBits (finalBits-is v h i)) ∙ final-on-grid v rs e
+      each : (v : ℕ) → v < n → eqb (mark p v) 0 || weightFits (finalBits p v) ≡ true
+      each v h = (λ i. eqb (mark-is v h i) 0 || weightFits (finalBits-is v h i)) ∙ final-weight v rs e
 
   pub length-is : sheetLength p ≡ lengthOf rs
   length-is = λ i. 16 * link-count i + 12 * node-count i + 20
 
-  pub verdict-is : (b : Bool) → weightsOnGrid rs ≡ true → verdict b p ≡ cond b 0 1
+  pub verdict-is : (b : Bool) → weightsPass rs ≡ true → verdict b p ≡ cond b 0 1
   unfolding verdict
   verdict-is true e = (λ i. cond (not (nodes-fit i)) 1 (cond (not (start-fits i)) 2 (cond (not (nexts-fit i)) 3 (cond (not (weights-fit e i)) 4 0))))
   verdict-is false e = refl
 
   -- 1 and 21 are the writer's; 4 is the text's, whose weights need not be whole numbers of units
-  pub number-is : (room : ℕ) → numberBy (some rs) room ≡ cond (fieldsHold rs && not (weightsOnGrid rs)) 4 (writeNumber p room)
+  pub number-is : (room : ℕ) → numberBy (some rs) room ≡ cond (fieldsHold rs && not (weightsPass rs)) 4 (writeNumber p room)
   unfolding writeNumber
-  number-is room = go (fieldsHold rs) refl (weightsOnGrid rs) refl
+  number-is room = go (fieldsHold rs) refl (weightsPass rs) refl
     where
-      go : (a : Bool) → fieldsHold rs ≡ a → (b : Bool) → weightsOnGrid rs ≡ b
+      go : (a : Bool) → fieldsHold rs ≡ a → (b : Bool) → weightsPass rs ≡ b
           → cond (not a) 1 (cond (not b) 4 (cond (ltb room (lengthOf rs)) 21 0)) ≡ cond (a && not b) 4 (cond (not (eqb (verdict (recordsFit p) p) 0)) (verdict (recordsFit p) p) (cond (ltb room (sheetLength p)) 21 0))
       go false x b y = sym (ap (λ (k : ℕ). cond (not (eqb k 0)) k (cond (ltb room (sheetLength p)) 21 0)) (ap (λ (c : Bool). verdict c p) (records-hold ∙ x) ∙ unfold verdict in refl))
       go true x false y = refl
@@ -237,7 +240,7 @@ module _ (rs : List Row) where
 -- ---- the number of a text: 8 where it has no rows, 4 where a weight is off the grid, else the writer's for the rows' parts
 abbrev pub numberOfRows : Option (List Row) → ℕ → ℕ
 numberOfRows none room = 8
-numberOfRows (some rs) room = cond (fieldsHold rs && not (weightsOnGrid rs)) 4 (writeNumber (partsOfRows rs) room)
+numberOfRows (some rs) room = cond (fieldsHold rs && not (weightsPass rs)) 4 (writeNumber (partsOfRows rs) room)
 
 pub rows-number : (text : List ℕ) (room : ℕ) → rowsNumber text room ≡ numberOfRows (readRows text) room
 unfolding rowsNumber

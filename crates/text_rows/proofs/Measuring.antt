@@ -9,7 +9,7 @@ use lib.Dec.{ltb, eqb}
 use lib.ListN.{length}
 use borrow.Author.Tests.{le-ltb}
 use Rattle.sheet.specs.Sheet.{partsOf, readNumber}
-use Rattle.text_rows.specs.Rows.{Row, readRows, weightsOnGrid}
+use Rattle.text_rows.specs.Rows.{Row, readRows, weightsPass}
 use Rattle.text_rows.specs.Convert.{fieldsHold, lengthOf, numberBy, rowsNumber, orNoRows, rowsIn}
 use Rattle.text_rows.specs.Written.{hasRows, textOf, textNumber}
 
@@ -27,7 +27,7 @@ rows-in-room text room = go (readRows text)
   where
     go : (o : Option (List Row)) → numberBy o room ≡ inRoom (numberBy o (lengthOf (orNoRows o))) (lengthOf (orNoRows o)) room
     go none = refl
-    go (some rs) = by (fieldsHold rs) (weightsOnGrid rs)
+    go (some rs) = by (fieldsHold rs) (weightsPass rs)
       where
         by : (b c : Bool) → cond (not b) 1 (cond (not c) 4 (cond (ltb room (lengthOf rs)) 21 0)) ≡ inRoom (cond (not b) 1 (cond (not c) 4 (cond (ltb (lengthOf rs) (lengthOf rs)) 21 0))) (lengthOf rs) room
         by false c = refl

@@ -6,14 +6,13 @@ use mathlib.Core.List.{List, [], _∷_, _++_, flatMap}
 use Prim.Native.Nat.{ℕ, zero, suc, _+_, _^_, _≤_, _<_}
 use native.Mathlib.Omega.{arith}
 use lib.Dec.{ltb, eqb}
-use lib.IntN.{ℤ, pos}
+use lib.IntN.{pos}
 use borrow.Author.Tests.{ltb-true}
-use Rattle.tropical_weight.specs.Tropical.{fin}
 use Rattle.sheet.proofs.Round.{Below}
 use Rattle.sheet.proofs.Encoding.{bits-lt}
 use Rattle.decimals.specs.Decimal.{digitsOf}
-use Rattle.text_rows.specs.Fields.{andThen, rowsOf, ended, fieldsOf, numberOf, weightOf}
-use Rattle.text_rows.specs.Rows.{Row, link, final, linkBy, finalBy, rowBy, rowOf, allRows, finalsOnce, readRows, unitsOf}
+use Rattle.text_rows.specs.Fields.{Weight, finite, andThen, rowsOf, ended, fieldsOf, numberOf, weightOf}
+use Rattle.text_rows.specs.Rows.{Row, link, final, linkBy, finalBy, rowBy, rowOf, allRows, finalsOnce, readRows, weighs}
 use Rattle.text_rows.specs.Convert.{fieldOf, linkFrom, countFrom, markFields, linksIn, nodesIn, partsOfRows}
 use Rattle.text_rows.proofs.Segments.{segments}
 use Rattle.text_rows.proofs.Judged.{links-are, nodes-are}
@@ -39,18 +38,18 @@ number-fits f n e = go (digitsOf f) e
         by false q e = let z : _≡_ {A = ℕ} 0 1 = cc in absurd (omega arith)
         by true q e = let z : m ≡ n = cc in omega (arith, ltb-true m (2 ^ 32) q)
 
-final-fits : (f : List ℕ) (w : Option ℤ) (r : Row) → finalBy (numberOf f) w ≡ some r → RowFits r
+final-fits : (f : List ℕ) (w : Option Weight) (r : Row) → finalBy (numberOf f) w ≡ some r → RowFits r
 final-fits f w r e = go (numberOf f) refl w e
   where
-    go : (o : Option ℕ) → numberOf f ≡ o → (w : Option ℤ) → finalBy o w ≡ some r → RowFits r
+    go : (o : Option ℕ) → numberOf f ≡ o → (w : Option Weight) → finalBy o w ≡ some r → RowFits r
     go none q w e = let z : _≡_ {A = ℕ} 0 1 = cc in absurd (omega arith)
     go (some v) q none e = let z : _≡_ {A = ℕ} 0 1 = cc in absurd (omega arith)
     go (some v) q (some x) e = let z : final v x ≡ r = cc in subst RowFits z (number-fits f v q)
 
-link-fits : (a b c d : List ℕ) (w : Option ℤ) (r : Row) → linkBy (numberOf a) (numberOf b) (numberOf c) (numberOf d) w ≡ some r → RowFits r
+link-fits : (a b c d : List ℕ) (w : Option Weight) (r : Row) → linkBy (numberOf a) (numberOf b) (numberOf c) (numberOf d) w ≡ some r → RowFits r
 link-fits a b c d w r e = go (numberOf a) refl (numberOf b) refl (numberOf c) refl (numberOf d) refl w e
   where
-    go : (s : Option ℕ) → numberOf a ≡ s → (t : Option ℕ) → numberOf b ≡ t → (i : Option ℕ) → numberOf c ≡ i → (o : Option ℕ) → numberOf d ≡ o → (w : Option ℤ)
+    go : (s : Option ℕ) → numberOf a ≡ s → (t : Option ℕ) → numberOf b ≡ t → (i : Option ℕ) → numberOf c ≡ i → (o : Option ℕ) → numberOf d ≡ o → (w : Option Weight)
         → linkBy s t i o w ≡ some r → RowFits r
     go none p t q i x o y w e = let z : _≡_ {A = ℕ} 0 1 = cc in absurd (omega arith)
     go (some s) p none q i x o y w e = let z : _≡_ {A = ℕ} 0 1 = cc in absurd (omega arith)
@@ -63,10 +62,10 @@ link-fits a b c d w r e = go (numberOf a) refl (numberOf b) refl (numberOf c) re
 row-fits : (fs : List (List ℕ)) (r : Row) → rowBy fs ≡ some r → RowFits r
 unfolding rowBy
 row-fits [] r e = let z : _≡_ {A = ℕ} 0 1 = cc in absurd (omega arith)
-row-fits (v ∷ []) r e = final-fits v (some (pos 0)) r e
+row-fits (v ∷ []) r e = final-fits v (some (finite (pos 0))) r e
 row-fits (v ∷ w ∷ []) r e = final-fits v (weightOf w) r e
 row-fits (x ∷ y ∷ z ∷ []) r e = let z : _≡_ {A = ℕ} 0 1 = cc in absurd (omega arith)
-row-fits (s ∷ t ∷ i ∷ o ∷ []) r e = link-fits s t i o (some (pos 0)) r e
+row-fits (s ∷ t ∷ i ∷ o ∷ []) r e = link-fits s t i o (some (finite (pos 0))) r e
 row-fits (s ∷ t ∷ i ∷ o ∷ w ∷ []) r e = link-fits s t i o (weightOf w) r e
 row-fits (s ∷ t ∷ i ∷ o ∷ w ∷ x ∷ xs) r e = let z : _≡_ {A = ℕ} 0 1 = cc in absurd (omega arith)
 
@@ -113,8 +112,8 @@ unfolding segments
 words-segments zero f h = tt
 words-segments (suc n) f h = words-append (segments n f) (f n) (words-segments n f h) (h n)
 
-pub field-lt : (w : ℤ) → fieldOf w < 2 ^ 32
-field-lt w = bits-lt (fin (unitsOf w))
+pub field-lt : (w : Weight) → fieldOf w < 2 ^ 32
+field-lt w = bits-lt (weighs w)
 
 link-words : (v : ℕ) (rs : List Row) → AllFit rs → Words (flatMap (linkFrom v) rs)
 unfolding flatMap

@@ -6,23 +6,24 @@ use mathlib.Core.List.{List, [], _∷_, _++_, flatMap}
 use Prim.Native.Nat.{ℕ, zero, suc, _+_, _*_, _≤_, _<_}
 use native.Mathlib.Omega.{arith}
 use lib.Dec.{eqb}
-use lib.IntN.{ℤ}
-use lib.Ieee.{Float, ofBits}
+use lib.Ieee.{Float, binary32, ofBits}
 use lib.ListN.{length, getD, replicate, length-append, length-replicate}
 use lib.Seq.{ext-getD}
-use borrow.Author.Tests.{eqb-true, ne-eqb}
+use borrow.Author.Tests.{eqb-true, eq-eqb, ne-eqb}
 use Rattle.tropical_weight.specs.Limits.{unit}
-use Rattle.tropical_weight.specs.Tropical.{fin, one}
+use Rattle.tropical_weight.specs.Tropical.{fin, inf, one}
 use Rattle.tropical_weight.specs.Grid as Grid
 use Rattle.tropical_weight.proofs.Exact.{bits-back}
 use Rattle.tropical_weight.proofs.Grid.{unitsOf-ofK}
 use Rattle.sheet.specs.Below.{listBelow}
-use Rattle.sheet.specs.Sheet.{Parts, noStart, linkCount, nodeCount, ilabel, olabel, next, mark, finalBits}
+use Rattle.sheet.specs.Sheet.{Parts, barredBits, noStart, linkCount, nodeCount, ilabel, olabel, next, mark, finalBits}
 use Rattle.sheet.specs.Machine.{Link, weightOf, sourcesBelow, startOf, finalOf, linkOf, machineOf}
 use Rattle.sheet.proofs.Below.{length-listBelow, getD-listBelow, listBelow-same, flat-snoc}
-use Rattle.text_rows.specs.Rows.{Row, link, final, firstNode, onGrid, unitsOf, weightsOnGrid}
+use Rattle.sheet.proofs.Encoding.{bits-inf, bits-finite}
+use Rattle.text_rows.specs.Fields.{Weight, finite, barred}
+use Rattle.text_rows.specs.Rows.{Row, link, final, firstNode, unitsOf, weightPasses, weightsPass, weighs}
 use Rattle.text_rows.specs.Convert.{fieldOf, linkFrom, countFrom, markFields, nodesIn, partsOfRows}
-use Rattle.text_rows.specs.RowMachine.{weighs, linkIn, finalIn, machineOfRows}
+use Rattle.text_rows.specs.RowMachine.{linkIn, finalIn, machineOfRows}
 use Rattle.text_rows.proofs.Segments.{segments, length-links}
 use Rattle.text_rows.proofs.Filled.{named}
 use Rattle.text_rows.proofs.Judged.{few-units, links-are, start-is, node-count, count-is, mark-is, finalBits-is, first-named}
@@ -88,37 +89,40 @@ by-at (s ∷ ss) (i ∷ o ∷ b ∷ t ∷ ws) (suc l) e h = by-at ss ws l (omega
     at k = omega arith
 
 -- ---- a node's links
-weight-back : (w : ℤ) → onGrid w ≡ true → weightOf (fieldOf w) ≡ weighs w
-weight-back w e = ap (λ (x : Float). fin (Grid.unitsOf unit x)) (bits-back unit (omega arith) (fin (unitsOf w))) ∙ ap fin (unitsOf-ofK unit (omega arith) (unitsOf w) (omega (arith, few-units w e)))
+weight-back : (w : Weight) → weightPasses w ≡ true → weightOf (fieldOf w) ≡ weighs w
+weight-back (finite w) e =
+    ap (λ (b : Bool). cond b inf (fin (Grid.unitsOf unit (ofBits binary32 (fieldOf (finite w)))))) (bits-finite (unitsOf w) (omega (arith, few-units w e)))
+    ∙ ap (λ (x : Float). fin (Grid.unitsOf unit x)) (bits-back unit (omega arith) (fin (unitsOf w))) ∙ ap fin (unitsOf-ofK unit (omega arith) (unitsOf w) (omega (arith, few-units w e)))
+weight-back barred e = ap (λ (b : Bool). cond b inf (fin (Grid.unitsOf unit (ofBits binary32 (fieldOf barred))))) (eq-eqb (fieldOf barred) barredBits bits-inf)
 
-node-links : (v : ℕ) (rs : List Row) → weightsOnGrid rs ≡ true → linksBy (replicate (countFrom v rs) v) (flatMap (linkFrom v) rs) ≡ flatMap (linkIn v) rs
-unfolding linksBy countFrom flatMap weightsOnGrid
+node-links : (v : ℕ) (rs : List Row) → weightsPass rs ≡ true → linksBy (replicate (countFrom v rs) v) (flatMap (linkFrom v) rs) ≡ flatMap (linkIn v) rs
+unfolding linksBy countFrom flatMap weightsPass
 node-links v [] e = refl
-node-links v (link s t i o w ∷ rs) e = go (eqb s v) refl (both (onGrid w) (weightsOnGrid rs) e) (node-links v rs)
+node-links v (link s t i o w ∷ rs) e = go (eqb s v) refl (both (weightPasses w) (weightsPass rs) e) (node-links v rs)
   where
-    go : (b : Bool) → eqb s v ≡ b → (onGrid w ≡ true) × (weightsOnGrid rs ≡ true) → (weightsOnGrid rs ≡ true → linksBy (replicate (countFrom v rs) v) (flatMap (linkFrom v) rs) ≡ flatMap (linkIn v) rs)
+    go : (b : Bool) → eqb s v ≡ b → (weightPasses w ≡ true) × (weightsPass rs ≡ true) → (weightsPass rs ≡ true → linksBy (replicate (countFrom v rs) v) (flatMap (linkFrom v) rs) ≡ flatMap (linkIn v) rs)
         → linksBy (replicate (cond b 1 0 + countFrom v rs) v) (cond b (i ∷ o ∷ fieldOf w ∷ t ∷ []) [] ++ flatMap (linkFrom v) rs) ≡ cond b (record { source = s; ilabel = i; olabel = o; weight = weighs w; next = t } ∷ []) [] ++ flatMap (linkIn v) rs
     go true q h later =
         ap (λ (k : ℕ). linksBy (replicate k v) (i ∷ o ∷ fieldOf w ∷ t ∷ flatMap (linkFrom v) rs)) (let z : 1 + countFrom v rs ≡ suc (countFrom v rs) = omega arith in z)
         ∙ λ j. record { source = sym (eqb-true s v q) j; ilabel = i; olabel = o; weight = weight-back w (h .0) j; next = t } ∷ later (h .1) j
     go false q h later = ap (λ (k : ℕ). linksBy (replicate k v) (flatMap (linkFrom v) rs)) (let z : 0 + countFrom v rs ≡ countFrom v rs = omega arith in z) ∙ later (h .1)
 node-links v (final u w ∷ rs) e =
-    ap (λ (k : ℕ). linksBy (replicate k v) (flatMap (linkFrom v) rs)) (let z : 0 + countFrom v rs ≡ countFrom v rs = omega arith in z) ∙ node-links v rs (both (onGrid w) (weightsOnGrid rs) e .1)
+    ap (λ (k : ℕ). linksBy (replicate k v) (flatMap (linkFrom v) rs)) (let z : 0 + countFrom v rs ≡ countFrom v rs = omega arith in z) ∙ node-links v rs (both (weightPasses w) (weightsPass rs) e .1)
 
 -- ---- a node's final weight
-final-row : (v : ℕ) (rs : List Row) → weightsOnGrid rs ≡ true → finalOf (getD (markFields v rs) 0 0) (getD (markFields v rs) 1 0) ≡ finalIn v rs
-unfolding markFields finalIn weightsOnGrid
+final-row : (v : ℕ) (rs : List Row) → weightsPass rs ≡ true → finalOf (getD (markFields v rs) 0 0) (getD (markFields v rs) 1 0) ≡ finalIn v rs
+unfolding markFields finalIn weightsPass
 final-row v [] e = refl
-final-row v (link s t i o w ∷ rs) e = final-row v rs (both (onGrid w) (weightsOnGrid rs) e .1)
-final-row v (final u w ∷ rs) e = go (eqb u v) (both (onGrid w) (weightsOnGrid rs) e) (final-row v rs)
+final-row v (link s t i o w ∷ rs) e = final-row v rs (both (weightPasses w) (weightsPass rs) e .1)
+final-row v (final u w ∷ rs) e = go (eqb u v) (both (weightPasses w) (weightsPass rs) e) (final-row v rs)
   where
-    go : (b : Bool) → (onGrid w ≡ true) × (weightsOnGrid rs ≡ true) → (weightsOnGrid rs ≡ true → finalOf (getD (markFields v rs) 0 0) (getD (markFields v rs) 1 0) ≡ finalIn v rs)
+    go : (b : Bool) → (weightPasses w ≡ true) × (weightsPass rs ≡ true) → (weightsPass rs ≡ true → finalOf (getD (markFields v rs) 0 0) (getD (markFields v rs) 1 0) ≡ finalIn v rs)
         → finalOf (getD (cond b (1 ∷ fieldOf w ∷ []) (markFields v rs)) 0 0) (getD (cond b (1 ∷ fieldOf w ∷ []) (markFields v rs)) 1 0) ≡ cond b (some (weighs w)) (finalIn v rs)
     go true h later = ap some (weight-back w (h .0))
     go false h later = later (h .1)
 
 -- ---- all of them
-module _ (rs : List Row) (on : weightsOnGrid rs ≡ true) where
+module _ (rs : List Row) (on : weightsPass rs ≡ true) where
   abbrev p : Parts
   p = partsOfRows rs
 

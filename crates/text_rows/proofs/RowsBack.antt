@@ -7,24 +7,21 @@ use mathlib.Core.List.{List, [], _∷_, _++_, flatMap, append-nil}
 use Prim.Native.Nat.{ℕ, _+_, _-_, _*_, _≤_, _<_}
 use native.Mathlib.Omega.{arith}
 use lib.Dec.{ltb, eqb}
-use lib.IntN.{ℤ, pos}
+use lib.IntN.{pos}
 use lib.ListN.{length, getD, take, drop, length-append}
 use lib.Seq.{take-append-seam}
-use lib.Ieee.{binary32, ofBits}
 use borrow.Author.Tests.{eqb-true, eqb-false, le-ltb}
-use Rattle.tropical_weight.specs.Limits.{unit}
-use Rattle.tropical_weight.specs.Grid as Grid
 use Rattle.sheet.specs.Below.{listBelow}
 use Rattle.sheet.specs.Sheet.{Parts, linkCount, nodeCount, ilabel, olabel, linkBits, next, count, mark, finalBits, nodesFit, startFits, nextsFit, weightsFit, verdict, partsOf, sizesFit, readNumber, sheetOf, sheetLength, writeNumber, statedLinks, statedNodes}
 use Rattle.sheet.proofs.Apart.{both}
 use Rattle.sheet.proofs.Fields.{length-words, read-fields, read-fits, length-read}
 use Rattle.sheet.proofs.Round.{Below, word-lt, words-below, bytes-back, number-again}
-use Rattle.text_rows.specs.Fields.{andThen, rowsOf, ended, fieldsOf}
+use Rattle.text_rows.specs.Fields.{Weight, finite, andThen, rowsOf, ended, fieldsOf}
 use Rattle.text_rows.specs.Rows.{Row, link, final, linkBy, finalBy, rowBy, rowOf, allRows, finalsOnce, readRows}
 use Rattle.text_rows.specs.Convert.{partsOfRows, orNoRows, sheetOfRows, sheetOver, rowsNumber, fieldsHold}
 use Rattle.decimals.specs.Decimal.{decimal}
-use Rattle.text_rows.specs.Written.{weightText, andNumber, andWeight, linkRow, finalRow, firstOf, nodeRows, textOf, hasOwn, isLed, hasRows, textNumber, textOver}
-use Rattle.text_rows.specs.RowsFor.{inMillionths, millionths, linkRowFor, finalRowFor, nodeRowsFor, rowsFor}
+use Rattle.text_rows.specs.Written.{fieldText, andNumber, andWeight, linkRow, finalRow, firstOf, nodeRows, textOf, hasOwn, isLed, hasRows, textNumber, textOver}
+use Rattle.text_rows.specs.RowsFor.{millionths, weightFor, linkRowFor, finalRowFor, nodeRowsFor, rowsFor}
 use Rattle.text_rows.proofs.Texts.{Plain, Lined, lined-append, lined-plain, plain-numeric, numeric-decimal, long-decimal, number-back, weight-back, plain-weight, long-weight, one-field, fields-more, Reads, reads-none, reads-append, reads-line, reads-all, Ends, ends-append, ends-line, ends-all}
 use Rattle.text_rows.proofs.Back.{own-rows, rows-once, parts-again, weights-rows}
 use Rattle.text_rows.proofs.Judged.{numberOfRows, rows-number}
@@ -41,41 +38,38 @@ four-fields a b c d =
     ∙ ap (λ (l : List (List ℕ)). l ++ (decimal c ∷ [])) (fields-more (decimal a) (decimal b) (plain-decimal b) (long-decimal b)
     ∙ ap (λ (l : List (List ℕ)). l ++ (decimal b ∷ [])) (one-field (decimal a) (plain-decimal a) (long-decimal a))))
 
-abbrev units : ℕ → ℤ
-units bits = Grid.unitsOf unit (ofBits binary32 bits)
-
-none-zero : inMillionths (Grid.unitsOf unit (ofBits binary32 0)) ≡ pos 0
-unfolding Grid.unitsOf ofBits
+none-zero : weightFor 0 ≡ finite (pos 0)
+unfolding millionths
 none-zero = refl
 
-zero-weight : (bits : ℕ) → eqb bits 0 ≡ true → inMillionths (units bits) ≡ pos 0
-zero-weight bits e = ap (λ (b : ℕ). inMillionths (units b)) (eqb-true bits 0 e) ∙ none-zero
+zero-weight : (bits : ℕ) → eqb bits 0 ≡ true → weightFor bits ≡ finite (pos 0)
+zero-weight bits e = ap weightFor (eqb-true bits 0 e) ∙ none-zero
 
 module _ (v : ℕ) (v-in : v < 4294967296) (bits : ℕ) where
-  pub final-row : rowOf (decimal v ++ andWeight bits) ≡ some (final v (millionths bits))
-  unfolding rowBy millionths
+  pub final-row : rowOf (decimal v ++ andWeight bits) ≡ some (final v (weightFor bits))
+  unfolding rowBy
   final-row = go (eqb bits 0) refl
     where
-      go : (b : Bool) → eqb bits 0 ≡ b → rowBy (fieldsOf (decimal v ++ cond b [] (9 ∷ weightText (units bits)))) ≡ some (final v (inMillionths (units bits)))
+      go : (b : Bool) → eqb bits 0 ≡ b → rowBy (fieldsOf (decimal v ++ cond b [] (9 ∷ fieldText bits))) ≡ some (final v (weightFor bits))
       go true e =
           ap (λ (l : List ℕ). rowBy (fieldsOf l)) (append-nil (decimal v)) ∙ ap rowBy (one-field (decimal v) (plain-decimal v) (long-decimal v))
-          ∙ (λ j. finalBy (number-back v v-in j) (some (pos 0))) ∙ ap (λ (w : ℤ). some (final v w)) (sym (zero-weight bits e))
+          ∙ (λ j. finalBy (number-back v v-in j) (some (finite (pos 0)))) ∙ ap (λ (w : Weight). some (final v w)) (sym (zero-weight bits e))
       go false e =
-          ap rowBy (fields-more (decimal v) (weightText (units bits)) (plain-weight (units bits)) (long-weight (units bits)) ∙ ap (λ (l : List (List ℕ)). l ++ (weightText (units bits) ∷ [])) (one-field (decimal v) (plain-decimal v) (long-decimal v)))
-          ∙ (λ j. finalBy (number-back v v-in j) (weight-back (units bits) j))
+          ap rowBy (fields-more (decimal v) (fieldText bits) (plain-weight bits) (long-weight bits) ∙ ap (λ (l : List (List ℕ)). l ++ (fieldText bits ∷ [])) (one-field (decimal v) (plain-decimal v) (long-decimal v)))
+          ∙ (λ j. finalBy (number-back v v-in j) (weight-back bits j))
 
   module _ (t i o : ℕ) (t-in : t < 4294967296) (i-in : i < 4294967296) (o-in : o < 4294967296) where
-    pub link-row : rowOf (decimal v ++ andNumber t ++ andNumber i ++ andNumber o ++ andWeight bits) ≡ some (link v t i o (millionths bits))
-    unfolding rowBy millionths
+    pub link-row : rowOf (decimal v ++ andNumber t ++ andNumber i ++ andNumber o ++ andWeight bits) ≡ some (link v t i o (weightFor bits))
+    unfolding rowBy
     link-row = go (eqb bits 0) refl
       where
-        go : (b : Bool) → eqb bits 0 ≡ b → rowBy (fieldsOf (decimal v ++ andNumber t ++ andNumber i ++ andNumber o ++ cond b [] (9 ∷ weightText (units bits)))) ≡ some (link v t i o (inMillionths (units bits)))
+        go : (b : Bool) → eqb bits 0 ≡ b → rowBy (fieldsOf (decimal v ++ andNumber t ++ andNumber i ++ andNumber o ++ cond b [] (9 ∷ fieldText bits))) ≡ some (link v t i o (weightFor bits))
         go true e =
             ap (λ (l : List ℕ). rowBy (fieldsOf l)) (append-nil (decimal v ++ andNumber t ++ andNumber i ++ andNumber o)) ∙ ap rowBy (four-fields v t i o)
-            ∙ (λ j. linkBy (number-back v v-in j) (number-back t t-in j) (number-back i i-in j) (number-back o o-in j) (some (pos 0))) ∙ ap (λ (w : ℤ). some (link v t i o w)) (sym (zero-weight bits e))
+            ∙ (λ j. linkBy (number-back v v-in j) (number-back t t-in j) (number-back i i-in j) (number-back o o-in j) (some (finite (pos 0)))) ∙ ap (λ (w : Weight). some (link v t i o w)) (sym (zero-weight bits e))
         go false e =
-            ap rowBy (fields-more (decimal v ++ andNumber t ++ andNumber i ++ andNumber o) (weightText (units bits)) (plain-weight (units bits)) (long-weight (units bits)) ∙ ap (λ (l : List (List ℕ)). l ++ (weightText (units bits) ∷ [])) (four-fields v t i o))
-            ∙ (λ j. linkBy (number-back v v-in j) (number-back t t-in j) (number-back i i-in j) (number-back o o-in j) (weight-back (units bits) j))
+            ap rowBy (fields-more (decimal v ++ andNumber t ++ andNumber i ++ andNumber o) (fieldText bits) (plain-weight bits) (long-weight bits) ∙ ap (λ (l : List (List ℕ)). l ++ (fieldText bits ∷ [])) (four-fields v t i o))
+            ∙ (λ j. linkBy (number-back v v-in j) (number-back t t-in j) (number-back i i-in j) (number-back o o-in j) (weight-back bits j))
 
 -- no newline within
 lined-decimal : (n : ℕ) → Lined (decimal n)
@@ -87,9 +81,9 @@ lined-number n = (refl, lined-decimal n)
 lined-weight : (bits : ℕ) → Lined (andWeight bits)
 lined-weight bits = go (eqb bits 0)
   where
-    go : (b : Bool) → Lined (cond b [] (9 ∷ weightText (units bits)))
+    go : (b : Bool) → Lined (cond b [] (9 ∷ fieldText bits))
     go true = tt
-    go false = (refl, lined-plain (weightText (units bits)) (plain-weight (units bits)))
+    go false = (refl, lined-plain (fieldText bits) (plain-weight bits))
 
 lined-link : (v t i o bits : ℕ) → Lined (decimal v ++ andNumber t ++ andNumber i ++ andNumber o ++ andWeight bits)
 lined-link v t i o bits =
@@ -117,9 +111,9 @@ module _ (p : Parts) (four : length (p .links) ≡ 4 * linkCount p) (three : len
   reads-final : (v : ℕ) → v < N → Reads (finalRow p v) (finalRowFor p v)
   reads-final v h = go (eqb (mark p v) 0)
     where
-      go : (b : Bool) → Reads (cond b [] (decimal v ++ andWeight (finalBits p v) ++ (10 ∷ []))) (cond b [] (final v (millionths (finalBits p v)) ∷ []))
+      go : (b : Bool) → Reads (cond b [] (decimal v ++ andWeight (finalBits p v) ++ (10 ∷ []))) (cond b [] (final v (weightFor (finalBits p v)) ∷ []))
       go true = reads-none
-      go false = reads-line (decimal v ++ andWeight (finalBits p v)) (final v (millionths (finalBits p v))) (lined-append (decimal v) (andWeight (finalBits p v)) (lined-decimal v) (lined-weight (finalBits p v))) (final-row v (omega (arith, few)) (finalBits p v))
+      go false = reads-line (decimal v ++ andWeight (finalBits p v)) (final v (weightFor (finalBits p v))) (lined-append (decimal v) (andWeight (finalBits p v)) (lined-decimal v) (lined-weight (finalBits p v))) (final-row v (omega (arith, few)) (finalBits p v))
 
   reads-node : (v : ℕ) → v < N → Reads (nodeRows p v) (nodeRowsFor p v)
   unfolding nodeRows nodeRowsFor

@@ -11,15 +11,20 @@ use lib.Dec.{ltb, leb, eqb}
 use lib.IntN.{ℤ, pos, negsuc, negℤ}
 use lib.ListN.{length, length-append}
 use borrow.Author.Tests.{ne-eqb, eqb-true, eqb-false, ltb-true, ltb-false, lt-ltb, le-leb}
+use lib.Ieee.{binary32, ofBits}
+use Rattle.tropical_weight.specs.Limits.{unit}
+use Rattle.tropical_weight.specs.Grid as Grid
 use Rattle.io.specs.Digits.{glyph, digits}
 use Rattle.sheet.specs.Below.{listBelow}
+use Rattle.sheet.specs.Sheet.{barredBits}
 use Rattle.sheet.proofs.Below.{flat-snoc}
+use Rattle.sheet.proofs.Apart.{both}
 use Rattle.decimals.specs.Decimal.{digitsOnto, digitsOf}
-use Rattle.text_rows.specs.Fields.{andThen, isNewline, isBlank, ontoFirst, rowsOf, ended, goesOn, fieldsOf, numberOf, beforePoint, fromPoint, partOf, bothParts, magnitudeOf, weightOf}
+use Rattle.text_rows.specs.Fields.{Weight, finite, barred, infinityText, sameText, andThen, isNewline, isBlank, ontoFirst, rowsOf, ended, goesOn, fieldsOf, numberOf, beforePoint, fromPoint, partOf, bothParts, magnitudeOf, decimalOf, weightOf}
 use Rattle.text_rows.specs.Rows.{Row, rowOf, allRows}
 use Rattle.decimals.specs.Decimal.{placesBy, decimal}
-use Rattle.text_rows.specs.Written.{shortest, partText, magnitudeText, weightText}
-use Rattle.text_rows.specs.RowsFor.{inMillionths}
+use Rattle.text_rows.specs.Written.{shortest, partText, magnitudeText, weightText, fieldText}
+use Rattle.text_rows.specs.RowsFor.{inMillionths, millionths, weightFor}
 use Rattle.decimals.proofs.ReadBack.{digits-back}
 
 -- ---- digits, bytes of fields, bytes of rows
@@ -104,6 +109,9 @@ unfolding numberOf
 number-back n h = ap (λ (o : Option ℕ). andThen o (λ m. cond (ltb m (2 ^ 32)) (some m) none)) (decimal-read n) ∙ ap (λ (b : Bool). cond b (some n) none) (lt-ltb n (2 ^ 32) h)
 
 -- ---- weights
+abbrev units : ℕ → ℤ
+units bits = Grid.unitsOf unit (ofBits binary32 bits)
+
 abbrev Short : ℕ → ℕ → List ℕ → Type 0
 Short k n ds = (j : ℕ) × (m : ℕ) × (ds ≡ digits 10 j m) × (1 ≤ j) × (j ≤ k) × (m < 10 ^ j) × (m * 10 ^ (k - j) ≡ n)
 
@@ -175,18 +183,51 @@ magnitude-back k = go (eqb (k % 64 * 15625) 0) refl
         ∙ (λ i. bothParts (decimal-read (k / 64) i) (part-back (k % 64 * 15625) (omega arith) (omega (arith, z)) i))
         ∙ ap some (let q : k / 64 * 1000000 + k % 64 * 15625 ≡ 15625 * k = omega arith in q)
 
-no-minus : (f rest : List ℕ) → Numeric f → 1 ≤ length f → weightOf (f ++ rest) ≡ andThen (magnitudeOf (f ++ rest)) (λ n. some (pos n))
-unfolding weightOf
+no-minus : (f rest : List ℕ) → Numeric f → 1 ≤ length f → decimalOf (f ++ rest) ≡ andThen (magnitudeOf (f ++ rest)) (λ n. some (pos n))
+unfolding decimalOf
 no-minus [] rest h l = absurd (omega arith)
 no-minus (c ∷ f) rest h l =
     ap (λ (b : Bool). cond b (andThen (magnitudeOf (f ++ rest)) (λ n. some (negℤ (pos n)))) (andThen (magnitudeOf (c ∷ f ++ rest)) (λ n. some (pos n)))) (ne-eqb c 45 (λ e. omega (arith, e, h .0)))
 
-pub weight-back : (k : ℤ) → weightOf (weightText k) ≡ some (inMillionths k)
+decimal-back : (k : ℤ) → decimalOf (weightText k) ≡ some (inMillionths k)
 unfolding weightText magnitudeText
-weight-back (pos k) =
+decimal-back (pos k) =
     no-minus (decimal (k / 64)) (partText (k % 64 * 15625)) (numeric-decimal (k / 64)) (long-decimal (k / 64))
     ∙ ap {B = Option ℤ} (λ (o : Option ℕ). andThen o (λ n. some (pos n))) (magnitude-back k)
-weight-back (negsuc k) = unfold weightOf in ap {B = Option ℤ} (λ (o : Option ℕ). andThen o (λ n. some (negℤ (pos n)))) (magnitude-back (suc k))
+decimal-back (negsuc k) = unfold decimalOf in ap {B = Option ℤ} (λ (o : Option ℕ). andThen o (λ n. some (negℤ (pos n)))) (magnitude-back (suc k))
+
+-- a decimal is no Infinity
+same-text : (xs ys : List ℕ) → sameText xs ys ≡ true → xs ≡ ys
+unfolding sameText
+same-text [] [] e = refl
+same-text [] (y ∷ ys) e = absurd (false≢true e)
+same-text (x ∷ xs) [] e = absurd (false≢true e)
+same-text (x ∷ xs) (y ∷ ys) e = let b = both (eqb x y) (sameText xs ys) e in λ i. eqb-true x y (b .0) i ∷ same-text xs ys (b .1) i
+
+infinity-none : decimalOf infinityText ≡ none
+unfolding decimalOf infinityText
+infinity-none = refl
+
+pub decimal-weight : (f : List ℕ) (w : ℤ) → decimalOf f ≡ some w → weightOf f ≡ some (finite w)
+unfolding weightOf
+decimal-weight f w e = go (sameText f infinityText) refl
+  where
+    go : (b : Bool) → sameText f infinityText ≡ b → cond b (some barred) (andThen (decimalOf f) (λ w. some (finite w))) ≡ some (finite w)
+    go true q = let clash : none ≡ some w = sym infinity-none ∙ ap decimalOf (sym (same-text f infinityText q)) ∙ e in let z : _≡_ {A = ℕ} 0 1 = cc in absurd (omega arith)
+    go false q = ap {B = Option Weight} (λ (o : Option ℤ). andThen o (λ w. some (finite w))) e
+
+pub infinity-weight : weightOf infinityText ≡ some barred
+unfolding weightOf infinityText
+infinity-weight = refl
+
+-- the text of a field is read as its weight
+pub weight-back : (bits : ℕ) → weightOf (fieldText bits) ≡ some (weightFor bits)
+unfolding millionths
+weight-back bits = go (eqb bits barredBits)
+  where
+    go : (b : Bool) → weightOf (cond b infinityText (weightText (units bits))) ≡ some (cond b barred (finite (millionths bits)))
+    go true = infinity-weight
+    go false = decimal-weight (weightText (units bits)) (inMillionths (units bits)) (decimal-back (units bits))
 
 plain-magnitude : (k : ℕ) → Plain (magnitudeText k)
 unfolding magnitudeText
@@ -196,15 +237,31 @@ plain-magnitude k = plain-append (decimal (k / 64)) (partText (k % 64 * 15625)) 
     go true e = tt
     go false e = let z : k % 64 * 15625 ≡ 0 → ⊥ = eqb-false (k % 64 * 15625) 0 e in (refl, refl, plain-short (k % 64 * 15625) (omega arith) (omega (arith, z)))
 
-pub plain-weight : (k : ℤ) → Plain (weightText k)
+plain-units : (k : ℤ) → Plain (weightText k)
 unfolding weightText
-plain-weight (pos k) = plain-magnitude k
-plain-weight (negsuc k) = (refl, refl, plain-magnitude (suc k))
+plain-units (pos k) = plain-magnitude k
+plain-units (negsuc k) = (refl, refl, plain-magnitude (suc k))
 
-pub long-weight : (k : ℤ) → 1 ≤ length (weightText k)
+pub plain-weight : (bits : ℕ) → Plain (fieldText bits)
+unfolding infinityText
+plain-weight bits = go (eqb bits barredBits)
+  where
+    go : (b : Bool) → Plain (cond b infinityText (weightText (units bits)))
+    go true = (refl, refl, (refl, refl, (refl, refl, (refl, refl, (refl, refl, (refl, refl, (refl, refl, (refl, refl, tt))))))))
+    go false = plain-units (units bits)
+
+long-units : (k : ℤ) → 1 ≤ length (weightText k)
 unfolding weightText magnitudeText
-long-weight (pos k) = omega (arith, length-append (decimal (k / 64)) (partText (k % 64 * 15625)), long-decimal (k / 64))
-long-weight (negsuc k) = omega arith
+long-units (pos k) = omega (arith, length-append (decimal (k / 64)) (partText (k % 64 * 15625)), long-decimal (k / 64))
+long-units (negsuc k) = omega arith
+
+pub long-weight : (bits : ℕ) → 1 ≤ length (fieldText bits)
+unfolding infinityText
+long-weight bits = go (eqb bits barredBits)
+  where
+    go : (b : Bool) → 1 ≤ length (cond b infinityText (weightText (units bits)))
+    go true = omega arith
+    go false = long-units (units bits)
 
 -- ---- fields parted by tabs
 onto-append : (c : ℕ) (X Y : List (List ℕ)) → 1 ≤ length X → ontoFirst c (X ++ Y) ≡ ontoFirst c X ++ Y

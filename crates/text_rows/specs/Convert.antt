@@ -1,20 +1,19 @@
 -- The sheet of rows, and the number that converting them answers. Definitions only.
 use Prim.Native.Nat.{ℕ, _+_, _*_, _^_}
-use mathlib.Core.Bool.{Bool, true, false, not, _&&_, cond}
+use mathlib.Core.Bool.{Bool, not, _&&_, cond}
 use mathlib.Core.Option.{Option, none, some}
 use mathlib.Core.List.{List, [], _∷_, _++_, flatMap}
 use lib.Dec.{ltb, eqb}
-use lib.IntN.{ℤ}
 use lib.ListN.{length, drop}
-use Rattle.tropical_weight.specs.Tropical.{Tropical, fin}
 use Rattle.sheet.specs.Below.{listBelow}
 use Rattle.sheet.specs.Sheet.{Parts, sheetOf, trailerLength}
 use Rattle.sheet.specs.Machine.{bitsOf}
-use Rattle.text_rows.specs.Rows.{Row, link, final, readRows, firstNode, highest, weightsOnGrid, unitsOf}
+use Rattle.text_rows.specs.Fields.{Weight}
+use Rattle.text_rows.specs.Rows.{Row, link, final, readRows, firstNode, highest, weightsPass, weighs}
 
--- the weight's field of so many millionths
-abbrev pub fieldOf : ℤ → ℕ
-fieldOf w = bitsOf (fin (unitsOf w))
+-- the field of a weight
+abbrev pub fieldOf : Weight → ℕ
+fieldOf w = bitsOf (weighs w)
 
 -- a node's links, in row order, in the fields of a sheet
 abbrev pub linkFrom : ℕ → Row → List ℕ
@@ -66,10 +65,10 @@ fieldsHold rs = ltb (nodesIn rs) (2 ^ 32) && ltb (16 * linksIn rs) (2 ^ 32)
 
 abbrev pub numberBy : Option (List Row) → ℕ → ℕ
 numberBy none room = 8
-numberBy (some rs) room = cond (not (fieldsHold rs)) 1 (cond (not (weightsOnGrid rs)) 4 (cond (ltb room (lengthOf rs)) 21 0))
+numberBy (some rs) room = cond (not (fieldsHold rs)) 1 (cond (not (weightsPass rs)) 4 (cond (ltb room (lengthOf rs)) 21 0))
 
 unfoldable pub rowsNumber : List ℕ → ℕ → ℕ
-unfolding readRows highest linksIn weightsOnGrid
+unfolding readRows highest linksIn weightsPass
 rowsNumber text room = numberBy (readRows text) room
 
 abbrev pub orNoRows : Option (List Row) → List Row

@@ -54,7 +54,24 @@ unfoldable pub numberOf : List ℕ → Option ℕ
 unfolding digitsOnto
 numberOf f = andThen (digitsOf f) (λ n. cond (ltb n (2 ^ 32)) (some n) none)
 
--- ---- weights, in millionths
+-- ---- weights
+-- A weight as it is written: a decimal, in millionths, or infinity, which bars.
+pub data Weight : Type 0 where
+  finite : ℤ → Weight
+  barred : Weight
+
+-- the one spelling of infinity: Infinity
+unfoldable pub infinityText : List ℕ
+infinityText = 73 ∷ 110 ∷ 102 ∷ 105 ∷ 110 ∷ 105 ∷ 116 ∷ 121 ∷ []
+
+-- whether two texts are the same
+unfoldable pub sameText : List ℕ → List ℕ → Bool
+sameText [] [] = true
+sameText [] (d ∷ ds) = false
+sameText (c ∷ cs) [] = false
+sameText (c ∷ cs) (d ∷ ds) = eqb c d && sameText cs ds
+
+-- ---- decimals, in millionths
 abbrev pub million : ℕ
 million = 1000000
 
@@ -82,7 +99,12 @@ unfolding beforePoint fromPoint partOf digitsOnto
 magnitudeOf f = bothParts (digitsOf (beforePoint f)) (partOf (fromPoint f))
 
 -- an optional minus sign before; -0 is 0
-unfoldable pub weightOf : List ℕ → Option ℤ
+unfoldable pub decimalOf : List ℕ → Option ℤ
 unfolding magnitudeOf
-weightOf [] = none
-weightOf (c ∷ cs) = cond (eqb c 45) (andThen (magnitudeOf cs) (λ n. some (negℤ (pos n)))) (andThen (magnitudeOf (c ∷ cs)) (λ n. some (pos n)))
+decimalOf [] = none
+decimalOf (c ∷ cs) = cond (eqb c 45) (andThen (magnitudeOf cs) (λ n. some (negℤ (pos n)))) (andThen (magnitudeOf (c ∷ cs)) (λ n. some (pos n)))
+
+-- a weight
+unfoldable pub weightOf : List ℕ → Option Weight
+unfolding infinityText sameText decimalOf
+weightOf f = cond (sameText f infinityText) (some barred) (andThen (decimalOf f) (λ w. some (finite w)))

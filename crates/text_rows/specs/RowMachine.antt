@@ -4,16 +4,11 @@ use mathlib.Core.Bool.{cond}
 use mathlib.Core.Option.{Option, none, some}
 use mathlib.Core.List.{List, [], _∷_, flatMap}
 use lib.Dec.{eqb}
-use lib.IntN.{ℤ}
-use Rattle.tropical_weight.specs.Tropical.{Tropical, fin}
+use Rattle.tropical_weight.specs.Tropical.{Tropical}
 use Rattle.sheet.specs.Below.{listBelow}
 use Rattle.sheet.specs.Machine.{Link, Machine}
-use Rattle.text_rows.specs.Rows.{Row, link, final, firstNode, highest, unitsOf}
+use Rattle.text_rows.specs.Rows.{Row, link, final, firstNode, highest, weighs}
 use Rattle.text_rows.specs.Convert.{nodesIn}
-
--- the weight of so many millionths
-abbrev pub weighs : ℤ → Tropical
-weighs w = fin (unitsOf w)
 
 -- the link of a row, where it leaves v
 abbrev pub linkIn : ℕ → Row → List Link

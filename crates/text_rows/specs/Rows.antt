@@ -6,28 +6,29 @@ use mathlib.Core.List.{List, [], _∷_}
 use lib.Dec.{leb, eqb}
 use lib.IntN.{ℤ, pos, negsuc, natAbs, negℤ}
 use Rattle.tropical_weight.specs.Limits.{unit, weightLimit}
-use Rattle.text_rows.specs.Fields.{million, andThen, rowsOf, ended, fieldsOf, numberOf, weightOf}
+use Rattle.tropical_weight.specs.Tropical.{Tropical, fin, inf}
+use Rattle.text_rows.specs.Fields.{Weight, finite, barred, million, andThen, rowsOf, ended, fieldsOf, numberOf, weightOf}
 
--- A link: source, next node, input label, output label and weight; or a final node and its weight. Weights are in millionths.
+-- A link: source, next node, input label, output label and weight; or a final node and its weight.
 pub data Row : Type 0 where
-  link : ℕ → ℕ → ℕ → ℕ → ℤ → Row
-  final : ℕ → ℤ → Row
+  link : ℕ → ℕ → ℕ → ℕ → Weight → Row
+  final : ℕ → Weight → Row
 
 -- ---- reading a row
-abbrev pub linkBy : Option ℕ → Option ℕ → Option ℕ → Option ℕ → Option ℤ → Option Row
+abbrev pub linkBy : Option ℕ → Option ℕ → Option ℕ → Option ℕ → Option Weight → Option Row
 linkBy s t i o w = andThen s (λ s′. andThen t (λ t′. andThen i (λ i′. andThen o (λ o′. andThen w (λ w′. some (link s′ t′ i′ o′ w′))))))
 
-abbrev pub finalBy : Option ℕ → Option ℤ → Option Row
+abbrev pub finalBy : Option ℕ → Option Weight → Option Row
 finalBy v w = andThen v (λ v′. andThen w (λ w′. some (final v′ w′)))
 
 -- an absent weight is 0
 unfoldable pub rowBy : List (List ℕ) → Option Row
 unfolding numberOf weightOf
 rowBy [] = none
-rowBy (v ∷ []) = finalBy (numberOf v) (some (pos 0))
+rowBy (v ∷ []) = finalBy (numberOf v) (some (finite (pos 0)))
 rowBy (v ∷ w ∷ []) = finalBy (numberOf v) (weightOf w)
 rowBy (x ∷ y ∷ z ∷ []) = none
-rowBy (s ∷ t ∷ i ∷ o ∷ []) = linkBy (numberOf s) (numberOf t) (numberOf i) (numberOf o) (some (pos 0))
+rowBy (s ∷ t ∷ i ∷ o ∷ []) = linkBy (numberOf s) (numberOf t) (numberOf i) (numberOf o) (some (finite (pos 0)))
 rowBy (s ∷ t ∷ i ∷ o ∷ w ∷ []) = linkBy (numberOf s) (numberOf t) (numberOf i) (numberOf o) (weightOf w)
 rowBy (s ∷ t ∷ i ∷ o ∷ w ∷ x ∷ xs) = none
 
@@ -74,7 +75,7 @@ highest [] = 0
 highest (r ∷ rs) = max (highestIn r) (highest rs)
 
 -- ---- weights
-abbrev pub weightIn : Row → ℤ
+abbrev pub weightIn : Row → Weight
 weightIn (link s t i o w) = w
 weightIn (final v w) = w
 
@@ -94,6 +95,16 @@ abbrev pub unitsOf : ℤ → ℤ
 unitsOf (pos n) = pos (n * unitsInOne / million)
 unitsOf (negsuc n) = negℤ (pos ((1 + n) * unitsInOne / million))
 
-unfoldable pub weightsOnGrid : List Row → Bool
-weightsOnGrid [] = true
-weightsOnGrid (r ∷ rs) = onGrid (weightIn r) && weightsOnGrid rs
+-- refusal 4 does not cover a barred weight
+abbrev pub weightPasses : Weight → Bool
+weightPasses (finite w) = onGrid w
+weightPasses barred = true
+
+unfoldable pub weightsPass : List Row → Bool
+weightsPass [] = true
+weightsPass (r ∷ rs) = weightPasses (weightIn r) && weightsPass rs
+
+-- what a weight that passes weighs
+abbrev pub weighs : Weight → Tropical
+weighs (finite w) = fin (unitsOf w)
+weighs barred = inf

@@ -8,7 +8,8 @@ use lib.Ieee.{binary32, ofBits}
 use Rattle.tropical_weight.specs.Limits.{unit}
 use Rattle.tropical_weight.specs.Grid as Grid
 use Rattle.sheet.specs.Below.{sumBelow, listBelow}
-use Rattle.sheet.specs.Sheet.{Parts, nodeCount, ilabel, olabel, linkBits, next, count, mark, finalBits}
+use Rattle.sheet.specs.Sheet.{Parts, barredBits, nodeCount, ilabel, olabel, linkBits, next, count, mark, finalBits}
+use Rattle.text_rows.specs.Fields.{Weight, finite, barred}
 use Rattle.text_rows.specs.Rows.{Row, link, final, inUnit}
 use Rattle.text_rows.specs.Written.{firstOf}
 
@@ -22,13 +23,16 @@ unfoldable pub millionths : ℕ → ℤ
 unfolding Grid.unitsOf ofBits
 millionths bits = inMillionths (Grid.unitsOf unit (ofBits binary32 bits))
 
+abbrev pub weightFor : ℕ → Weight
+weightFor bits = cond (eqb bits barredBits) barred (finite (millionths bits))
+
 module _ (p : Parts) where
   -- link l of node v
   abbrev pub linkRowFor : ℕ → ℕ → Row
-  linkRowFor v l = link v (next p l) (ilabel p l) (olabel p l) (millionths (linkBits p l))
+  linkRowFor v l = link v (next p l) (ilabel p l) (olabel p l) (weightFor (linkBits p l))
 
   abbrev pub finalRowFor : ℕ → List Row
-  finalRowFor v = cond (eqb (mark p v) 0) [] (final v (millionths (finalBits p v)) ∷ [])
+  finalRowFor v = cond (eqb (mark p v) 0) [] (final v (weightFor (finalBits p v)) ∷ [])
 
   -- a node's links, then its final row
   unfoldable pub nodeRowsFor : ℕ → List Row

@@ -1,6 +1,6 @@
 -- The rows of a sheet as text, and which sheets have rows. Definitions only.
 use Prim.Native.Nat.{ℕ, zero, suc, _+_, _-_, _*_, _/_, _%_}
-use mathlib.Core.Bool.{Bool, true, false, not, _&&_, _||_, cond}
+use mathlib.Core.Bool.{Bool, not, _&&_, _||_, cond}
 use mathlib.Core.List.{List, [], _∷_, _++_, flatMap}
 use lib.Dec.{ltb, eqb}
 use lib.IntN.{ℤ, pos, negsuc}
@@ -11,7 +11,8 @@ use Rattle.decimals.specs.Decimal.{decimal}
 use Rattle.tropical_weight.specs.Limits.{unit}
 use Rattle.tropical_weight.specs.Grid as Grid
 use Rattle.sheet.specs.Below.{allBelow, sumBelow, listBelow}
-use Rattle.sheet.specs.Sheet.{Parts, linkCount, nodeCount, ilabel, olabel, linkBits, next, count, mark, finalBits, partsOf, readNumber}
+use Rattle.sheet.specs.Sheet.{Parts, barredBits, linkCount, nodeCount, ilabel, olabel, linkBits, next, count, mark, finalBits, partsOf, readNumber}
+use Rattle.text_rows.specs.Fields.{infinityText}
 use Rattle.text_rows.specs.Rows.{unitsInOne, inUnit}
 
 -- ---- weights
@@ -34,6 +35,10 @@ unfolding magnitudeText
 weightText (pos k) = magnitudeText k
 weightText (negsuc k) = 45 ∷ magnitudeText (suc k)
 
+-- of a weight's field
+abbrev pub fieldText : ℕ → List ℕ
+fieldText bits = cond (eqb bits barredBits) infinityText (weightText (Grid.unitsOf unit (ofBits binary32 bits)))
+
 -- ---- rows
 -- a tab and a number
 abbrev pub andNumber : ℕ → List ℕ
@@ -41,7 +46,7 @@ andNumber n = 9 ∷ decimal n
 
 -- a tab and a weight, by its field; a weight of 0 is left out
 abbrev pub andWeight : ℕ → List ℕ
-andWeight bits = cond (eqb bits 0) [] (9 ∷ weightText (Grid.unitsOf unit (ofBits binary32 bits)))
+andWeight bits = cond (eqb bits 0) [] (9 ∷ fieldText bits)
 
 module _ (p : Parts) where
   -- link l of node v
@@ -57,7 +62,7 @@ module _ (p : Parts) where
 
   -- a node's links, then its final row
   unfoldable pub nodeRows : ℕ → List ℕ
-  unfolding decimal weightText sumBelow listBelow flatMap Grid.unitsOf ofBits
+  unfolding decimal infinityText weightText sumBelow listBelow flatMap Grid.unitsOf ofBits
   nodeRows v = flatMap (λ i. linkRow v (firstOf v + i)) (listBelow (count p v) (λ i. i)) ++ finalRow v
 
   -- the start's rows first, then by rising node

@@ -207,6 +207,16 @@ finite-⊕ (fin a) inf = refl
 finite-⊕ inf (fin b) = refl
 finite-⊕ inf inf = refl
 
+-- a sum is finite where both its terms are
+pub finite-⊗ : (x y : Tropical) → isFinite (x ⊗ y) ≡ isFinite x && isFinite y
+finite-⊗ (fin a) (fin b) = refl
+finite-⊗ (fin a) inf = refl
+finite-⊗ inf y = refl
+
+pub is-finite : (x : Tropical) → isFinite x ≡ true → (k : ℤ) × (x ≡ fin k)
+is-finite (fin a) e = (a, refl)
+is-finite inf e = absurd (subst T (sym e) tt)
+
 pub not-finite : (x : Tropical) → isFinite x ≡ false → x ≡ inf
 not-finite (fin a) e = absurd (subst T e tt)
 not-finite inf e = refl

@@ -2,9 +2,10 @@
 
 use oracle::bytes;
 use oracle::cases::Case;
+use oracle::finite::finite;
 use oracle::machine::Machine;
 use oracle::random::Random;
-use oracle::reference;
+use oracle::reference::{self, List};
 
 use crate::calls::{self, outcome, Answer, Areas};
 use crate::checker;
@@ -14,7 +15,7 @@ use crate::tally::Tally;
 use crate::writer;
 use yeldmur::ffi;
 
-/// The two words of a distance: the Rust's infinity is an unreached node.
+/// The two words of a distance: the Rust's infinity is an unreached node, by a barred link or by none.
 fn written(distance: f32) -> [u32; 2] {
     if distance == f32::INFINITY {
         [0, 0]
@@ -33,13 +34,16 @@ pub fn distances(machine: &Machine) -> Answer {
     }
 }
 
-/// The Rust's list, as the library must answer it.
+/// The Rust's list without its infinite readings, as the library must answer it.
 pub fn list(machine: &Machine, n: u32) -> Answer {
-    let list = reference::list(machine, n as usize);
+    answered(&finite(reference::list(machine, n as usize), n as usize))
+}
+
+fn answered(list: &List) -> Answer {
     let counts = [list.machine.nodes.len(), list.words.len(), list.taken];
     Answer {
         counts: counts.map(|count| count as u32).to_vec(),
-        bytes: bytes::list(&list),
+        bytes: bytes::list(list),
     }
 }
 
@@ -60,6 +64,7 @@ fn areas(random: &mut Random, slots: usize, bytes: usize) -> [Areas; 2] {
 pub fn compare(tally: &mut Tally, random: &mut Random, case: &Case) {
     let sheet = bytes::sheet(&case.machine);
     tally.sheets += 1;
+    tally.barred += case.machine.is_barred() as u64;
     tally.check("read", &sheet, ffi::read_sheet(&sheet) == 0);
     writer::compare(tally, random, &Parts::of(&case.machine));
     compare_distances(tally, random, &sheet, &case.machine);
@@ -84,9 +89,12 @@ fn compare_distances(tally: &mut Tally, random: &mut Random, sheet: &[u8], machi
 }
 
 fn compare_list(tally: &mut Tally, random: &mut Random, sheet: &[u8], machine: &Machine, n: u32) {
-    let answer = list(machine, n);
+    let whole = reference::list(machine, n as usize);
+    let listed = whole.words.len();
+    let answer = answered(&finite(whole, n as usize));
     let slots = checker::list_slots(sheet, n);
     tally.lists += 1;
+    tally.cut += ((answer.counts[1] as usize) < listed) as u64;
     tally.asked.insert(n);
     for areas in areas(random, slots, answer.bytes.len()) {
         let left = calls::list(sheet, n, areas, random.word() as u32);

@@ -51,6 +51,11 @@ fn on_grid(bits: u32) -> bool {
     bits != 0x8000_0000 && units.is_finite() && units.fract() == 0.0 && units.abs() <= UNITS
 }
 
+/// Positive infinity bars a link or an end, and passes test 4.
+fn fits(bits: u32) -> bool {
+    bits == 0x7F80_0000 || on_grid(bits)
+}
+
 impl Fields {
     fn start_is_there(&self) -> bool {
         self.start == 0xFFFF_FFFF || (self.start as usize) < self.nodes.len()
@@ -60,10 +65,10 @@ impl Fields {
         (self.links.iter()).all(|link| (link[3] as usize) < self.nodes.len())
     }
 
-    fn weights_are_on_grid(&self) -> bool {
+    fn weights_fit(&self) -> bool {
         let ends = self.nodes.iter().filter(|node| node[1] == 1);
         let mut weights = (self.links.iter().map(|link| link[2])).chain(ends.map(|node| node[2]));
-        weights.all(on_grid)
+        weights.all(fits)
     }
 
     fn is_small(&self) -> bool {
@@ -96,7 +101,7 @@ pub fn read(sheet: &[u8]) -> u32 {
     first_failed(&[
         (2, &|| fields.start_is_there()),
         (3, &|| fields.next_nodes_are_there()),
-        (4, &|| fields.weights_are_on_grid()),
+        (4, &|| fields.weights_fit()),
     ])
 }
 

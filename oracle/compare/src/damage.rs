@@ -1,14 +1,15 @@
 //! Damage to sheets: fields, lengths, counts that wrap, sizes, n. Each kind of it may meet others in
 //! one sheet, so that the order of the tests shows.
 
-use oracle::machine::{LINKS, NODES};
+use oracle::machine::{BARRED, LINKS, NODES};
 use oracle::random::Random;
 use oracle::reference::NONE;
 
 use crate::parts::Parts;
 
-/// Weight bits off the grid: NaN, infinities, negative zero, the least above 0, 1/128, 128 and a
-/// sixty-fourth, 128 and a bit, and the largest.
+/// Weight bits off the grid: NaN, infinities, of which the positive one is accepted where there is a
+/// weight, negative zero, the least above 0, 1/128, 128 and a sixty-fourth, 128 and a bit, and the
+/// largest.
 pub const OFF_GRID: [u32; 10] = [
     0x7FC0_0000,
     0x7F80_0001,
@@ -106,7 +107,14 @@ fn next_node(random: &mut Random, parts: &mut Parts) {
 /// A mark that is no mark, or a weight where the mark is 0.
 fn mark(random: &mut Random, parts: &mut Parts) {
     if let Some(v) = any(random, parts.nodes.len()) {
-        let (mark, bits) = random.pick(&[(2, 0), (NONE, 0), (256, 0), (0, 1 << 31), (0, 1)]);
+        let (mark, bits) = random.pick(&[
+            (2, 0),
+            (NONE, 0),
+            (256, 0),
+            (0, 1 << 31),
+            (0, 1),
+            (0, BARRED.to_bits()),
+        ]);
         parts.nodes[v][1] = mark;
         parts.nodes[v][2] = bits;
     }

@@ -24,11 +24,11 @@ const USAGE: &str = "usage: compare SEED COUNT
 fn compared(seed: u64, count: usize) -> Tally {
     let mut tally = Tally::default();
     let mut random = Random::new(!seed);
-    for case in Cases::new(seed).take(count) {
+    for case in Cases::barred(seed).take(count) {
         accepted::compare(&mut tally, &mut random, &case);
     }
     refused::compare_each_field(&mut tally, &mut random);
-    for case in Cases::new(seed ^ 1 << 63).take(count) {
+    for case in Cases::barred(seed ^ 1 << 63).take(count) {
         refused::compare_damaged(&mut tally, &mut random, &case);
     }
     tally

@@ -8,7 +8,11 @@ use oracle::bytes::hex;
 #[derive(Default)]
 pub struct Tally {
     pub sheets: u64,
+    /// Those with a barred link or end.
+    pub barred: u64,
     pub lists: u64,
+    /// Those whose infinite readings, which the Rust lists, were left out.
+    pub cut: u64,
     pub distances: u64,
     pub calls: u64,
     pub asked: BTreeSet<u32>,
@@ -49,10 +53,12 @@ impl fmt::Display for Tally {
             .map(|(k, count)| format!("{k}: {count}"));
         write!(
             f,
-            "{} sheets, {} lists of {} values of n, {} distances, {damaged} damaged sheets by number ({}), {} calls, {} differences",
+            "{} sheets, {} of them barred in part, {} lists of {} values of n, {} without the Rust's infinite readings, {} distances, {damaged} damaged sheets by number ({}), {} calls, {} differences",
             self.sheets,
+            self.barred,
             self.lists,
             self.asked.len(),
+            self.cut,
             self.distances,
             numbers.collect::<Vec<_>>().join(", "),
             self.calls,

@@ -3,7 +3,7 @@
 // each test program uses a part of this
 #![allow(dead_code)]
 
-use yeldmur::{units, Link, Sheet};
+use yeldmur::{units, Link, Sheet, BARRED};
 
 /// The word for no start and no input link.
 pub const NONE: u32 = 0xFFFF_FFFF;
@@ -69,7 +69,8 @@ pub fn readings(sheet: &Sheet, n: u32) -> Vec<(i32, Vec<u32>)> {
         .collect()
 }
 
-/// The cost and the end of a run by the sheet's own links, which must hang together from the start to a final node; else none.
+/// The cost and the end of a run by the sheet's own links, which must hang together from the start to a final node, with nothing barred;
+/// else none.
 pub fn walked(sheet: &Sheet, run: &[u32]) -> Option<(i32, u32)> {
     let (mut node, mut cost) = (sheet.start()?, 0);
     for &number in run {
@@ -78,9 +79,9 @@ pub fn walked(sheet: &Sheet, run: &[u32]) -> Option<(i32, u32)> {
             return None;
         }
         node = link.next;
-        cost += units(link.weight);
+        cost += units(link.weight)?;
     }
-    Some((cost + units(sheet.final_weight(node)?), node))
+    Some((cost + units(sheet.final_weight(node)?)?, node))
 }
 
 /// A chain of so many nodes, with one weight on every link and on the last node.
@@ -111,5 +112,14 @@ impl Random {
 
     pub fn weight(&mut self, spread: u32) -> f32 {
         (self.below(2 * spread + 1) as f32 - spread as f32) / 64.0
+    }
+
+    /// A weight that is barred one time in four.
+    pub fn weight_or_barred(&mut self, spread: u32) -> f32 {
+        if self.below(4) == 0 {
+            BARRED
+        } else {
+            self.weight(spread)
+        }
     }
 }

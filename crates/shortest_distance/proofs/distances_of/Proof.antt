@@ -1,10 +1,6 @@
-use mathlib.Core.Path.{ap, _∙_}
-use Prim.Native.Nat.{ℕ}
+use mathlib.Core.Path.{_∙_}
 use native.Mathlib.Omega.{arith}
-use lib.ListN.{length}
 use denote.Ref.{now}
-use Rattle.shortest_distance.specs.NodeSlots.{distanceWords}
-use Rattle.shortest_distance.specs.Handed.{handed, handedOver}
 use Rattle.shortest_distance.proofs.Outcomes.{height-low, few-slots, handed-over}
 use borrow.Author.Needs.{needs}
 use Rattle.shortest_distance.proofs.distances_of.Statement.{statement}
@@ -29,7 +25,9 @@ height-requires c κs = search needs
 hand-over-requires : tie.Need-hand-over-requires
 hand-over-requires c κs =
     let a = c .before .before .before .before .before .before .before .before .before .before .before .args in
-    omega (arith, c .before .height .ensures, height-low (c .before .before .before .before .before .make .last .1 .1 .0) (a .t .nodes), c .before .before .before .before .before .make .ensures .size, c .before .before .before .before .before .before .before .if1 .left)
+    let r = c .before .before .before .before .before .before .before .before .before .before .before .pre in
+    let made = c .before .before .before .before .before .make in
+    omega (arith, height-low (now (a .sheet)) (now (a .work)) (now (a .result)) (r .0) (a .t) (r .1) (made .last .1 .1 .0) (made .ensures) _ (c .before .height .ensures), made .ensures .size, c .before .before .before .before .before .before .before .if1 .left)
 
 clear-requires : tie.Need-clear-requires
 clear-requires c κs = search needs
@@ -44,11 +42,11 @@ returns-2 : tie.Need-returns-2
 returns-2 c =
     let a = c .before .before .before .before .before .before .before .before .before .before .before .before .before .before .before .before .before .before .args in
     let r = c .before .before .before .before .before .before .before .before .before .before .before .before .before .before .before .before .before .before .pre in
-    let made = c .before .before .before .before .before .before .before .before .before .before .before .before .make .last .1 .1 .0 in
+    let made = c .before .before .before .before .before .before .before .before .before .before .before .before .make in
     let count = c .before .before .before .before .before .before .before .before .height .ensures in
-    let o = handed-over (now (a .sheet)) (now (a .work)) (now (a .result)) (r .0) (a .t) (r .1) (c .before .before .before .before .before .before .before .before .before .before .before .before .before .before .if1 .left) made (c .before .before .before .before .before .before .before .before .before .before .before .before .make .ensures) in (
-      c .before .before .before .before .before .before .hand-over .ensures .0 ∙ ap (λ (n : ℕ). handed n (length (now (a .result)))) count ∙ o .answer-is,
-      (c .before .before .clear .ensures ∙ o .work-is, c .before .before .before .before .before .before .hand-over .ensures .1 ∙ ap (λ (n : ℕ). handedOver (distanceWords made n) (now (a .result))) count ∙ o .result-is),
+    let o = handed-over (now (a .sheet)) (now (a .work)) (now (a .result)) (r .0) (a .t) (r .1) (made .last .1 .1 .0) (made .ensures) _ count (c .before .before .before .before .before .before .before .before .before .before .before .before .before .before .if1 .left) in (
+      c .before .before .before .before .before .before .hand-over .ensures .0 ∙ o .answer-is,
+      (c .before .before .clear .ensures ∙ o .work-is, c .before .before .before .before .before .before .hand-over .ensures .1 ∙ o .result-is),
     )
 
 pub distances-of-spec : {M : Type 1} → statement M

@@ -5,46 +5,34 @@ use lib.ListN.{getD, length-set}
 use denote.Ref.{now}
 use Rattle.search_slots.specs.Slots.{visitsWord}
 use Rattle.n_shortest.specs.SearchWords.{Words, Expands, Takes}
-use Rattle.n_shortest.proofs.Taking.{sized-visited, expands-visited, taken-over, taken-expanded, taken-listed}
+use Rattle.n_shortest.proofs.Taking.{sized-visited, expands-visited, taken-over, taken-expanded, taken-finished}
 use borrow.Author.Needs.{needs}
 use Rattle.n_shortest.proofs.n_best.take.Statement.{statement}
 use Rattle.n_shortest.proofs.n_best.take.Tie as tie
 
 -- what taking a finished one, and a half-built one, asks
-finished : (c : tie.After-enum-told) → (8 * c .before .before .before .args .c .listed + 6 < c .before .before .before .args .p .nodes) × (c .before .before .before .args .c .listed + 1 < 4294967296)
+finished : (c : tie.After-e) → (8 * c .before .before .before .args .c .listed + 6 < c .before .before .before .args .p .nodes) × (c .before .before .before .args .c .listed + 1 < 4294967296)
 finished c =
-    let root = c .before .before .before in
-    subst (Takes (root .args .p) (root .args .n) (record { part = now (root .args .part); counts = root .args .c })) (c .enum-told .given .1) (root .pre .1)
-
-half : (c : tie.After-e) → let root = c .before .before .before in let v = c .e .given .0 .0 in let visits = visitsWord (now (root .args .part)) (root .args .p .nodes) v + 1 in
-    (root .args .p .nodes + 8 * v + 3 < root .args .p .links) × (visits < 4294967296) × (visits ≤ root .args .n → Expands (root .args .p) (record { part = now (root .args .part); counts = root .args .c }) v)
-half c =
     let root = c .before .before .before in
     subst (Takes (root .args .p) (root .args .n) (record { part = now (root .args .part); counts = root .args .c })) (c .e .given .1) (root .pre .1)
 
-enum-told : tie.Need-enum-told
-enum-told c = search needs
-
-cast-part : tie.Need-cast-part
-cast-part c = search needs
-
-mul-part : tie.Need-mul-part
-mul-part c = search needs
-
-add-part : tie.Need-add-part
-add-part c = search needs
-
-mul-part-2 : tie.Need-mul-part-2
-mul-part-2 c = search needs
-
-slice-write-part : tie.Need-slice-write-part
-slice-write-part c = omega (arith, finished c .0, c .before .before .before .pre .0 .after, c .before .before .before .pre .0 .inside)
-
-add-t20 : tie.Need-add-t20
-add-t20 c = omega (arith, finished c .1)
+half : (c : tie.After-e2) → let root = c .before .before .before in let v = c .e2 .given .0 .0 in let visits = visitsWord (now (root .args .part)) (root .args .p .nodes) v + 1 in
+    (root .args .p .nodes + 8 * v + 3 < root .args .p .links) × (visits < 4294967296) × (visits ≤ root .args .n → Expands (root .args .p) (record { part = now (root .args .part); counts = root .args .c }) v)
+half c =
+    let root = c .before .before .before in
+    subst (Takes (root .args .p) (root .args .n) (record { part = now (root .args .part); counts = root .args .c })) (c .e2 .given .1) (root .pre .1)
 
 enum-known-e : tie.Need-enum-known-e
 enum-known-e c = search needs
+
+finish-requires : tie.Need-finish-requires
+finish-requires c κs =
+    let f = finished (c .before .before) in
+    let root = c .before .before .before .before .before in
+    (omega (arith, f .0, root .pre .0 .after, root .pre .0 .inside), f .1)
+
+enum-known-e-2 : tie.Need-enum-known-e-2
+enum-known-e-2 c = search needs
 
 cast-at : tie.Need-cast-at
 cast-at c = search needs
@@ -67,11 +55,11 @@ slice-read-visits c = omega (arith, half (c .before .before) .0, c .before .befo
 add-visits : tie.Need-add-visits
 add-visits c = omega (arith, half (c .before .before) .1)
 
-mul-part-3 : tie.Need-mul-part-3
-mul-part-3 c = search needs
+mul-part : tie.Need-mul-part
+mul-part c = search needs
 
-slice-write-part-2 : tie.Need-slice-write-part-2
-slice-write-part-2 c = omega (arith, half (c .before .before) .0, c .before .before .before .before .before .pre .0 .inside)
+slice-write-part : tie.Need-slice-write-part
+slice-write-part c = omega (arith, half (c .before .before) .0, c .before .before .before .before .before .pre .0 .inside)
 
 same-length : tie.Need-same-length
 same-length c = search needs
@@ -80,14 +68,14 @@ returns : tie.Need-returns
 returns c =
     let args = c .before .before .before .before .before .before .args in
     let s : Words = record { part = now (args .part); counts = args .c } in
-    let e = taken-over (args .p) (args .n) (args .most) (args .x) s (c .before .before .before .e .given .1) (c .if1 .taken) in
+    let e = taken-over (args .p) (args .n) (args .most) (args .x) s (c .before .before .before .e2 .given .1) (c .if1 .taken) in
     (ap (λ (w : Words). w .counts) (sym e), ap (λ (w : Words). w .part) (sym e))
 
 expand-requires : tie.Need-expand-requires
 expand-requires c κs =
     let root = c .before .before .before .before .before .before .before in
     let s : Words = record { part = now (root .args .part); counts = root .args .c } in
-    let v = c .before .before .before .before .e .given .0 .0 in
+    let v = c .before .before .before .before .e2 .given .0 .0 in
     let e = half (c .before .before .before .before) .2 (c .before .if1 .left) in
     (sized-visited (root .args .p) s v (root .pre .0), expands-visited (root .args .p) s v (root .pre .0) e)
 
@@ -96,36 +84,31 @@ same-length-2 c = search needs
 
 returns-2 : tie.Need-returns-2
 returns-2 c =
-    let args = c .before .before .before .args in
+    let args = c .before .before .before .before .before .before .before .before .args in
     let s : Words = record { part = now (args .part); counts = args .c } in
-    let e = taken-listed (args .p) (args .n) (args .most) (args .x) s (c .enum-told .given .1) in
-    (ap (λ (w : Words). w .counts) (sym e), ap (λ (w : Words). w .part) (sym e))
+    let e = taken-finished (args .p) (args .n) (args .most) (args .x) s (c .before .before .before .before .before .e .given .1) in
+    (c .before .before .finish .ensures .0 ∙ ap (λ (w : Words). w .counts) (sym e), c .before .before .finish .ensures .1 ∙ ap (λ (w : Words). w .part) (sym e))
 
 same-length-3 : tie.Need-same-length-3
 same-length-3 c =
     let args = c .before .before .before .before .before .before .before .before .before .before .args in
-    let at = args .p .nodes + 8 * c .before .before .before .before .before .before .before .e .given .0 .0 + 3 in
+    let at = args .p .nodes + 8 * c .before .before .before .before .before .before .before .e2 .given .0 .0 + 3 in
     c .before .before .expand .kept .0 ∙ length-set (now (args .part)) at (getD (now (args .part)) at 0 + 1)
 
 returns-3 : tie.Need-returns-3
 returns-3 c =
     let args = c .before .before .before .before .before .before .before .before .before .before .args in
     let s : Words = record { part = now (args .part); counts = args .c } in
-    let e = taken-expanded (args .p) (args .n) (args .most) (args .x) s (c .before .before .before .before .before .before .before .e .given .1) (c .before .before .before .before .if1 .left) in
+    let e = taken-expanded (args .p) (args .n) (args .most) (args .x) s (c .before .before .before .before .before .before .before .e2 .given .1) (c .before .before .before .before .if1 .left) in
     (c .before .before .expand .ensures .0 ∙ ap (λ (w : Words). w .counts) (sym e), c .before .before .expand .ensures .1 ∙ ap (λ (w : Words). w .part) (sym e))
 
 pub take-spec : {M : Type 1} → statement M
 take-spec =
     tie.close
     (tie.spec
-    enum-told
-    cast-part
-    mul-part
-    add-part
-    mul-part-2
-    slice-write-part
-    add-t20
     enum-known-e
+    finish-requires
+    enum-known-e-2
     cast-at
     mul-at
     add-at
@@ -133,8 +116,8 @@ take-spec =
     mul-visits
     slice-read-visits
     add-visits
-    mul-part-3
-    slice-write-part-2
+    mul-part
+    slice-write-part
     same-length
     returns
     expand-requires

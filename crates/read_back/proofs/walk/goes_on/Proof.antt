@@ -1,9 +1,9 @@
-use mathlib.Core.Path.{ap, _∙_}
+use mathlib.Core.Path.{sym, ap, _∙_}
 use Prim.Native.Nat.{ℕ}
 use native.Mathlib.Omega.{arith}
 use denote.Ref.{now}
 use Rattle.sheet.specs.Records.{countAt}
-use Rattle.read_back.proofs.Follow.{node-in, part-end, leaves-here, leaves-none, went-none, went-lost, went-by}
+use Rattle.read_back.proofs.Follow.{node-in, part-end, leaves-here, on-by, goes-here, goes-none, goes-barred, went-none, went-lost, went-by}
 use borrow.Author.Needs.{needs}
 use Rattle.read_back.proofs.walk.goes_on.Statement.{statement}
 use Rattle.read_back.proofs.walk.goes_on.Tie as tie
@@ -32,7 +32,7 @@ lost-requires c κs = search needs
 returns-2 : tie.Need-returns-2
 returns-2 c =
     let r = c .before .before .before .before .before .before .before in
-    went-lost (now (r .args .sheet)) (r .args .w) (r .args .l) (c .lost .result) (c .before .before .before .before .before .if1 .left) (leaves-none (now (r .args .sheet)) (r .args .w) (r .pre .0) (r .args .l) (λ a b. omega (arith, a, c .before .if2 .taken))) (c .lost .ensures)
+    went-lost (now (r .args .sheet)) (r .args .w) (r .args .l) (c .lost .result) (c .before .before .before .before .before .if1 .left) (goes-none (now (r .args .sheet)) (r .args .w) (r .pre .0) (r .args .l) (λ a b. omega (arith, a, c .before .if2 .taken))) (c .lost .ensures)
 
 add-if3 : tie.Need-add-if3
 add-if3 c = let r = c .before .before .before .before .before .before .before in omega (arith, c .before .before .before .word .ensures ∙ ap (λ (t : ℕ). countAt (now (r .args .sheet)) t (r .args .w .at)) (r .pre .1), part-end (now (r .args .sheet)) (r .args .w) (r .pre .0), r .pre .1)
@@ -44,19 +44,44 @@ returns-3 : tie.Need-returns-3
 returns-3 c =
     let r = c .before .before .before .before .before .before .before .before .before in
     let count = c .before .before .before .before .before .word .ensures ∙ ap (λ (t : ℕ). countAt (now (r .args .sheet)) t (r .args .w .at)) (r .pre .1) in
-    went-lost (now (r .args .sheet)) (r .args .w) (r .args .l) (c .lost2 .result) (c .before .before .before .before .before .before .before .if1 .left) (leaves-none (now (r .args .sheet)) (r .args .w) (r .pre .0) (r .args .l) (λ a b. omega (arith, b, count, c .before .if3 .taken))) (c .lost2 .ensures)
+    went-lost (now (r .args .sheet)) (r .args .w) (r .args .l) (c .lost2 .result) (c .before .before .before .before .before .before .before .if1 .left) (goes-none (now (r .args .sheet)) (r .args .w) (r .pre .0) (r .args .l) (λ a b. omega (arith, b, count, c .before .if3 .taken))) (c .lost2 .ensures)
 
-on-by-requires : tie.Need-on-by-requires
-on-by-requires c κs =
+mul-word-3 : tie.Need-mul-word-3
+mul-word-3 c = search needs
+
+add-word-2 : tie.Need-add-word-2
+add-word-2 c = search needs
+
+word-requires-2 : tie.Need-word-requires-2
+word-requires-2 c κs =
     let r = c .before .before .before .before .before .before .before .before in
     let count = c .before .before .before .before .word .ensures ∙ ap (λ (t : ℕ). countAt (now (r .args .sheet)) t (r .args .w .at)) (r .pre .1) in
-    (r .pre .0, r .pre .1, leaves-here (now (r .args .sheet)) (r .args .w) (r .pre .0) (r .args .l) (c .before .before .if2 .left) (omega (arith, count, c .if3 .left)))
+    omega (arith, on-by (now (r .args .sheet)) (r .args .w) (r .pre .0) (r .args .l) (leaves-here (now (r .args .sheet)) (r .args .w) (r .pre .0) (r .args .l) (c .before .before .if2 .left) (omega (arith, count, c .if3 .left))) .link-in)
+
+lost-requires-3 : tie.Need-lost-requires-3
+lost-requires-3 c κs = search needs
 
 returns-4 : tie.Need-returns-4
 returns-4 c =
-    let r = c .before .before .before .before .before .before .before .before .before in
-    let count = c .before .before .before .before .before .word .ensures ∙ ap (λ (t : ℕ). countAt (now (r .args .sheet)) t (r .args .w .at)) (r .pre .1) in
-    went-by (now (r .args .sheet)) (r .args .w) (r .args .l) (c .on-by .result) (c .before .before .before .before .before .before .before .if1 .left) (leaves-here (now (r .args .sheet)) (r .args .w) (r .pre .0) (r .args .l) (c .before .before .before .if2 .left) (omega (arith, count, c .before .if3 .left))) (c .on-by .ensures)
+    let r = c .before .before .before .before .before .before .before .before .before .before .before in
+    let count = c .before .before .before .before .before .before .before .word .ensures ∙ ap (λ (t : ℕ). countAt (now (r .args .sheet)) t (r .args .w .at)) (r .pre .1) in
+    went-lost (now (r .args .sheet)) (r .args .w) (r .args .l) (c .lost3 .result) (c .before .before .before .before .before .before .before .before .before .if1 .left)
+    (goes-barred (now (r .args .sheet)) (r .args .w) (r .pre .0) (r .args .l) (c .before .before .before .before .before .if2 .left) (omega (arith, count, c .before .before .before .if3 .left)) (sym (c .before .before .word2 .ensures) ∙ c .before .if4 .taken))
+    (c .lost3 .ensures)
+
+on-by-requires : tie.Need-on-by-requires
+on-by-requires c κs =
+    let r = c .before .before .before .before .before .before .before .before .before .before in
+    let count = c .before .before .before .before .before .before .word .ensures ∙ ap (λ (t : ℕ). countAt (now (r .args .sheet)) t (r .args .w .at)) (r .pre .1) in
+    (r .pre .0, r .pre .1, leaves-here (now (r .args .sheet)) (r .args .w) (r .pre .0) (r .args .l) (c .before .before .before .before .if2 .left) (omega (arith, count, c .before .before .if3 .left)))
+
+returns-5 : tie.Need-returns-5
+returns-5 c =
+    let r = c .before .before .before .before .before .before .before .before .before .before .before in
+    let count = c .before .before .before .before .before .before .before .word .ensures ∙ ap (λ (t : ℕ). countAt (now (r .args .sheet)) t (r .args .w .at)) (r .pre .1) in
+    went-by (now (r .args .sheet)) (r .args .w) (r .args .l) (c .on-by .result) (c .before .before .before .before .before .before .before .before .before .if1 .left)
+    (goes-here (now (r .args .sheet)) (r .args .w) (r .pre .0) (r .args .l) (c .before .before .before .before .before .if2 .left) (omega (arith, count, c .before .before .before .if3 .left)) (λ z. c .before .if4 .left (c .before .before .word2 .ensures ∙ z)))
+    (c .on-by .ensures)
 
 pub goes-on-spec : {M : Type 1} → statement M
 goes-on-spec =
@@ -73,5 +98,10 @@ goes-on-spec =
     add-if3
     lost-requires-2
     returns-3
+    mul-word-3
+    add-word-2
+    word-requires-2
+    lost-requires-3
+    returns-4
     on-by-requires
-    returns-4)
+    returns-5)

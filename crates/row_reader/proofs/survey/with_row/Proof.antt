@@ -13,8 +13,8 @@ enum-known-r c = search needs
 greater-requires : tie.Need-greater-requires
 greater-requires c κs = search needs
 
-weight-on-grid-requires : tie.Need-weight-on-grid-requires
-weight-on-grid-requires c κs = search needs
+weight-passes-requires : tie.Need-weight-passes-requires
+weight-passes-requires c κs = search needs
 
 both-requires : tie.Need-both-requires
 both-requires c κs = search needs
@@ -28,8 +28,8 @@ add-t13 c = search needs
 enum-known-r-2 : tie.Need-enum-known-r-2
 enum-known-r-2 c = search needs
 
-weight-on-grid-requires-2 : tie.Need-weight-on-grid-requires-2
-weight-on-grid-requires-2 c κs = search needs
+weight-passes-requires-2 : tie.Need-weight-passes-requires-2
+weight-passes-requires-2 c κs = search needs
 
 both-requires-2 : tie.Need-both-requires-2
 both-requires-2 c κs = search needs
@@ -44,14 +44,14 @@ returns : tie.Need-returns
 returns c =
     let s = c .before .before .before .before .before .before .before .before .args .s in
     survey-eq (s .links + 1)
-    (c .before .before .both .ensures ∙ ap (λ (b : Bool). s .gridded && b) (c .before .before .before .weight-on-grid .ensures))
+    (c .before .before .both .ensures ∙ ap (λ (b : Bool). s .passing && b) (c .before .before .before .weight-passes .ensures))
     (c .before .greater2 .ensures ∙ ap (λ (n : ℕ). max (s .highest) n) (c .before .before .before .before .greater .ensures))
     ∙ sym (ap (surveyRead s) (c .before .before .before .before .before .before .r .given .1))
 
 returns-2 : tie.Need-returns-2
 returns-2 c =
     let s = c .before .before .before .before .before .before .args .s in
-    survey-eq (s .links) (c .before .both2 .ensures ∙ ap (λ (b : Bool). s .gridded && b) (c .before .before .weight-on-grid2 .ensures)) (c .greater3 .ensures)
+    survey-eq (s .links) (c .before .both2 .ensures ∙ ap (λ (b : Bool). s .passing && b) (c .before .before .weight-passes2 .ensures)) (c .greater3 .ensures)
     ∙ sym (ap (surveyRead s) (c .before .before .before .before .r2 .given .1))
 
 returns-3 : tie.Need-returns-3
@@ -63,12 +63,12 @@ with-row-spec =
     (tie.spec
     enum-known-r
     greater-requires
-    weight-on-grid-requires
+    weight-passes-requires
     both-requires
     greater-requires-2
     add-t13
     enum-known-r-2
-    weight-on-grid-requires-2
+    weight-passes-requires-2
     both-requires-2
     greater-requires-3
     enum-told

@@ -1,66 +1,21 @@
-use mathlib.Core.Path.{sym, ap, _∙_, subst}
-use Prim.Native.Nat.{_≤_}
-use mathlib.Core.Bool.{true, false}
+use mathlib.Core.Path.{sym, _∙_}
 use denote.Ref.{now}
-use Rattle.tropical_weight.specs.Limits.{weightLimit}
-use Rattle.text_rows.specs.Fields.{magnitudeOf}
-use Rattle.row_reader.specs.Reading.{signedRead, unitsIn}
-use Rattle.row_reader.specs.declared.values.Magnitude.{Magnitude}
-use Rattle.row_reader.proofs.Grids.{units-most}
-use Rattle.row_reader.proofs.Weighing.{restOf, weight-none, weight-minus, weight-plus}
+use Rattle.row_reader.proofs.Weighing.{weight-barred, weight-decimal}
 use borrow.Author.Needs.{needs}
 use Rattle.row_reader.proofs.values.weight_in.Statement.{statement}
 use Rattle.row_reader.proofs.values.weight_in.Tie as tie
 
+is-infinity-requires : tie.Need-is-infinity-requires
+is-infinity-requires c κs = search needs
+
 returns : tie.Need-returns
-returns c = sym (weight-none (now (c .before .before .args .field)) (c .if1 .taken))
+returns c = sym (weight-barred (now (c .before .before .before .args .field)) (sym (c .before .is-infinity .ensures) ∙ c .if1 .taken))
 
-shared-slice-read-if2 : tie.Need-shared-slice-read-if2
-shared-slice-read-if2 c = search needs
-
-sub-magnitude-in : tie.Need-sub-magnitude-in
-sub-magnitude-in c = search needs
-
-part-magnitude-in-start : tie.Need-part-magnitude-in-start
-part-magnitude-in-start c = search needs
-
-part-magnitude-in-end : tie.Need-part-magnitude-in-end
-part-magnitude-in-end c = search needs
-
-magnitude-in-requires : tie.Need-magnitude-in-requires
-magnitude-in-requires c κs = search needs
-
-signed-requires : tie.Need-signed-requires
-signed-requires c κs = subst (λ (m : Magnitude). unitsIn m ≤ weightLimit) (sym (c .magnitude-in .ensures)) (units-most (magnitudeOf (restOf 1 (now (c .before .before .before .before .before .before .args .field)))))
+decimal-in-requires : tie.Need-decimal-in-requires
+decimal-in-requires c κs = search needs
 
 returns-2 : tie.Need-returns-2
-returns-2 c =
-    let field = now (c .before .before .before .before .before .before .before .args .field) in
-    c .signed .ensures ∙ ap (signedRead true) (c .before .magnitude-in .ensures) ∙ sym (weight-minus field (search needs) (search needs))
-
-magnitude-in-requires-2 : tie.Need-magnitude-in-requires-2
-magnitude-in-requires-2 c κs = search needs
-
-signed-requires-2 : tie.Need-signed-requires-2
-signed-requires-2 c κs = subst (λ (m : Magnitude). unitsIn m ≤ weightLimit) (sym (c .magnitude-in2 .ensures)) (units-most (magnitudeOf (now (c .before .before .before .before .before .args .field))))
-
-returns-3 : tie.Need-returns-3
-returns-3 c =
-    let field = now (c .before .before .before .before .before .before .args .field) in
-    c .signed2 .ensures ∙ ap (signedRead false) (c .before .magnitude-in2 .ensures) ∙ sym (weight-plus field (search needs) (search needs))
+returns-2 c = c .decimal-in .ensures ∙ sym (weight-decimal (now (c .before .before .before .before .args .field)) (sym (c .before .before .is-infinity .ensures) ∙ c .before .if1 .left))
 
 pub weight-in-spec : {M : Type 1} → statement M
-weight-in-spec =
-    tie.close
-    (tie.spec
-    returns
-    shared-slice-read-if2
-    sub-magnitude-in
-    part-magnitude-in-start
-    part-magnitude-in-end
-    magnitude-in-requires
-    signed-requires
-    returns-2
-    magnitude-in-requires-2
-    signed-requires-2
-    returns-3)
+weight-in-spec = tie.close (tie.spec is-infinity-requires returns decimal-in-requires returns-2)

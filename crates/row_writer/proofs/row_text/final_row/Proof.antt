@@ -4,7 +4,7 @@ use mathlib.Core.List.{[], _∷_, _++_}
 use denote.Ref.{now}
 use native.Mathlib.Omega.{arith}
 use borrow.Author.Tests.{eq-eqb, ne-eqb}
-use Rattle.sheet.specs.Sheet.{mark, finalBits, onGridBits, partsOf}
+use Rattle.sheet.specs.Sheet.{mark, finalBits, weightFits, partsOf}
 use Rattle.decimals.specs.Decimal.{decimal}
 use Rattle.decimals.proofs.Storing.{puts-same, puts-then}
 use Rattle.text_rows.specs.Written.{andWeight}
@@ -62,7 +62,7 @@ put-weight-requires c κs =
     let are = start .pre .1 .0 in
     let within = start .pre .1 .1 .0 in
     let some : mark (partsOf bytes) v ≡ 0 → ⊥ = λ z. c .before .before .before .before .before .before .if1 .left (c .before .before .before .before .before .before .before .word .ensures ∙ mark-at bytes links are v within ∙ z) in
-    (ap onGridBits (c .word2 .ensures) ∙ final-on bytes read links are v within some, search needs)
+    (ap weightFits (c .word2 .ensures) ∙ final-on bytes read links are v within some, search needs)
 
 slice-aggregate-put-text : tie.Need-slice-aggregate-put-text
 slice-aggregate-put-text c = search needs

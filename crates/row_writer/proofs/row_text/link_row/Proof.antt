@@ -2,7 +2,7 @@ use mathlib.Core.Path.{ap, _∙_}
 use denote.Ref.{now}
 use native.Mathlib.Omega.{arith}
 use Rattle.sheet.specs.declared.tr.Link.{Link}
-use Rattle.sheet.specs.Sheet.{onGridBits}
+use Rattle.sheet.specs.Sheet.{weightFits}
 use Rattle.decimals.proofs.Storing.{puts-same, puts-then}
 use Rattle.text_rows.specs.Written.{andNumber, andWeight}
 use Rattle.row_writer.proofs.Accepted.{next-at}
@@ -43,7 +43,7 @@ put-weight-requires c κs =
     let source = first .before .before .before .before in
     let read = source .before .before in
     let start = read .before .before .before .before in (
-      ap onGridBits (read .word .ensures) ∙ link-on (now (start .args .sheet)) (start .pre .0) (start .args .l) (start .pre .1 .0),
+      ap weightFits (read .word .ensures) ∙ link-on (now (start .args .sheet)) (start .pre .0) (start .args .l) (start .pre .1 .0),
       omega (arith, start .pre .1 .1, source .put-decimal .ensures .1, first .put-number .ensures .1, second .put-number2 .ensures .1, third .put-number3 .ensures .1, source .put-decimal .kept .0, first .put-number .kept .0, second .put-number2 .kept .0, third .put-number3 .kept .0),
     )
 

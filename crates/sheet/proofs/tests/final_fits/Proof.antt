@@ -7,11 +7,11 @@ use Rattle.sheet.proofs.tests.final_fits.Tie as tie
 returns : tie.Need-returns
 returns c = simp (eq-eqb _ _ (c .if1 .taken))
 
-on-grid-by-requires : tie.Need-on-grid-by-requires
-on-grid-by-requires c κs = search needs
+weight-fits-requires : tie.Need-weight-fits-requires
+weight-fits-requires c κs = search needs
 
 returns-2 : tie.Need-returns-2
-returns-2 c = c .on-grid-by .ensures ∙ simp (ne-eqb _ _ (c .before .if1 .left))
+returns-2 c = c .weight-fits .ensures ∙ simp (ne-eqb _ _ (c .before .if1 .left))
 
 pub final-fits-spec : {M : Type 1} → statement M
-final-fits-spec = tie.close (tie.spec returns on-grid-by-requires returns-2)
+final-fits-spec = tie.close (tie.spec returns weight-fits-requires returns-2)
