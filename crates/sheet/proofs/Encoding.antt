@@ -311,7 +311,7 @@ bits-finite k h = ne-eqb (bitsOf (fin k)) barredBits (λ e. clash (ofT-injective
     clash : fin k ≡ inf → ⊥
     clash e = let z : _≡_ {A = ℕ} 0 1 = cc in omega arith
 
-weight-back : (w : Tropical) → Held w → weightOf (bitsOf w) ≡ w
+pub weight-back : (w : Tropical) → Held w → weightOf (bitsOf w) ≡ w
 weight-back (fin k) h =
     ap (λ (t : Bool). cond t inf (fin (unitsOf unit (ofBits binary32 (bitsOf (fin k)))))) (bits-finite k h)
     ∙ ap (λ (x : Float). fin (unitsOf unit x)) (bits-back unit (omega arith) (fin k)) ∙ ap fin (unitsOf-ofK unit (omega arith) k h)

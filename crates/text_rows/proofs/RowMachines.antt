@@ -6,20 +6,17 @@ use mathlib.Core.List.{List, [], _∷_, _++_, flatMap}
 use Prim.Native.Nat.{ℕ, zero, suc, _+_, _*_, _≤_, _<_}
 use native.Mathlib.Omega.{arith}
 use lib.Dec.{eqb}
-use lib.Ieee.{Float, binary32, ofBits}
+use lib.Ieee.{ofBits}
 use lib.ListN.{length, getD, replicate, length-append, length-replicate}
 use lib.Seq.{ext-getD}
-use borrow.Author.Tests.{eqb-true, eq-eqb, ne-eqb}
-use Rattle.tropical_weight.specs.Limits.{unit}
-use Rattle.tropical_weight.specs.Tropical.{fin, inf, one}
+use borrow.Author.Tests.{eqb-true, ne-eqb}
+use Rattle.tropical_weight.specs.Tropical.{one}
 use Rattle.tropical_weight.specs.Grid as Grid
-use Rattle.tropical_weight.proofs.Exact.{bits-back}
-use Rattle.tropical_weight.proofs.Grid.{unitsOf-ofK}
 use Rattle.sheet.specs.Below.{listBelow}
-use Rattle.sheet.specs.Sheet.{Parts, barredBits, noStart, linkCount, nodeCount, ilabel, olabel, next, mark, finalBits}
+use Rattle.sheet.specs.Sheet.{Parts, noStart, linkCount, nodeCount, ilabel, olabel, next, mark, finalBits}
 use Rattle.sheet.specs.Machine.{Link, weightOf, sourcesBelow, startOf, finalOf, linkOf, machineOf}
 use Rattle.sheet.proofs.Below.{length-listBelow, getD-listBelow, listBelow-same, flat-snoc}
-use Rattle.sheet.proofs.Encoding.{bits-inf, bits-finite}
+use Rattle.sheet.proofs.Encoding.{Held, weight-back}
 use Rattle.text_rows.specs.Fields.{Weight, finite, barred}
 use Rattle.text_rows.specs.Rows.{Row, link, final, firstNode, unitsOf, weightPasses, weightsPass, weighs}
 use Rattle.text_rows.specs.Convert.{fieldOf, linkFrom, countFrom, markFields, nodesIn, partsOfRows}
@@ -89,11 +86,9 @@ by-at (s ∷ ss) (i ∷ o ∷ b ∷ t ∷ ws) (suc l) e h = by-at ss ws l (omega
     at k = omega arith
 
 -- ---- a node's links
-weight-back : (w : Weight) → weightPasses w ≡ true → weightOf (fieldOf w) ≡ weighs w
-weight-back (finite w) e =
-    ap (λ (b : Bool). cond b inf (fin (Grid.unitsOf unit (ofBits binary32 (fieldOf (finite w)))))) (bits-finite (unitsOf w) (omega (arith, few-units w e)))
-    ∙ ap (λ (x : Float). fin (Grid.unitsOf unit x)) (bits-back unit (omega arith) (fin (unitsOf w))) ∙ ap fin (unitsOf-ofK unit (omega arith) (unitsOf w) (omega (arith, few-units w e)))
-weight-back barred e = ap (λ (b : Bool). cond b inf (fin (Grid.unitsOf unit (ofBits binary32 (fieldOf barred))))) (eq-eqb (fieldOf barred) barredBits bits-inf)
+held : (w : Weight) → weightPasses w ≡ true → Held (weighs w)
+held (finite w) e = omega (arith, few-units w e)
+held barred e = tt
 
 node-links : (v : ℕ) (rs : List Row) → weightsPass rs ≡ true → linksBy (replicate (countFrom v rs) v) (flatMap (linkFrom v) rs) ≡ flatMap (linkIn v) rs
 unfolding linksBy countFrom flatMap weightsPass
@@ -104,7 +99,7 @@ node-links v (link s t i o w ∷ rs) e = go (eqb s v) refl (both (weightPasses w
         → linksBy (replicate (cond b 1 0 + countFrom v rs) v) (cond b (i ∷ o ∷ fieldOf w ∷ t ∷ []) [] ++ flatMap (linkFrom v) rs) ≡ cond b (record { source = s; ilabel = i; olabel = o; weight = weighs w; next = t } ∷ []) [] ++ flatMap (linkIn v) rs
     go true q h later =
         ap (λ (k : ℕ). linksBy (replicate k v) (i ∷ o ∷ fieldOf w ∷ t ∷ flatMap (linkFrom v) rs)) (let z : 1 + countFrom v rs ≡ suc (countFrom v rs) = omega arith in z)
-        ∙ λ j. record { source = sym (eqb-true s v q) j; ilabel = i; olabel = o; weight = weight-back w (h .0) j; next = t } ∷ later (h .1) j
+        ∙ λ j. record { source = sym (eqb-true s v q) j; ilabel = i; olabel = o; weight = weight-back (weighs w) (held w (h .0)) j; next = t } ∷ later (h .1) j
     go false q h later = ap (λ (k : ℕ). linksBy (replicate k v) (flatMap (linkFrom v) rs)) (let z : 0 + countFrom v rs ≡ countFrom v rs = omega arith in z) ∙ later (h .1)
 node-links v (final u w ∷ rs) e =
     ap (λ (k : ℕ). linksBy (replicate k v) (flatMap (linkFrom v) rs)) (let z : 0 + countFrom v rs ≡ countFrom v rs = omega arith in z) ∙ node-links v rs (both (weightPasses w) (weightsPass rs) e .1)
@@ -118,7 +113,7 @@ final-row v (final u w ∷ rs) e = go (eqb u v) (both (weightPasses w) (weightsP
   where
     go : (b : Bool) → (weightPasses w ≡ true) × (weightsPass rs ≡ true) → (weightsPass rs ≡ true → finalOf (getD (markFields v rs) 0 0) (getD (markFields v rs) 1 0) ≡ finalIn v rs)
         → finalOf (getD (cond b (1 ∷ fieldOf w ∷ []) (markFields v rs)) 0 0) (getD (cond b (1 ∷ fieldOf w ∷ []) (markFields v rs)) 1 0) ≡ cond b (some (weighs w)) (finalIn v rs)
-    go true h later = ap some (weight-back w (h .0))
+    go true h later = ap some (weight-back (weighs w) (held w (h .0)))
     go false h later = later (h .1)
 
 -- ---- all of them
