@@ -9,10 +9,10 @@
  * nothing, and take no memory but the areas and up to YELDMUR_STACK bytes of stack.
  *
  * The proofs are about rounding to nearest; what follows of other modes is tested, not proved. Weights
- * are summed in single precision, and every sum is exact. So an answer is the same in every
- * rounding mode of fenv.h, but for the sign of a distance of 0 in which weights cancel: it is negative
- * zero where the caller rounds downward. No weight or sum is denormal, so that flushing these to zero
- * changes nothing. The calls leave the floating-point environment as it is, and raise no flag.
+ * are summed in single precision, and every sum is exact, or infinite over what is barred. So an answer is
+ * the same in every rounding mode of fenv.h, but for the sign of a distance of 0 in which weights cancel:
+ * it is negative zero where the caller rounds downward. No weight or sum is denormal, so that flushing
+ * these to zero changes nothing. The calls leave the floating-point environment as it is, and raise no flag.
  *
  * Each call returns 0 or the number of a refusal. A refusal leaves the numbers behind `size`,
  * `values`, `states`, `links`, `taken`, `slots`, `bytes` and those of the calls that read back as they were. In 1 to 20 no area changes.
@@ -66,7 +66,7 @@ enum {
 };
 
 /* The limits: the most nodes and links of a sheet that is searched, the most sixty-fourths of a weight
- * either way, and the most readings that a list is asked for. */
+ * that is not barred either way, and the most readings that a list is asked for. */
 #define YELDMUR_NODE_LIMIT 2048u
 #define YELDMUR_LINK_LIMIT 16384u
 #define YELDMUR_WEIGHT_LIMIT 8192
@@ -114,8 +114,8 @@ uint32_t yeldmur_rows_to_sheet(const uint8_t *text, size_t text_bytes,
 /* Turns a sheet into text rows, which convert to that very sheet: tests 1 to 4, 9, then 21. `size`
  * becomes their bytes. The start's rows come first, then the others' by rising node, links before the
  * final row; one tab stands between fields, numbers are in their shortest form, a weight of 0 is left
- * out, and YELDMUR_BARRED is Infinity. A sheet has rows if its start is present and has a link or a mark, and its last node has a
- * link, a mark or a link to it. */
+ * out, and YELDMUR_BARRED is Infinity. A sheet has rows if its start is present and has a link or a
+ * mark, and its last node has a link, a mark or a link to it. */
 uint32_t yeldmur_sheet_to_rows(const uint8_t *sheet, size_t sheet_bytes,
                                uint8_t *result, size_t result_bytes, uint64_t *size);
 

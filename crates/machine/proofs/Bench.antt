@@ -75,7 +75,7 @@ sorted : sort (fin (pos 3) ∷ inf ∷ fin (pos 1) ∷ fin (pos 2) ∷ []) ≡ f
 unfolding sort
 sorted = refl
 
--- ---- barred: 1 is reached, 2 led to by a barred link from it, 3 led to only from 2; one reading of two is finite
+-- ---- barred: 1 is reached, 2 led to by a barred link from it, 3 led to only from 2; of six runs to marks one is of finite cost, the one reading
 machineE : Machine
 machineE = record { links = arc 0 1 5 1 ∷ barred 0 2 1 ∷ barred 1 3 2 ∷ arc 2 4 0 3 ∷ []; finals = none ∷ some (fin (pos 1)) ∷ some inf ∷ some (fin (pos 0)) ∷ []; start = some 0 }
   where

@@ -1,4 +1,4 @@
--- Runs have fewer links than there are nodes, so that every sum along a run, barred or not, is within the limit of sums, exact in single precision, and no NaN.
+-- Runs have fewer links than there are nodes, so that every sum along a run is within the limit of sums or infinite, exact in single precision, and no NaN.
 -- Over any limits on nodes and on weights whose product is that limit. Assumes nothing.
 use mathlib.Core.Path.{_≡_, refl, sym, ap, _∙_, subst}
 use mathlib.Core.Bool.{true, false}

@@ -14,7 +14,7 @@ pub record Climbs (m : Machine) : Type 0 where
   pub inside : (l : ℕ) → l < length (m .links) → link m l .next < length (m .finals)
   pub sorted : (k l : ℕ) → k ≤ l → l < length (m .links) → link m k .source ≤ link m l .source
 
--- no weight has more than `most` units either way
+-- no finite weight has more than `most` units either way
 pub record Small (most : ℕ) (m : Machine) : Type 0 where
   pub onLink : (l : ℕ) → l < length (m .links) → Within most (link m l .weight)
   pub onFinal : (v : ℕ) (w : Tropical) → final m v ≡ some w → Within most w

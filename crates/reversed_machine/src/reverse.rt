@@ -139,7 +139,7 @@ fn reverse_finals(
 }
 
 // The least total, by the distances in the slots: that of a final node is its distance and its final
-// weight. It is unreached where no final node is reached.
+// weight. It is unreached where no final node is reached whose weight is finite.
 fn least_total(sheet: &[u8], links: u32, nodes: u32, part: &[u32], heads: usize) -> Distance
     requires { ⌜ (16 * links + 12 * nodes ≤ length (now sheet)) × (heads + 8 * (nodes + 1) ≤ length (now part)) ⌝ }
     ensures { λ r. ⌜ r ≡ leastDistance (now (sheet .entry)) heads links nodes (now (part .entry)) ⌝ }

@@ -1,4 +1,4 @@
--- The finished trails of the reversed machine are the readings, each once, at their costs. Assumes nothing.
+-- The finished trails of the reversed machine are the runs from the start to marks, each once, at their costs; those of finite cost are the readings. Assumes nothing.
 use mathlib.Core.Path.{_≡_, refl, sym, ap, ap₂, _∙_, subst}
 use mathlib.Core.Bool.{true}
 use mathlib.Core.Option.{none, some, Option·some-injective}

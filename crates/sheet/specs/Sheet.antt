@@ -76,10 +76,11 @@ barredBits = 0x7f80_0000
 abbrev pub onGridBits : ℕ → Bool
 onGridBits bits = gridBits unit weightLimit bits
 
--- test 4: each link's weight, and each final weight, bars or is on the grid
+-- a weight's field bars, or is on the grid
 abbrev pub weightFits : ℕ → Bool
 weightFits bits = eqb bits barredBits || onGridBits bits
 
+-- test 4: so does each link's, and each marked node's
 unfoldable pub weightsFit : Parts → Bool
 unfolding allBelow gridBits
 weightsFit p = allBelow (linkCount p) (λ l. weightFits (linkBits p l)) && allBelow (nodeCount p) (λ v. eqb (mark p v) 0 || weightFits (finalBits p v))

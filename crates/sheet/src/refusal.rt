@@ -10,7 +10,7 @@ pub const START: u32 = 2;
 // A next node is not below N.
 pub const NEXT: u32 = 3;
 
-// A weight is off the grid.
+// A weight is neither on the grid nor barred.
 pub const WEIGHT: u32 = 4;
 
 // More nodes or links than the limits.

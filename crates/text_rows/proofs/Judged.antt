@@ -237,7 +237,7 @@ module _ (rs : List Row) where
           ap {B = ℕ} (λ (k : ℕ). cond (ltb room k) 21 0) (sym length-is)
           ∙ sym (ap (λ (k : ℕ). cond (not (eqb k 0)) k (cond (ltb room (sheetLength p)) 21 0)) (ap (λ (c : Bool). verdict c p) (records-hold ∙ x) ∙ verdict-is true y))
 
--- ---- the number of a text: 8 where it has no rows, 4 where a weight is off the grid, else the writer's for the rows' parts
+-- ---- the number of a text: 8 where it has no rows, 4 where a weight does not pass, else the writer's for the rows' parts
 abbrev pub numberOfRows : Option (List Row) → ℕ → ℕ
 numberOfRows none room = 8
 numberOfRows (some rs) room = cond (fieldsHold rs && not (weightsPass rs)) 4 (writeNumber (partsOfRows rs) room)
