@@ -1,3 +1,4 @@
 // Numbers in decimal, read from bytes and written to them.
+#![tactic(auto)]
 pub mod read;
 pub mod write;

@@ -4,7 +4,7 @@ ghost use Rattle.decimals.specs.Decimal.{is_digit, with_digit, digits_of};
 ghost use Rattle.decimals.specs.Held.{held, digits_held};
 
 // The value of digits, held to HELD where it is more; or that there are none, or other bytes among them.
-#[derive(Drop)]
+#[derive(Clone, Copy)]
 pub enum Digits {
     Value(u64),
     Unreadable,

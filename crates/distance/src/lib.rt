@@ -1,5 +1,6 @@
 // Distances: reached, with a cost, or unreached; and the two words that hold one, in the work area
 // and as it is written.
+#![tactic(auto)]
 ghost use Rattle.std.specs.Prelude.{◌≡◌, ◌+◌, ◌≤◌, ◌<◌, length};
 ghost use Rattle.std.proofs.lemmas.List.Edits.{sets};
 ghost use Rattle.sheet.specs.Words.{bytes_of_all};
@@ -12,7 +13,7 @@ use sheet::words::put_words;
 pub const WRITTEN: usize = 8;
 
 // A node's distance: reached at a cost, or unreached.
-#[derive(Drop)]
+#[derive(Clone, Copy)]
 pub enum Distance {
     Reached(f32),
     Unreached,

@@ -1,4 +1,5 @@
 // The listing program: reads one byte n and then a sheet on standard input, and prints the list.
+#![tactic(auto)]
 use libc::{STDIN_FILENO, STDOUT_FILENO};
 
 fn main() {

@@ -1,4 +1,5 @@
 // What a call for a list answers, the slots that it needs, and the empty answer.
+#![tactic(auto)]
 ghost use Rattle.std.specs.Prelude.{◌≡◌, ◌≤◌, length};
 ghost use Rattle.tropical_weight.specs.Limits.{node_limit, link_limit, list_limit};
 ghost use Rattle.search.specs.ListMachine.{empty};
@@ -11,7 +12,7 @@ use slots::NOTHING;
 
 // What a call for a list answers: the counts of the result's nodes and links and of the entries
 // taken, or the number of the refusal.
-#[derive(Drop)]
+#[derive(Clone, Copy)]
 pub enum Listed {
     Made(u32, u32, u32),
     Refused(u32),

@@ -1,3 +1,4 @@
 // The listing program: the list for n of a sheet, as text.
+#![tactic(auto)]
 pub mod print;
 mod text;

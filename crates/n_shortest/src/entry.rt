@@ -8,7 +8,7 @@ use search_slots::{COST, FROM, INPUT, RANK};
 use slots::{NOTHING, SLOT};
 
 // An entry is half-built, with a node and a cost, or finished, with a cost.
-#[derive(Drop)]
+#[derive(Clone, Copy)]
 pub enum Entry {
     Half(u32, f32),
     Finished(f32),

@@ -10,7 +10,7 @@ use search_slots::{CHAIN, HEAD, LISTED, PLACE, VISITS, WEIGHT};
 use slots::{NOTHING, SLOT};
 
 // How many entries there are, how many of them the heap holds, and how many are listed and taken.
-#[derive(Drop)]
+#[derive(Clone, Copy)]
 pub struct Counts {
     pub entries: u32,
     pub heap: u32,
@@ -20,7 +20,7 @@ pub struct Counts {
 
 // The words at which the slots of nodes and of reversed links begin, how many of the links repeat
 // an input link, and the node that the old start became.
-#[derive(Drop)]
+#[derive(Clone, Copy)]
 pub struct Places {
     pub nodes: usize,
     pub links: usize,

@@ -11,7 +11,7 @@ use sheet_fields::refusal::NO_ANSWER;
 use tropical_weight::LIST_LIMIT;
 
 // What is answered: how many readings there are, or the number of the refusal.
-#[derive(Drop)]
+#[derive(Clone, Copy)]
 pub enum Counted {
     Readings(u32),
     Refused(u32),

@@ -20,7 +20,7 @@ use slots::NOTHING;
 
 // What is answered: how many links the reading has, its cost in units and the node where it ends, or the
 // number of the refusal.
-#[derive(Drop)]
+#[derive(Clone, Copy)]
 pub enum Told {
     Reading(u32, i32, u32),
     Refused(u32),

@@ -13,7 +13,7 @@ use slots::NOTHING;
 
 // The node that it has come to, the number of that node's first link, and how many links it has taken;
 // not good where one did not leave the node that was reached, or was barred.
-#[derive(Drop)]
+#[derive(Clone, Copy)]
 pub struct Walk {
     pub good: bool,
     pub at: u32,

@@ -15,7 +15,7 @@ use slots::NOTHING;
 
 // The machine of a result: how many nodes and links it has, the state that a way ends at, and the links
 // that stand before the only links of the states above it.
-#[derive(Drop)]
+#[derive(Clone, Copy)]
 pub struct Shape {
     pub nodes: u32,
     pub links: u32,

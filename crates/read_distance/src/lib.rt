@@ -1,4 +1,5 @@
 // Distances read back from the result of the call for distances.
+#![tactic(auto)]
 ghost use Rattle.std.specs.Prelude.{◌≡◌};
 ghost use Rattle.read_distance.specs.Told.{pattern_tells, words_tell, distance_told};
 ghost use Rattle.read_distance.specs.Promise.{ReadBack};
@@ -8,7 +9,7 @@ use sheet::words::word;
 use sheet_fields::refusal;
 
 // What is told of a node: reached at so many units, unreached, or the number of the refusal.
-#[derive(Drop)]
+#[derive(Clone, Copy)]
 pub enum DistanceTold {
     Reached(i32),
     Unreached,

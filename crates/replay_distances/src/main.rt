@@ -3,6 +3,7 @@
 // the distances), the words of the work area, the bytes of the result area, the words of the work
 // area that must be left zero, the bytes of the sheet, those bytes, the bytes of the answer, and what
 // the case is. Prints the lines that differ, and how many there were.
+#![tactic(auto)]
 use distance::WRITTEN;
 use libc::STDIN_FILENO;
 use shortest_distance::Distances;

@@ -1,6 +1,7 @@
 // Replays the stored runs of the listing program: a line a case on standard input, made by
 // tools/listing_cases.py. A line has, with a space between: the bytes read, the text that must be
 // printed, and what the case is. Prints the lines that differ, and how many there were.
+#![tactic(auto)]
 use libc::STDIN_FILENO;
 use stored_cases::areas::RESULT_MARK;
 use stored_cases::bytes::bytes_of;

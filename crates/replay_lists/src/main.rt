@@ -4,6 +4,7 @@
 // nodes and links of the list's machine and the entries taken, the bytes of the sheet, those bytes,
 // the bytes of the answer, and what the case is. Prints the lines that differ, and how many there
 // were.
+#![tactic(auto)]
 ghost use Rattle.std.specs.Prelude.{◌≡◌, ◌+◌, ◌*◌};
 
 use libc::STDIN_FILENO;

@@ -27,7 +27,7 @@ const REFUSED: u32 = 3;
 const TEST: u32 = 4;
 
 // What a call answers, and the record that it hands back.
-#[derive(Drop)]
+#[derive(Clone, Copy)]
 pub struct Outcome {
     pub kind: u32,
     pub value: u32,

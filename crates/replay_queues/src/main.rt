@@ -3,6 +3,7 @@
 // the other with the answer that each must give, the record that must be left, and what the case is.
 // A call is four words: which one, its node, the kind of its answer, and the answer's value. Prints
 // the lines that differ, and how many there were.
+#![tactic(auto)]
 ghost use Rattle.std.specs.Prelude.{◌+◌, ◌≤◌, length};
 
 mod calls;

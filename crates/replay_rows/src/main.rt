@@ -3,6 +3,7 @@
 // area, the number that the call for the length must answer (0: a length), that length, the number
 // that the conversion must answer, the text or sheet, the bytes of the answer, and what the case is.
 // Prints the lines that differ, and how many there were.
+#![tactic(auto)]
 use libc::STDIN_FILENO;
 use rows::converted::Converted;
 use sheet::words::word;

@@ -2,6 +2,7 @@
 // reading must answer (0: accepted), the bytes, the links that a link reader must give one by one
 // before it gives none, and what the case is, with a space between. tools/sheet_cases.py made them.
 // Prints the lines that differ, and how many there were.
+#![tactic(auto)]
 ghost use Rattle.std.specs.Prelude.{◌≡◌, true, ◌+◌, ◌≤◌, length};
 ghost use Rattle.replay_sheets.specs.Given.{SameFields, Given, Reads};
 

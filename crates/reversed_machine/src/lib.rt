@@ -1,2 +1,3 @@
 // The reversed machine (reverse.rs of rustfst), in lent slots.
+#![tactic(auto)]
 pub mod reverse;

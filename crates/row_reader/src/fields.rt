@@ -47,7 +47,7 @@ fn field_end(text: &[u8], at: usize) -> usize
 }
 
 // Where a field begins and ends.
-#[derive(Drop)]
+#[derive(Clone, Copy)]
 pub struct Span {
     pub from: usize,
     pub to: usize,

@@ -13,14 +13,14 @@ const KEPT: usize = tropical_weight::NODE_LIMIT;
 const NODES: u64 = 0x1_0000_0000;
 
 // A pass under way: a node's second final row is met, or so many nodes are kept, rising, and those from `limit` on are left.
-#[derive(Drop)]
+#[derive(Clone, Copy)]
 pub enum Pass {
     Twice,
     On { count: usize, limit: u64 },
 }
 
 // What a pass finds: a node's second final row, or where the next pass begins.
-#[derive(Drop)]
+#[derive(Clone, Copy)]
 pub enum Seen {
     Twice,
     Next(u64),

@@ -8,7 +8,7 @@ use crate::fields::span_at;
 use crate::values::{Number, Weight, number_in, weight_in};
 
 // A link or a final node, and where the next row begins.
-#[derive(Drop)]
+#[derive(Clone, Copy)]
 pub enum Read {
     Link {
         source: u32,

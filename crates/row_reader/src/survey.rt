@@ -7,7 +7,7 @@ use crate::row::{Read, row_at};
 use crate::values::Weight;
 
 // What rows say: whether their weights pass, the highest node, and how many are links.
-#[derive(Drop)]
+#[derive(Clone, Copy)]
 pub struct Survey {
     pub passing: bool,
     pub highest: u32,
@@ -15,7 +15,7 @@ pub struct Survey {
 }
 
 // What they say, or that a row cannot be read or there is none.
-#[derive(Drop)]
+#[derive(Clone, Copy)]
 pub enum Surveyed {
     Rows(Survey),
     Unreadable,

@@ -16,7 +16,7 @@ const UNITS: u64 = 1 << UNIT;
 const MILLION: u64 = 1_000_000;
 
 // A number, or that there is none.
-#[derive(Drop)]
+#[derive(Clone, Copy)]
 pub enum Number {
     Value(u32),
     Unreadable,
@@ -70,7 +70,7 @@ fn part_in(decimals: &[u8]) -> Digits
 }
 
 // What a weight without its sign is: so many units, one off the grid or past the limit, or none.
-#[derive(Drop)]
+#[derive(Clone, Copy)]
 pub enum Magnitude {
     Units(u32),
     Off,
@@ -111,7 +111,7 @@ fn magnitude_in(field: &[u8]) -> Magnitude
 }
 
 // A weight: a whole number of units within the limit, infinity, one off the grid or past the limit, or none.
-#[derive(Drop)]
+#[derive(Clone, Copy)]
 pub enum Weight {
     Units(i32),
     Barred,

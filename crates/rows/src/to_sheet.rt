@@ -20,7 +20,7 @@ const LAST_WORD: u32 = 0xffff_ffff;
 const LINKS_PAST: usize = 0x1000_0000;
 
 // What a text comes to: what its rows say, or the number of the refusal.
-#[derive(Drop)]
+#[derive(Clone, Copy)]
 pub enum Judged {
     Rows(Survey),
     Refused(u32),

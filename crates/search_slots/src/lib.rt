@@ -1,5 +1,6 @@
 // The part of the work area that a search runs on: the words of the slots of its entries, nodes and
 // reversed links.
+#![tactic(auto)]
 
 // The words of an entry's slot, after its node: where it came from, and by which input link; a place
 // of the heap, and one of the list.

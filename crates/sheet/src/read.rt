@@ -7,7 +7,7 @@ use crate::tests::{judge, test_links, test_nodes};
 use crate::tr::{TRAILER, Trailer, trailer_of};
 
 // What reading answers: the trailer of an accepted sheet, or the number of the refusal.
-#[derive(Drop)]
+#[derive(Clone, Copy)]
 pub enum Tested {
     Accepted(Trailer),
     Refused(u32),

@@ -6,14 +6,14 @@ ghost use Rattle.sheet.specs.Reading.{has_link, next_link, place_after, read_on}
 use crate::tr::{Link, TRAILER, link_at, trailer_of};
 
 // A link reader: it borrows a sheet and remembers the number of the next link.
-#[derive(Drop)]
+#[derive(Clone, Copy)]
 pub struct Reader<'a> {
     pub sheet: &'a [u8],
     pub next: usize,
 }
 
 // What it answers: a link, or that none is left.
-#[derive(Drop)]
+#[derive(Clone, Copy)]
 pub enum Step {
     Link(Link),
     End,

@@ -14,7 +14,7 @@ use crate::words::word;
 
 // What the nodes so far pass: the marks and the weights of absent finals (test 1), the links that
 // they count (test 1), and the final weights (test 4).
-#[derive(Drop)]
+#[derive(Clone, Copy)]
 pub struct NodeTests {
     pub marked: bool,
     pub links: u64,
@@ -22,7 +22,7 @@ pub struct NodeTests {
 }
 
 // What the links so far pass: the next nodes (test 3) and the weights (test 4).
-#[derive(Drop)]
+#[derive(Clone, Copy)]
 pub struct LinkTests {
     pub nexts: bool,
     pub weights: bool,

@@ -5,7 +5,7 @@ ghost use Rattle.sheet.specs.Records.{link_at, node_at, trailer_at};
 use crate::words::word;
 
 // A link: two labels, a weight and the node it leads to.
-#[derive(Drop)]
+#[derive(Clone, Copy)]
 pub struct Link {
     pub ilabel: u32,
     pub olabel: u32,
@@ -14,7 +14,7 @@ pub struct Link {
 }
 
 // A node: how many links leave it, its final mark, 0 or 1, and its final weight.
-#[derive(Drop)]
+#[derive(Clone, Copy)]
 pub struct Node {
     pub links: u32,
     pub mark: u32,
@@ -22,7 +22,7 @@ pub struct Node {
 }
 
 // The trailer: the offsets of links and nodes, their numbers, and the start.
-#[derive(Drop)]
+#[derive(Clone, Copy)]
 pub struct Trailer {
     pub link_offset: u32,
     pub node_offset: u32,

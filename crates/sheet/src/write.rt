@@ -11,7 +11,7 @@ use crate::tr::TRAILER;
 use crate::words::put_words;
 
 // What writing answers: the bytes written, or the number of the refusal.
-#[derive(Drop)]
+#[derive(Clone, Copy)]
 pub enum Written {
     Length(usize),
     Refused(u32),

@@ -5,7 +5,7 @@ ghost use Rattle.sheet_fields.specs.Counts.{counts_of};
 use sheet::read::Tested;
 
 // What it tells of an accepted sheet: N, T, F and the start's field; or the number of the refusal.
-#[derive(Drop)]
+#[derive(Clone, Copy)]
 pub enum SheetCounts {
     Told {
         nodes: u32,

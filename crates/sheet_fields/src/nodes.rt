@@ -8,7 +8,7 @@ ghost use Rattle.sheet_fields.specs.Fields.{NodeOf};
 use sheet::tr::{Node, TRAILER, node_at, trailer_of};
 
 // A node, or that none has the number.
-#[derive(Drop)]
+#[derive(Clone, Copy)]
 pub enum NodeStep {
     Node(Node),
     End,

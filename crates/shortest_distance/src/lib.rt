@@ -1,5 +1,6 @@
 // Distances (shortest_distance.rs of rustfst), one per node: reached at the least sum of weights along
 // the runs from the start to it, or unreached.
+#![tactic(auto)]
 ghost use Rattle.std.specs.Prelude.{◌≡◌, ◌*◌, ◌≤◌, length};
 ghost use Rattle.sheet.specs.Records.{trailer_at};
 ghost use Rattle.machine.specs.Input.{input_number};
@@ -20,7 +21,7 @@ pub mod parent;
 mod relax;
 
 // What the call for distances answers: how many distances it wrote, or the number of the refusal.
-#[derive(Drop)]
+#[derive(Clone, Copy)]
 pub enum Distances {
     Count(u32),
     Refused(u32),

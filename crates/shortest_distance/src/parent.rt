@@ -10,7 +10,7 @@ const LINK: usize = 2;
 const SOURCE: usize = 3;
 
 // The link by which the best way enters a node, and the link's source.
-#[derive(Drop)]
+#[derive(Clone, Copy)]
 pub enum Parent {
     None,
     By(u32, u32),

@@ -27,7 +27,7 @@ const PER_LINK: usize = 16 + 12 + 4;
 const BESIDES: usize = 12 + TRAILER;
 
 // The node at which the best reading ends.
-#[derive(Drop)]
+#[derive(Clone, Copy)]
 enum End {
     None,
     At(u32),

@@ -1,4 +1,5 @@
 // The work area: slots of eight words, and the word that stands for nothing.
+#![tactic(auto)]
 ghost use Rattle.std.specs.Prelude.{◌≡◌, ◌*◌, ◌≤◌, length};
 ghost use Rattle.slots.specs.Slots.{cleared};
 

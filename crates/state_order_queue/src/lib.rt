@@ -6,6 +6,7 @@
 // `dequeue_cleared`, which move its ends alone: that compiles to no copy of the flags. `enqueue` and
 // `dequeue` go through the same two. Back is matched where the record is at hand and handed on as a
 // number: an enum that is handed on is read whole, and a read of what was just stored in parts waits.
+#![tactic(auto)]
 ghost use Rattle.std.specs.Prelude.{◌≡◌, true, false, ◌-◌, ◌≤◌, ◌<◌};
 ghost use Rattle.tropical_weight.specs.Limits.{node_limit};
 ghost use Rattle.state_order_queue.specs.Queues.{first_set, next_front, holds, empty_from, is_empty, ends_fit, ends_set, is_inside, flags_inside, is_valid, emptied, front_with, back_with, enqueued, dequeued};
@@ -21,14 +22,14 @@ const FLAGS: usize = tropical_weight::NODE_LIMIT;
 const NODES: u32 = FLAGS as u32;
 
 // The last node that may be in: none where no node was put in since the queue was new or cleared.
-#[derive(Drop)]
+#[derive(Clone, Copy)]
 pub enum Back {
     None,
     At(u32),
 }
 
 // A node is in where its flag is set.
-#[derive(Drop)]
+#[derive(Clone, Copy)]
 pub struct Queue {
     pub front: u32,
     pub back: Back,
@@ -36,14 +37,14 @@ pub struct Queue {
 }
 
 // The answer of a call that changes the record: 0 or the refusal's number.
-#[derive(Drop)]
+#[derive(Clone, Copy)]
 pub struct Changed {
     pub number: u32,
     pub queue: Queue,
 }
 
 // A node, none, or the refusal's number.
-#[derive(Drop)]
+#[derive(Clone, Copy)]
 pub enum Node {
     None,
     At(u32),
@@ -51,21 +52,21 @@ pub enum Node {
 }
 
 // The answer of a call that asks for a node.
-#[derive(Drop)]
+#[derive(Clone, Copy)]
 pub struct Found {
     pub node: Node,
     pub queue: Queue,
 }
 
 // Whether it is empty, or the refusal's number.
-#[derive(Drop)]
+#[derive(Clone, Copy)]
 pub enum Emptiness {
     Is(bool),
     Refused(u32),
 }
 
 // The answer of a call that asks whether the queue is empty.
-#[derive(Drop)]
+#[derive(Clone, Copy)]
 pub struct Tested {
     pub emptiness: Emptiness,
     pub queue: Queue,

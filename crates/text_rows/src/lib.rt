@@ -1,1 +1,2 @@
 // What rows of text say: definitions and laws alone.
+#![tactic(auto)]

@@ -184,6 +184,12 @@ nothing : (m x : ℕ) → 0 < x → zero ≡ suc m * x → ⊥
 nothing m x h e = lt_irrefl 0 (subst (λ (y : ℕ). 0 < y) (sym e) (mul-pos (zero-lt-suc m) h))
 
 pub value-unique : (x y : Float) (s : Bool) (a c : ℕ) → 0 < c → T (fits binary32 x) → T (fits binary32 y) → HasValue x s a c → HasValue y s a c → x ≡ y
+value-unique nan y s a c h p q v w = elim v [ ]
+value-unique (inf _) y s a c h p q v w = elim v [ ]
+value-unique (fin t zero e) nan s a c h p q v w = elim w [ ]
+value-unique (fin t zero e) (inf _) s a c h p q v w = elim w [ ]
+value-unique (fin t (suc m) e) nan s a c h p q v w = elim w [ ]
+value-unique (fin t (suc m) e) (inf _) s a c h p q v w = elim w [ ]
 value-unique (fin t zero e) (fin u zero g) s a c h p q v w = λ i. fin ((v.0 ∙ sym w.0) i) zero ((at_zero t e p ∙ sym (at_zero u g q)) i)
 value-unique (fin t zero e) (fin u (suc n) g) s a c h p q v w =
     absurd (nothing n (2 ^ over g e) (pow_pos (over g e)) (sym (zero-mul (2 ^ over e g)) ∙ meet zero (suc n) e g a c h v.1 w.1))

@@ -2,6 +2,8 @@
 //
 // A weight is an f32. On the grid it is a whole number of units, and what these functions answer is
 // exact: sums are sums of whole numbers, tests are tests of whole numbers.
+#![tactic(auto)]
+
 ghost use Rattle.std.specs.Prelude.{◌≡◌, ℕ, ◌<◌, ◌≤◌, from_bits, to_bits, unsigned_abs};
 ghost use Rattle.std.specs.Float.{binary32};
 ghost use Rattle.std.specs.Float.Ieee.{add, lt};

@@ -1,6 +1,7 @@
 // The grid test at the limits of the grid and where its table of shifts turns: for each bit pattern its
 // number of units, or that it is off the grid. The weights of case P7 are the first two. Then each
 // exponent's field from which on the shift is another.
+#![tactic(auto)]
 use libc::STDOUT_FILENO;
 
 const PATTERNS: [u32; 28] = [

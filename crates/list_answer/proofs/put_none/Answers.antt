@@ -1,0 +1,9 @@
+use Rattle.list_answer.proofs.NoneListed.{none-short, none-long}
+use borrow.Author.Rules.{rules}
+use Rattle.list_answer.proofs.put_none.Goals as goal
+
+pub returns-then-res-lt-TRAILER : goal.returns-then-res-lt-TRAILER
+returns-then-res-lt-TRAILER c = none-short c.args.res.now c.if-res-lt-TRAILER.true
+
+pub returns : goal.returns
+returns c = none-long c.args.res.now _ c.if-res-lt-TRAILER.false c.put_words.ensures

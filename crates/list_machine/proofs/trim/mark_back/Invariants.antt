@@ -1,0 +1,16 @@
+use borrow.Author.Rules.{rules}
+use mathlib.Core.Path.{◌≡◌, sym, ap, ◌∙◌}
+use mathlib.Core.List.{List}
+use Prim.Native.Nat.{ℕ, ◌+◌, ◌-◌, ◌*◌, ◌≤◌, ◌<◌}
+use native.Mathlib.Omega.{arith}
+use lib.ListN.{length}
+use Rattle.search_slots.specs.Slots.{from_word}
+use Rattle.list_machine.specs.TrimWords.{mark_back}
+use Rattle.list_machine.proofs.Marks.{back_none, back-next, from-keeps, from-other}
+use Rattle.list_machine.proofs.trim.mark_back.Given as goal
+
+abbrev pub invariant-loop-i : goal.invariant-loop-i
+invariant-loop-i l = (l.i < l.entries) × (length l.part ≡ length l.initial.part) × ((j : ℕ) → 0 < j → j < l.entries → 8 * from_word l.part j + 8 ≤ length l.initial.part) × (mark_back l.i l.part ≡ mark_back (l.entries - 1) l.initial.part)
+
+abbrev pub decreases-loop-i : goal.decreases-loop-i
+decreases-loop-i l = l.i

@@ -1,0 +1,42 @@
+use Rattle.list_machine.proofs.Marks.{count_next}
+use borrow.Author.Rules.{rules}
+use mathlib.Core.Path.{◌≡◌, sym, ap, ◌∙◌}
+use mathlib.Core.List.{List}
+use Prim.Native.Nat.{ℕ, ◌+◌, ◌-◌, ◌*◌, ◌≤◌, ◌<◌}
+use native.Mathlib.Omega.{arith}
+use lib.ListN.{length}
+use lib.Seq.{sets}
+use Rattle.sheet.specs.Words.{bytes_of_all}
+use Rattle.list_machine.specs.TrimWords.{mark_count, stated_words, link_words}
+use Rattle.list_machine.proofs.Placing.{stored_next, links-next, length-links, count-mono}
+use Rattle.list_machine.proofs.trim.put_entry_links.Goals as goal
+
+pub put_stated-next-requires : goal.put_stated-next-requires
+put_stated-next-requires c =
+    let turn = c.loop-i in
+    let start = c.before.before.before.before.before.before in
+    let part = start.args.part.now in
+    (start.requires.1 turn.i (omega arith) (omega arith), omega (arith, start.requires.2, turn.invariant.2, turn.invariant.3, count_next turn.i part turn.invariant.0, count-mono part (start.args.entries - 1) turn.i (omega arith)))
+
+pub loop-i-preserved : goal.loop-i-preserved
+loop-i-preserved c =
+    let turn = c.loop-i in
+    let args = c.args in
+    let part = args.part.now in
+    let call = c.put_stated-next in
+    let back : turn.i ≡ turn.i + 1 - 1 = omega arith in
+    let count = count_next turn.i part turn.invariant.0 in (
+      omega arith,
+      omega arith,
+      call.auto.res ∙ turn.invariant.2,
+      omega (arith, call.ensures.value, turn.invariant.3, count, ap (mark_count part) back),
+      stored_next args.result.now turn.result call.new.res args.at (link_words args.sheet.now args.links args.part.now (turn.i - 1)) (stated_words args.sheet.now args.links part turn.i) turn.next turn.invariant.4 call.ensures.res_after (omega (arith, turn.invariant.3, length-links args.sheet.now args.links part (turn.i - 1)))
+          ∙ ap (λ (l : List ℕ). sets args.result.now args.at (bytes_of_all l)) (sym (links-next args.sheet.now args.links part turn.i turn.invariant.0) ∙ ap (link_words args.sheet.now args.links args.part.now) back),
+    )
+
+pub returns : goal.returns
+returns c =
+    let args = c.args in
+    let turn = c.loop-i in
+    let all : turn.i ≡ args.entries = omega arith in
+    turn.invariant.4 ∙ ap (λ (n : ℕ). sets args.result.now args.at (bytes_of_all (link_words args.sheet.now args.links args.part.now (n - 1)))) all

@@ -1,0 +1,14 @@
+use Prim.Native.Nat.{◌+◌, ◌-◌, ◌*◌}
+use native.Mathlib.Omega.{arith}
+use lib.ListN.{replicate, length-replicate}
+use Rattle.slots.specs.Slots.{nothing}
+use Rattle.list_machine.specs.TrimWords.{input_words}
+use Rattle.list_machine.proofs.Placing.{stored_next}
+use borrow.Author.Rules.{rules}
+use Rattle.list_machine.proofs.trim.put_repeats.Goals as goal
+
+pub returns : goal.returns
+returns c =
+    let args = c.args in
+    let part = args.part.now in
+    stored_next args.result.now c.put_nothings.new.res c.put_inputs.new.res args.at (replicate args.listed nothing) (input_words part (args.entries - 1)) (args.at + 4 * args.listed) c.put_nothings.ensures c.put_inputs.ensures (omega (arith, length-replicate args.listed nothing))

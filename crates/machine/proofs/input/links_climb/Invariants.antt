@@ -1,0 +1,20 @@
+use mathlib.Core.Path.{◌≡◌, refl, sym, ap, ◌∙◌}
+use mathlib.Core.Bool.{Bool, true}
+use mathlib.Core.List.{List}
+use Prim.Native.Nat.{ℕ, suc, ◌+◌, ◌-◌, ◌*◌, ◌≤◌, ◌<◌}
+use native.Mathlib.Numerals.{add-one}
+use native.Mathlib.Omega.{arith}
+use lib.Dec.{ltb}
+use borrow.Author.Tests.{not-true, not-false}
+use Rattle.sheet.specs.Below.{all_below, sum_below}
+use Rattle.sheet.specs.Words.{word}
+use Rattle.sheet.proofs.Below.{all_below-more, all_below-fails}
+use Rattle.sheet.proofs.Below.{sum_mono}
+use borrow.Author.Rules.{rules}
+use Rattle.machine.proofs.input.links_climb.Given as goal
+
+abbrev pub invariant-loop-v : goal.invariant-loop-v
+invariant-loop-v l = (l.v ≤ l.nodes) × (l.first ≡ sum_below l.v (counts l.sheet l.links)) × (all_below l.v (climbing l.sheet l.links) ≡ true)
+
+abbrev pub decreases-loop-v : goal.decreases-loop-v
+decreases-loop-v l = l.nodes - l.v

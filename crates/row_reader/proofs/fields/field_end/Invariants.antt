@@ -1,0 +1,15 @@
+use mathlib.Core.Path.{◌≡◌, refl, sym, ◌∙◌}
+use Prim.Native.Nat.{◌+◌, ◌-◌, ◌≤◌}
+use lib.ListN.{length, drop}
+use borrow.Author.Rules.{rules}
+use borrow.Author.Tests.{not-true, not-false}
+use Rattle.row_reader.specs.Runs.{run_of, in_field}
+use Rattle.row_reader.proofs.Runs.{run_on, run-stops, run_ends}
+use Rattle.row_reader.proofs.fields.field_end.Given as goal
+
+-- what is left of the run is that of the whole
+abbrev pub invariant-loop-p : goal.invariant-loop-p
+invariant-loop-p l = (l.p ≤ length l.text) × (l.p + run_of in_field (drop l.p l.text) ≡ l.at + run_of in_field (drop l.at l.text))
+
+abbrev pub decreases-loop-p : goal.decreases-loop-p
+decreases-loop-p l = length l.text - l.p

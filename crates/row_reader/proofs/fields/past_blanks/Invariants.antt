@@ -1,0 +1,16 @@
+use mathlib.Core.Path.{◌≡◌, refl, sym, ◌∙◌}
+use Prim.Native.Nat.{◌+◌, ◌-◌, ◌≤◌}
+use lib.ListN.{length, drop}
+use borrow.Author.Rules.{rules}
+use borrow.Author.Tests.{not-true, not-false}
+use Rattle.text_rows.specs.Fields.{is_blank}
+use Rattle.row_reader.specs.Runs.{run_of}
+use Rattle.row_reader.proofs.Runs.{run_on, run-stops, run_ends}
+use Rattle.row_reader.proofs.fields.past_blanks.Given as goal
+
+-- what is left of the run is that of the whole
+abbrev pub invariant-loop-p : goal.invariant-loop-p
+invariant-loop-p l = (l.p ≤ length l.text) × (l.p + run_of is_blank (drop l.p l.text) ≡ l.at + run_of is_blank (drop l.at l.text))
+
+abbrev pub decreases-loop-p : goal.decreases-loop-p
+decreases-loop-p l = length l.text - l.p

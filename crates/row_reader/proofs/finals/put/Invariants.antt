@@ -1,0 +1,12 @@
+use mathlib.Core.Path.{◌≡◌, refl, sym, ap, ◌∙◌}
+use Prim.Native.Nat.{ℕ, suc, ◌-◌, ◌≤◌}
+use borrow.Author.Rules.{rules}
+use Rattle.row_reader.specs.FinalRows.{falling, has, put_in}
+use Rattle.row_reader.proofs.Kept.{has_on, has_here, has-none, put_on, put-here, put_first}
+use Rattle.row_reader.proofs.finals.put.Given as goal
+
+abbrev pub invariant-loop-i : goal.invariant-loop-i
+invariant-loop-i l = (l.i ≤ l.count) × (has l.node (falling l.kept l.i) ≡ has l.node (falling l.initial.kept l.count)) × (put_in l.node l.kept l.i ≡ put_in l.node l.initial.kept l.count)
+
+abbrev pub decreases-loop-i : goal.decreases-loop-i
+decreases-loop-i l = l.i

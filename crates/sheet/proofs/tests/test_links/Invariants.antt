@@ -1,0 +1,14 @@
+use mathlib.Core.Path.{◌≡◌, ap, ◌∙◌}
+use Prim.Native.Nat.{ℕ, ◌+◌, ◌-◌, ◌*◌, ◌≤◌}
+use native.Mathlib.Omega.{arith}
+use borrow.Author.Rules.{rules}
+use Rattle.sheet.specs.Words.{word}
+use Rattle.sheet.specs.Tests.{link_tests}
+use Rattle.sheet.proofs.Passes.{link-turn, link_tests-none}
+use Rattle.sheet.proofs.tests.test_links.Given as goal
+
+abbrev pub invariant-loop-l : goal.invariant-loop-l
+invariant-loop-l l = (l.l ≤ l.links) × (l.t ≡ link_tests l.l l.nodes (λ x. word l.sheet (16 * x + 8)) (λ x. word l.sheet (16 * x + 12)))
+
+abbrev pub decreases-loop-l : goal.decreases-loop-l
+decreases-loop-l l = l.links - l.l

@@ -1,0 +1,28 @@
+use mathlib.Core.Path.{◌≡◌, ap, ◌∙◌}
+use mathlib.Core.List.{List, [], ◌∷◌}
+use Prim.Native.Nat.{ℕ, ◌+◌, ◌*◌, ◌/◌}
+use native.Mathlib.Omega.{arith}
+use lib.ListN.{length}
+use lib.Seq.{sets}
+use Rattle.sheet.specs.Words.{bytes_of_all}
+use Rattle.sheet.specs.Sheet.{sheet_of}
+use Rattle.sheet.proofs.Writing.{sheet-stores}
+use borrow.Author.Rules.{rules}
+use Rattle.sheet.proofs.write.put_sheet.Goals as goal
+
+pub returns : goal.returns
+unfolding sheet_of
+returns c =
+    let args = c.args in
+    let xs = args.links.now in
+    let ys = args.nodes.now in
+    let t = length xs / 4 in
+    let n = length ys / 3 in
+    let trailer : List ℕ = 0 ∷ 16 * t ∷ n ∷ t ∷ args.start ∷ [] in
+    let first : 16 * t ≡ 4 * length xs = omega arith in
+    let second : 16 * t + 12 * n ≡ 4 * length xs + 4 * length ys = omega arith in
+    c.put_words-3.ensures
+    ∙ ap (λ (m : List ℕ). sets m (16 * t + 12 * n) (bytes_of_all trailer))
+    (c.put_words-2.ensures ∙ ap (λ (m : List ℕ). sets m (16 * t) (bytes_of_all ys)) c.put_words.ensures)
+    ∙ (λ i. sets (sets (sets args.result.now 0 (bytes_of_all xs)) (first i) (bytes_of_all ys)) (second i) (bytes_of_all trailer))
+    ∙ sheet-stores args.result.now xs ys trailer

@@ -1,0 +1,17 @@
+use mathlib.Core.Path.{◌≡◌, ap, ◌∙◌}
+use Prim.Native.Nat.{ℕ, ◌-◌, ◌*◌, ◌≤◌}
+use native.Mathlib.Omega.{arith}
+use lib.ListN.{length}
+use lib.Seq.{sets}
+use borrow.Author.Rules.{rules}
+use Rattle.sheet.specs.Words.{bytes_of_all}
+use Rattle.distance.specs.Held.{words_in}
+use Rattle.shortest_distance.specs.NodeSlots.{distance_words}
+use Rattle.shortest_distance.proofs.Areas.{sets-distance}
+use Rattle.shortest_distance.proofs.node_slots.put_distances.Given as goal
+
+abbrev pub invariant-loop-v : goal.invariant-loop-v
+invariant-loop-v l = (l.v ≤ l.count) × (length l.res ≡ length l.initial.res) × (l.res ≡ sets l.initial.res 0 (bytes_of_all (distance_words l.work l.v)))
+
+abbrev pub decreases-loop-v : goal.decreases-loop-v
+decreases-loop-v l = l.count - l.v

@@ -1,0 +1,12 @@
+use mathlib.Core.Path.{◌≡◌, refl, sym, ◌∙◌}
+use Prim.Native.Nat.{◌-◌, ◌≤◌}
+use borrow.Author.Rules.{rules}
+use Rattle.state_order_queue.specs.Queues.{first_set}
+use Rattle.state_order_queue.proofs.Flags.{first-here, first-turn, first-end}
+use Rattle.state_order_queue.proofs.first_set.Given as goal
+
+abbrev pub invariant-loop-v : goal.invariant-loop-v
+invariant-loop-v l = (l.from ≤ l.v) × (l.v ≤ l.end) × (first_set (l.end - l.from) l.from l.flags ≡ first_set (l.end - l.v) l.v l.flags)
+
+abbrev pub decreases-loop-v : goal.decreases-loop-v
+decreases-loop-v l = l.end - l.v

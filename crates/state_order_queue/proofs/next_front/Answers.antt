@@ -1,0 +1,5 @@
+use borrow.Author.Rules.{rules}
+use Rattle.state_order_queue.proofs.next_front.Goals as goal
+
+pub returns : goal.returns
+returns c = c.first_set.ensures

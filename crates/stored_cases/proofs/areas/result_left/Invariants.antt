@@ -1,0 +1,18 @@
+use borrow.Author.Rules.{rules}
+use mathlib.Core.Path.{◌≡◌, sym, ap, ◌∙◌, subst}
+use mathlib.Core.Logic.{⊎_elim}
+use native.Mathlib.Omega.{arith}
+use borrow.Author.Count.{below_more}
+use borrow.Author.Tests.{lt-ltb, le-ltb, leb-true}
+use mathlib.Core.Bool.{Bool, cond}
+use Prim.Native.Nat.{ℕ, ◌-◌, ◌≤◌, ◌<◌}
+use lib.Dec.{T, ltb}
+use lib.ListN.{length, get_or}
+use Rattle.stored_cases.specs.Left.{result_mark}
+use Rattle.stored_cases.proofs.areas.result_left.Given as goal
+
+abbrev pub invariant-loop-at : goal.invariant-loop-at
+invariant-loop-at l = (l.at ≤ length l.res) × ((i : ℕ) → i < l.at → get_or l.res i 0 ≡ cond (ltb i (length l.bytes)) (get_or l.bytes i 0) result_mark)
+
+abbrev pub decreases-loop-at : goal.decreases-loop-at
+decreases-loop-at l = length l.res - l.at

@@ -1,0 +1,12 @@
+use borrow.Author.Rules.{rules}
+use mathlib.Core.Path.{◌≡◌, sym}
+use Prim.Native.Nat.{◌-◌, ◌≤◌}
+use lib.ListN.{length}
+use lib.Seq.{length-take-le}
+use Rattle.stored_cases.proofs.bytes.bytes_of.Goals as goal
+
+pub returns-then-s-eq0 : goal.returns-then-s-eq0
+returns-then-s-eq0 c = (c.loop-at.invariant.0, sym (length-take-le c.loop-at.n c.loop-at.out c.loop-at.invariant.0))
+
+pub returns : goal.returns
+returns c = (c.loop-at.invariant.0, sym (length-take-le c.loop-at.n c.loop-at.out c.loop-at.invariant.0))

@@ -1,0 +1,53 @@
+use mathlib.Core.Path.{◌≡◌, refl, sym, ap, ◌∙◌}
+use native.Mathlib.Omega.{arith}
+use Rattle.list_answer.specs.ListAnswer.{slots_of}
+use Rattle.yeldmur.specs.Areas.{bytes_of, finals_of}
+use Rattle.yeldmur.proofs.Room.{counts-nodes, counts-links, counts-n, counts_zero, serves}
+use borrow.Author.Rules.{rules}
+use Rattle.yeldmur.proofs.yeldmur_areas_of.Goals as goal
+
+pub returns-then-nodes-gt-NODE_LIMIT : goal.returns-then-nodes-gt-NODE_LIMIT
+returns-then-nodes-gt-NODE_LIMIT c =
+    let a = c.args in record {
+      value = sym (counts-nodes a.nodes a.links a.n c.if-nodes-gt-NODE_LIMIT.true);
+      slots_after = refl;
+      bytes_after = refl;
+      serves = λ z. absurd (omega (arith, z));
+    }
+
+pub returns-then-links-gt-LINK_LIMIT : goal.returns-then-links-gt-LINK_LIMIT
+returns-then-links-gt-LINK_LIMIT c =
+    let a = c.args in record {
+      value = sym (counts-links a.nodes a.links a.n c.if-links-gt-LINK_LIMIT.true);
+      slots_after = refl;
+      bytes_after = refl;
+      serves = λ z. absurd (omega (arith, z));
+    }
+
+pub returns-then-n-gt-LIST_LIMIT : goal.returns-then-n-gt-LIST_LIMIT
+returns-then-n-gt-LIST_LIMIT c =
+    let a = c.args in record {
+      value = sym (counts-n a.nodes a.links a.n c.if-nodes-gt-NODE_LIMIT.false c.if-links-gt-LINK_LIMIT.false c.if-n-gt-LIST_LIMIT.true);
+      slots_after = refl;
+      bytes_after = refl;
+      serves = λ z. absurd (omega (arith, z));
+    }
+
+pub slots_needed-requires : goal.slots_needed-requires
+slots_needed-requires c = (c.if-nodes-gt-NODE_LIMIT.false, c.if-links-gt-LINK_LIMIT.false, c.finals_of-marked.ensures.1, c.if-n-gt-LIST_LIMIT.false)
+
+pub bytes_enough-requires : goal.bytes_enough-requires
+bytes_enough-requires c = (c.if-nodes-gt-NODE_LIMIT.false, c.if-links-gt-LINK_LIMIT.false, c.finals_of-marked.ensures.1, c.if-n-gt-LIST_LIMIT.false)
+
+pub returns : goal.returns
+returns c =
+    let a = c.args in
+    let few = c.if-n-gt-LIST_LIMIT.false in
+    let marked : c.finals_of-marked.result ≡ finals_of a.nodes a.finals = c.finals_of-marked.ensures.0 in
+    let slots = c.slots_needed.ensures ∙ ap (λ f. slots_of a.nodes a.links f a.n) marked in
+    let bytes = c.bytes_enough.ensures ∙ ap (λ f. bytes_of a.nodes a.links f a.n) marked in record {
+      value = sym (counts_zero a.nodes a.links a.n c.if-nodes-gt-NODE_LIMIT.false c.if-links-gt-LINK_LIMIT.false few);
+      slots_after = slots;
+      bytes_after = bytes;
+      serves = λ z. serves a.nodes a.links a.finals a.n c.slots_needed.result c.bytes_enough.result few slots bytes;
+    }

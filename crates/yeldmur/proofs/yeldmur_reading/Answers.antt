@@ -1,0 +1,26 @@
+use mathlib.Core.Path.{sym, ap, ◌∙◌}
+use Prim.Native.Nat.{ℕ}
+use lib.IntN.{ℤ}
+use mir.Syntax.{w32}
+use mir.Val.{SFits}
+use mir.ValLaws.{to_z-of_z}
+use Rattle.read_back.specs.declared.reading.Told.{Told}
+use Rattle.yeldmur.specs.Told.{told_reading}
+use Rattle.yeldmur.proofs.ReadBack.{reading-all}
+use borrow.Author.Rules.{rules}
+use Rattle.yeldmur.proofs.yeldmur_reading.Goals as goal
+
+pub returns-in-Reading : goal.returns-in-Reading
+returns-in-Reading c =
+    let a = c.args in
+    let e = c.reading.ensures in
+    let given = c.numbers-1.given in
+    let fits : SFits w32 given.0.1.0 = search rules in
+    let told = ap {B = ℕ × ℕ × ℤ × ℕ} (λ (z : ℤ). (0, given.0.0, z, given.0.1.1.0)) (to_z-of_z w32 given.0.1.0 fits) ∙ sym (ap (λ (t : Told). told_reading t a.count.now a.cost.now a.end.now) given.1) in
+    reading-all a.sheet.now a.n a.result.now a.states a.links a.k a.run.now _ _ e.1.1.0 e.1.1.1 _ _ _ _ a.count.now a.cost.now a.end.now e.0 e.1.0 told
+
+pub returns-in-Refused : goal.returns-in-Refused
+returns-in-Refused c =
+    let a = c.args in
+    let e = c.reading.ensures in
+    reading-all a.sheet.now a.n a.result.now a.states a.links a.k a.run.now _ _ e.1.1.0 e.1.1.1 _ _ _ _ a.count.now a.cost.now a.end.now e.0 e.1.0 (sym (ap (λ (t : Told). told_reading t a.count.now a.cost.now a.end.now) c.in-Refused.is))

@@ -1,0 +1,18 @@
+use mathlib.Core.Path.{sym, ap}
+use Rattle.read_back.specs.declared.count.Counted.{Counted}
+use Rattle.yeldmur.specs.Told.{counted_told}
+use Rattle.yeldmur.proofs.ReadBack.{counted-all}
+use borrow.Author.Rules.{rules}
+use Rattle.yeldmur.proofs.yeldmur_readings.Goals as goal
+
+pub returns-in-Readings : goal.returns-in-Readings
+returns-in-Readings c =
+    let a = c.args in
+    let e = c.count_readings.ensures in
+    counted-all a.result.now a.n a.states a.links _ _ _ a.count.now e.0 e.1 (sym (ap (λ (t : Counted). counted_told t a.count.now) c.in-Readings.is))
+
+pub returns-in-Refused : goal.returns-in-Refused
+returns-in-Refused c =
+    let a = c.args in
+    let e = c.count_readings.ensures in
+    counted-all a.result.now a.n a.states a.links _ _ _ a.count.now e.0 e.1 (sym (ap (λ (t : Counted). counted_told t a.count.now) c.in-Refused.is))

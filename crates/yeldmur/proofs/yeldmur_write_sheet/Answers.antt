@@ -1,0 +1,34 @@
+use mathlib.Core.Path.{sym, ◌∙◌}
+use lib.ListN.{length}
+use Rattle.sheet.specs.Sheet.{write_number}
+use Rattle.sheet.specs.Answers.{parts}
+use Rattle.yeldmur.specs.Told.{written_told}
+use Rattle.yeldmur.proofs.Telling.{told, written-number, written-refused}
+use borrow.Author.Rules.{rules}
+use Rattle.yeldmur.proofs.yeldmur_write_sheet.Goals as goal
+
+pub returns-in-Length : goal.returns-in-Length
+returns-in-Length c =
+    let a = c.args in
+    let p = parts a.links.now a.nodes.now a.start in
+    let k = write_number p (length a.result.now) in
+    let w = c.write.ensures in
+    let t = told (λ w. written_told w a.size.now) (λ x. x.0) k c.in-Length.is w.0 (written-number k p a.size.now) in record {
+      value = t.0;
+      size_after = t.1;
+      res_after = w.1.0;
+      read_back = λ e. w.1.1 c.in-Length.bytes c.in-Length.is;
+    }
+
+pub returns-in-Refused : goal.returns-in-Refused
+returns-in-Refused c =
+    let a = c.args in
+    let p = parts a.links.now a.nodes.now a.start in
+    let k = write_number p (length a.result.now) in
+    let w = c.write.ensures in
+    let t = told (λ w. written_told w a.size.now) (λ x. x.0) k c.in-Refused.is w.0 (written-number k p a.size.now) in record {
+      value = t.0;
+      size_after = t.1;
+      res_after = w.1.0;
+      read_back = λ e. absurd (written-refused k p c.in-Refused.k (sym c.in-Refused.is ∙ w.0) e);
+    }
