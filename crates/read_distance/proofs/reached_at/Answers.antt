@@ -11,13 +11,19 @@ use Rattle.tropical_weight.specs.Limits.{unit, sum_limit}
 use Rattle.tropical_weight.specs.Single.{Costs}
 use Rattle.read_distance.proofs.Patterns.{pattern-told, too_many, other-pattern}
 use Rattle.read_distance.proofs.reached_at.Goals as goal
+use Rattle.read_distance.proofs.reached_at.Lts
+use Rattle.read_distance.proofs.reached_at.Reads
+use Rattle.read_distance.proofs.reached_at.Tie
+
+abbrev After-cost-units : Type 0
+After-cost-units = Lts.After-cost Tie.the-claims Reads.Pre Reads.Post
 
 -- the cost as the code reads it
-abbrev cost-of : (c : goal.After-cost-units) → ℤ
+abbrev cost-of : (c : After-cost-units) → ℤ
 cost-of c = to_z w32 (of_z w32 c.cost-units.result)
 
 -- it is that of the value of the bits
-is-cost : (c : goal.After-cost-units) → Costs unit (of_bits binary32 c.args.bits) (cost-of c)
+is-cost : (c : After-cost-units) → Costs unit (of_bits binary32 c.args.bits) (cost-of c)
 is-cost c =
     subst (λ (x : Float). Costs unit x (to_z w32 (of_z w32 c.cost-units.result))) c.from_bits.ensures
     (subst (λ (z : ℤ). Costs unit c.from_bits.result z) (sym (to_z-of_z w32 c.cost-units.result (sfits_of c.cost-units.type-inv))) c.cost-units.ensures)

@@ -12,9 +12,15 @@ use Rattle.shortest_distance.proofs.Starts.{zero-cost}
 use Rattle.shortest_distance.proofs.Making.{prepares, start-low, sound-start, made-from, made-without}
 use borrow.Author.Rules.{rules}
 use Rattle.shortest_distance.proofs.make.Goals as goal
+use Rattle.shortest_distance.proofs.make.Lts
+use Rattle.shortest_distance.proofs.make.Reads
+use Rattle.shortest_distance.proofs.make.Tie
+
+abbrev After-put_distance : Type 0
+After-put_distance = Lts.After-put_distance Tie.the-claims Reads.Pre Reads.Post
 
 -- the start's slot after its distance is stored
-named : (c : goal.After-put_distance) → c.put_distance.new.work ≡ with_distance c.prepare.new.work (8 * c.args.t.start) (held zero-cost)
+named : (c : After-put_distance) → c.put_distance.new.work ≡ with_distance c.prepare.new.work (8 * c.args.t.start) (held zero-cost)
 named c = c.put_distance.ensures ∙ ap (λ (x : Float). with_distance c.prepare.new.work (8 * c.args.t.start) (Reached x)) (c.one.ensures unit covered)
 
 pub prepare-requires : goal.prepare-requires
@@ -34,7 +40,7 @@ relax_heads-requires c =
     let a = c.args in
     let r = c.requires in
     sound-start a.sheet.now a.work.now r.0 a.t r.1 r.2 _ c.prepare.ensures c.if-start-nodes.true
-    _ (named c.before.before.before.before.before) c.enqueue_untested-q.result (c.enqueue_untested-q.ensures ∙ ap (λ (q : Queue). enqueued q a.t.start) c.new.ensures)
+    _ (named c.before.before.before.before.before.before) c.enqueue_untested-q.result (c.enqueue_untested-q.ensures ∙ ap (λ (q : Queue). enqueued q a.t.start) c.new.ensures)
 
 pub returns-then-start-nodes : goal.returns-then-start-nodes
 returns-then-start-nodes c =
@@ -42,7 +48,7 @@ returns-then-start-nodes c =
     let r = c.requires in
     subst (λ x. Made a.sheet.now a.work.now x) (sym c.relax_heads.ensures)
     (made-from a.sheet.now a.work.now r.0 a.t r.1 r.2 _ c.prepare.ensures c.if-start-nodes.true
-    _ (named c.before.before.before.before.before.before.before.before) c.enqueue_untested-q.result (c.enqueue_untested-q.ensures ∙ ap (λ (q : Queue). enqueued q a.t.start) c.new.ensures))
+    _ (named c.before.before.before.before.before.before.before.before.before) c.enqueue_untested-q.result (c.enqueue_untested-q.ensures ∙ ap (λ (q : Queue). enqueued q a.t.start) c.new.ensures))
 
 pub shape_of-work-then-start-nodes : goal.shape_of-work-then-start-nodes
 shape_of-work-then-start-nodes c = (returns-then-start-nodes c).size

@@ -7,9 +7,15 @@ use Rattle.yeldmur.specs.Areas.{bytes_of}
 use Rattle.yeldmur.proofs.Room.{bytes-many}
 use borrow.Author.Rules.{rules}
 use Rattle.yeldmur.proofs.bytes_enough.Goals as goal
+use Rattle.yeldmur.proofs.bytes_enough.Lts
+use Rattle.yeldmur.proofs.bytes_enough.Reads
+use Rattle.yeldmur.proofs.bytes_enough.Tie
+
+abbrev Else-n-eq1 : Type 0
+Else-n-eq1 = Lts.Else2 Tie.the-claims Reads.Pre Reads.Post
 
 -- the product, at its largest
-most : (c : goal.Else-n-eq1) → let a = c.args in a.n * (a.links + 1) ≤ list_limit * (a.links + 1)
+most : (c : Else-n-eq1) → let a = c.args in a.n * (a.links + 1) ≤ list_limit * (a.links + 1)
 most c = let root = c.before.before in mul-le-mul_right (root.args.links + 1) root.requires.3
 
 pub returns-then-n-eq1 : goal.returns-then-n-eq1

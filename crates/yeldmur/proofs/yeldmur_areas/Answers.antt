@@ -17,9 +17,15 @@ use Rattle.yeldmur.proofs.Telling.{kept}
 use Rattle.yeldmur.proofs.Room.{number_same, slots-told, bytes-told, own-counts}
 use borrow.Author.Rules.{rules}
 use Rattle.yeldmur.proofs.yeldmur_areas.Goals as goal
+use Rattle.yeldmur.proofs.yeldmur_areas.Lts
+use Rattle.yeldmur.proofs.yeldmur_areas.Reads
+use Rattle.yeldmur.proofs.yeldmur_areas.Tie
+
+abbrev In-Accepted : Type 0
+In-Accepted = Lts.After-known_told2 Tie.the-claims Reads.Pre Reads.Post Tie.handed_clauses
 
 -- the sheet is accepted, and the trailer is its own
-passed : (c : goal.In-Accepted) → let bytes = c.args.sheet.now in (input_number bytes ≡ 0) × (c.in-Accepted.t ≡ trailer_at bytes)
+passed : (c : In-Accepted) → let bytes = c.args.sheet.now in (input_number bytes ≡ 0) × (c.in-Accepted.t ≡ trailer_at bytes)
 passed c =
     let bytes = c.args.sheet.now in
     accepted-number bytes (input_number bytes) c.in-Accepted.t (sym c.input.ensures ∙ c.in-Accepted.is)
@@ -27,7 +33,7 @@ passed c =
 pub count_finals-finals-requires : goal.count_finals-finals-requires
 count_finals-finals-requires c =
     let bytes = c.args.sheet.now in
-    subst (λ (t : Trailer). 16 * t.links + 12 * t.nodes ≤ length bytes) (sym (passed c).1) (in-sheet bytes (input-read bytes (passed c).0).0)
+    subst (λ (t : Trailer). 16 * t.links + 12 * t.nodes ≤ length bytes) (sym (passed c.before).1) (in-sheet bytes (input-read bytes (passed c.before).0).0)
 
 pub returns-in-Refused : goal.returns-in-Refused
 returns-in-Refused c =
@@ -46,7 +52,7 @@ returns-in-Accepted c =
     let a = c.args in
     let sheet = a.sheet.now in
     let below : Below 256 sheet = λ i. omega (arith, c.type_inv.sheet i) in
-    let ok = passed c.before.before.before.before in
+    let ok = passed c.before.before.before.before.before in
     let t = c.in-Accepted.t in
     let f = c.count_finals-finals.result in
     let counted = c.count_finals-finals.ensures in

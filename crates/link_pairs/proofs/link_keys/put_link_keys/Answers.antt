@@ -27,14 +27,14 @@ loop-v-init c = (omega arith, refl, refl, refl)
 -- src/link_keys.rt:41:13
 pub word-count-requires : goal.word-count-requires
 word-count-requires c =
-    let start = c.before.before.before.before.before in
+    let start = c.before.before.before.before.before.before in
     let f = fields-for start.args.sheet.now start.requires.0 start.args.t start.requires.1 in
     omega (arith, f.laid_out, c.loop-v-test.true)
 
 -- src/link_keys.rt:42:9
 pub put_node_keys-requires : goal.put_node_keys-requires
 put_node_keys-requires c =
-    let start = c.before.before.before.before.before.before.before in
+    let start = c.before.before.before.before.before.before.before.before in
     let turn = c.loop-v in
     let bytes = start.args.sheet.now in
     let f = fields-for bytes start.requires.0 start.args.t start.requires.1 in
@@ -48,7 +48,7 @@ put_node_keys-requires c =
 -- src/link_keys.rt:43:9
 pub overflow_add-first : goal.overflow_add-first
 overflow_add-first c =
-    let start = c.before.before.before.before.before.before.before.before.before.before in
+    let start = c.before.before.before.before.before.before.before.before.before.before.before in
     let turn = c.loop-v in
     let bytes = start.args.sheet.now in
     let f = fields-for bytes start.requires.0 start.args.t start.requires.1 in
@@ -58,7 +58,7 @@ overflow_add-first c =
 -- src/link_keys.rt:40:5
 pub loop-v-preserved : goal.loop-v-preserved
 loop-v-preserved c =
-    let start = c.before.before.before.before.before.before.before.before.before.before in
+    let start = c.before.before.before.before.before.before.before.before.before.before.before in
     let turn = c.loop-v in
     let old = start.args.keys.now in
     let bytes = start.args.sheet.now in
@@ -79,7 +79,7 @@ loop-v-preserved c =
 -- src/link_keys.rt:32:1
 pub returns : goal.returns
 returns c =
-    let start = c.before.before.before.before.before in
+    let start = c.before.before.before.before.before.before in
     let bytes = start.args.sheet.now in
     let T = start.args.t.links in
     let f = fields-for bytes start.requires.0 start.args.t start.requires.1 in

@@ -21,7 +21,7 @@ loop-l-init c =
 -- src/pairs.rt:75:13
 pub returns-then-next-gt-LINK_LIMIT : goal.returns-then-next-gt-LINK_LIMIT
 returns-then-next-gt-LINK_LIMIT c =
-    let start = c.before.before.before.before.before.before.before.before.before.before.before in
+    let start = c.before.before.before.before.before.before.before.before.before.before.before.before in
     let args = start.args in
     let turn = c.loop-l in
     let call = c.put_partners-next in
@@ -35,7 +35,7 @@ returns-then-next-gt-LINK_LIMIT c =
 -- src/pairs.rt:72:5
 pub loop-l-preserved : goal.loop-l-preserved
 loop-l-preserved c =
-    let start = c.before.before.before.before.before.before.before.before.before.before.before in
+    let start = c.before.before.before.before.before.before.before.before.before.before.before.before in
     let args = start.args in
     let turn = c.loop-l in
     let call = c.put_partners-next in

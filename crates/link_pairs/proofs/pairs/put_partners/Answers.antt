@@ -36,7 +36,7 @@ overflow_mul-before c =
 -- src/pairs.rt:42:5
 pub loop-k-init : goal.loop-k-init
 loop-k-init c =
-    let start = c.before.before.before.before.before.before in
+    let start = c.before.before.before.before.before.before.before in
     let args = start.args in
     let low : FirstAtLeast args.count args.seconds.now (link_key (key_label args.key) 0 0) c.first_at_least-k.result = subst (λ (k : ℕ). FirstAtLeast args.count args.seconds.now k c.first_at_least-k.result) c.least_alike.ensures c.first_at_least-k.ensures in (
       low.within,
@@ -49,7 +49,7 @@ loop-k-init c =
 -- src/pairs.rt:45:13
 pub returns-then-key_label-label : goal.returns-then-key_label-label
 returns-then-key_label-label c =
-    let start = c.before.before.before.before.before.before.before.before.before.before.before in
+    let start = c.before.before.before.before.before.before.before.before.before.before.before.before in
     let args = start.args in
     let turn = c.loop-k in
     let seconds = args.seconds.now in
@@ -62,7 +62,7 @@ returns-then-key_label-label c =
 -- src/pairs.rt:48:13
 pub returns-then-next-eq-LINK_LIMIT : goal.returns-then-next-eq-LINK_LIMIT
 returns-then-next-eq-LINK_LIMIT c =
-    let start = c.before.before.before.before.before.before.before.before.before.before.before.before in
+    let start = c.before.before.before.before.before.before.before.before.before.before.before.before.before in
     let args = start.args in
     let turn = c.loop-k in
     let seconds = args.seconds.now in
@@ -86,7 +86,7 @@ pair_key-requires c =
 -- src/pairs.rt:42:5
 pub loop-k-preserved : goal.loop-k-preserved
 loop-k-preserved c =
-    let start = c.before.before.before.before.before.before.before.before.before.before.before.before.before.before.before.before in
+    let start = c.before.before.before.before.before.before.before.before.before.before.before.before.before.before.before.before.before in
     let args = start.args in
     let turn = c.loop-k in
     let seconds = args.seconds.now in
@@ -114,7 +114,7 @@ loop-k-preserved c =
 -- src/pairs.rt:26:1
 pub returns : goal.returns
 returns c =
-    let start = c.before.before.before.before.before.before.before.before in
+    let start = c.before.before.before.before.before.before.before.before.before in
     let args = start.args in
     let turn = c.loop-k in
     let seconds = args.seconds.now in

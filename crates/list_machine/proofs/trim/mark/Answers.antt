@@ -18,6 +18,6 @@ mark_back-requires c =
 
 pub returns : goal.returns
 returns c =
-    let start = c.before.before.before.before.before.before.before.before.before.before.before.before.before in
+    let start = c.before.before.before.before.before.before.before.before.before.before.before.before.before.before in
     c.mark_back.ensures
     ∙ ap (mark_back (start.args.entries - 1)) (c.mark_listed.ensures ∙ ap (mark_listed start.args.listed) c.clear_marks.ensures)

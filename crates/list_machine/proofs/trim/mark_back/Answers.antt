@@ -15,7 +15,7 @@ mark_from-requires c = let turn = c.loop-i in (search rules, omega (arith, turn.
 pub loop-i-preserved : goal.loop-i-preserved
 loop-i-preserved c =
     let turn = c.loop-i in
-    let start = c.before.before.before.before.before.before.before in
+    let start = c.before.before.before.before.before.before.before.before in
     let call = c.mark_from in
     let from = turn.invariant.2 turn.i (omega arith) (omega arith) in
     let long : length call.new.part ≡ length start.args.part.now = call.auto.part ∙ turn.invariant.1 in (

@@ -8,9 +8,15 @@ use Rattle.search_slots.specs.Slots.{listed_word}
 use Rattle.list_machine.specs.TrimWords.{mark_listed}
 use Rattle.list_machine.proofs.Marks.{listed_next, listed-keeps, listed-other}
 use Rattle.list_machine.proofs.trim.mark_listed.Goals as goal
+use Rattle.list_machine.proofs.trim.mark_listed.Lts
+use Rattle.list_machine.proofs.trim.mark_listed.Reads
+use Rattle.list_machine.proofs.trim.mark_listed.Tie
+
+abbrev After-slice_known-1 : Type 0
+After-slice_known-1 = Lts.After-slice_known Tie.the-claims Reads.Pre Reads.Post goal.the-invariant-loop-k goal.the-decreases-loop-k
 
 -- the entry listed next has a slot, and no mark changes which it is
-inside : (c : goal.After-slice_known-1) → 8 * listed_word c.loop-k.part c.loop-k.k + 8 ≤ length c.loop-k.part
+inside : (c : After-slice_known-1) → 8 * listed_word c.loop-k.part c.loop-k.k + 8 ≤ length c.loop-k.part
 inside c =
     let turn = c.loop-k in
     let start = c.before.before.before in

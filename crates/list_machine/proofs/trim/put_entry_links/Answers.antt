@@ -14,7 +14,7 @@ use Rattle.list_machine.proofs.trim.put_entry_links.Goals as goal
 pub put_stated-next-requires : goal.put_stated-next-requires
 put_stated-next-requires c =
     let turn = c.loop-i in
-    let start = c.before.before.before.before.before.before in
+    let start = c.before.before.before.before.before.before.before in
     let part = start.args.part.now in
     (start.requires.1 turn.i (omega arith) (omega arith), omega (arith, start.requires.2, turn.invariant.2, turn.invariant.3, count_next turn.i part turn.invariant.0, count-mono part (start.args.entries - 1) turn.i (omega arith)))
 

@@ -20,7 +20,7 @@ returns-then-part-i-eq0 c =
     }
 
 pub put_word-requires : goal.put_word-requires
-put_word-requires c = let start = c.before.before.before.before.before.before in omega (arith, start.requires.1, mark_on start.args.part.now start.args.i c.if-part-i-eq0.false)
+put_word-requires c = let start = c.before.before.before.before.before.before.before in omega (arith, start.requires.1, mark_on start.args.part.now start.args.i c.if-part-i-eq0.false)
 
 pub returns : goal.returns
 returns c =

@@ -14,7 +14,7 @@ use Rattle.list_machine.proofs.trim.put_inputs.Goals as goal
 pub put_input-next-requires : goal.put_input-next-requires
 put_input-next-requires c =
     let turn = c.loop-i in
-    let start = c.before.before.before.before.before in
+    let start = c.before.before.before.before.before.before in
     let part = start.args.part.now in
     (omega (arith, start.requires.1), omega (arith, start.requires.2, turn.invariant.2, turn.invariant.3, count_next turn.i part turn.invariant.0, count-mono part (start.args.entries - 1) turn.i (omega arith)))
 

@@ -14,7 +14,7 @@ blank_bits-requires c = λ h. c.requires.0.Node-in c.if-input.true h
 
 pub returns-then-input : goal.returns-then-input
 returns-then-input c =
-    let start = c.before.before.before.before.before.before.before.before.before.before.before.before.before.before in
+    let start = c.before.before.before.before.before.before.before.before.before.before.before.before.before.before.before in
     let old = start.args.res.now in
     let words = start.args.part.now in
     let i = start.args.i in
@@ -45,7 +45,7 @@ word-requires-3 c = omega (arith, c.requires.0.input-in c.if-input.false)
 
 pub returns : goal.returns
 returns c =
-    let start = c.before.before.before.before.before.before.before.before.before.before.before.before.before.before.before in
+    let start = c.before.before.before.before.before.before.before.before.before.before.before.before.before.before.before.before in
     let old = start.args.res.now in
     let words = start.args.part.now in
     let i = start.args.i in

@@ -7,7 +7,7 @@ use Rattle.list_machine.proofs.trim.put_links.Goals as goal
 
 pub put_start_links-requires : goal.put_start_links-requires
 put_start_links-requires c =
-    let start = c.before.before.before.before in
+    let start = c.before.before.before.before.before in
     let l = start.requires.0.linked in
     (l.listed-slots, λ k h. omega (arith, l.slots, l.listed_in_lem k h), omega (arith, start.requires.1))
 

@@ -9,11 +9,11 @@ use borrow.Author.Rules.{rules}
 use Rattle.list_machine.proofs.trim.put_list.Goals as goal
 
 pub put_states-requires : goal.put_states-requires
-put_states-requires c = let start = c.before.before.before.before.before.before.before.before in (omega (arith, start.requires.kept-is, start.requires.listable.linked.some_in, start.requires.listable.linked.few, count-le start.args.part.now (start.args.entries - 1)), omega (arith, start.requires.roomy, c.put_links.auto.res))
+put_states-requires c = let start = c.before.before.before.before.before.before.before.before.before in (omega (arith, start.requires.kept-is, start.requires.listable.linked.some_in, start.requires.listable.linked.few, count-le start.args.part.now (start.args.entries - 1)), omega (arith, start.requires.roomy, c.put_links.auto.res))
 
 pub returns : goal.returns
 returns c =
-    let start = c.before.before.before.before.before.before.before.before.before.before.before.before.before.before.before in
+    let start = c.before.before.before.before.before.before.before.before.before.before.before.before.before.before.before.before in
     let args = start.args in
     let old = args.result.now in
     let part = args.part.now in

@@ -10,25 +10,31 @@ use Rattle.sheet.specs.Words.{bytes_of_all}
 use Rattle.list_machine.specs.TrimWords.{start_words}
 use Rattle.list_machine.proofs.Placing.{stored_next, start-next, length-start}
 use Rattle.list_machine.proofs.trim.put_start_links.Goals as goal
+use Rattle.list_machine.proofs.trim.put_start_links.Lts
+use Rattle.list_machine.proofs.trim.put_start_links.Reads
+use Rattle.list_machine.proofs.trim.put_start_links.Tie
+
+abbrev After-shared_slice_known-in-loop-k-1 : Type 0
+After-shared_slice_known-in-loop-k-1 = Lts.After-shared_slice_known2 Tie.the-claims Reads.Pre Reads.Post goal.the-invariant-loop-k goal.the-decreases-loop-k
 
 -- the entry listed next has a slot
-inside : (c : goal.After-shared_slice_known-in-loop-k-1) → let part = c.args.part.now in 8 * listed_word part c.loop-k.k + 8 ≤ length part
+inside : (c : After-shared_slice_known-in-loop-k-1) → let part = c.args.part.now in 8 * listed_word part c.loop-k.k + 8 ≤ length part
 inside c = c.requires.1 c.loop-k.k (omega arith)
 
 pub overflow_cast-entry : goal.overflow_cast-entry
-overflow_cast-entry c = omega (arith, inside c)
+overflow_cast-entry c = omega (arith, inside c.before)
 
 pub overflow_mul-words : goal.overflow_mul-words
-overflow_mul-words c = omega (arith, inside c)
+overflow_mul-words c = omega (arith, inside c.before)
 
 pub overflow_add-words : goal.overflow_add-words
-overflow_add-words c = omega (arith, inside c)
+overflow_add-words c = omega (arith, inside c.before)
 
 pub offset_bounds-part-entry : goal.offset_bounds-part-entry
-offset_bounds-part-entry c = omega (arith, inside c)
+offset_bounds-part-entry c = omega (arith, inside c.before)
 
 pub bounds-part-entry : goal.bounds-part-entry
-bounds-part-entry c = omega (arith, inside c.before)
+bounds-part-entry c = omega (arith, inside c.before.before)
 
 pub loop-k-preserved : goal.loop-k-preserved
 loop-k-preserved c =

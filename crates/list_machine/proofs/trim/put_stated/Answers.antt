@@ -19,7 +19,7 @@ returns-then-part-i-eq0 c =
     }
 
 pub put_link-requires : goal.put_link-requires
-put_link-requires c = let start = c.before.before.before.before.before.before in (start.requires.0, omega (arith, start.requires.1, mark_on start.args.part.now start.args.i c.if-part-i-eq0.false))
+put_link-requires c = let start = c.before.before.before.before.before.before.before in (start.requires.0, omega (arith, start.requires.1, mark_on start.args.part.now start.args.i c.if-part-i-eq0.false))
 
 pub returns : goal.returns
 returns c =

@@ -19,7 +19,7 @@ loop-k-init c =
 
 pub put_reading-next-requires : goal.put_reading-next-requires
 put_reading-next-requires c =
-    let root = c.before.before.before.before.before.before in
+    let root = c.before.before.before.before.before.before.before in
     let turn = c.loop-k in record {
       answer = (root.requires.answer.0, omega (arith, c.loop-k-test.true, root.requires.answer.1));
       sheet_len_bound = (root.requires.sheet_len_bound.0, omega (arith, c.loop-k-test.true, turn.invariant.1, turn.invariant.2, root.requires.sheet_len_bound.2));
@@ -27,7 +27,7 @@ put_reading-next-requires c =
 
 pub loop-k-preserved : goal.loop-k-preserved
 loop-k-preserved c =
-    let root = c.before.before.before.before.before.before.before.before.before in
+    let root = c.before.before.before.before.before.before.before.before.before.before in
     let a = root.args in
     let turn = c.loop-k in
     let e = c.put_reading-next.ensures in
@@ -36,7 +36,7 @@ loop-k-preserved c =
 
 pub returns : goal.returns
 returns c =
-    let root = c.before.before.before.before.before in
+    let root = c.before.before.before.before.before.before in
     let a = root.args in
     let turn = c.loop-k in
     (puts-same (lines-all (machine a.sheet.now) (list_for (machine a.sheet.now) a.n) turn.k a.count root.requires.answer.1 turn.invariant.0 c.loop-k-test.false) turn.invariant.3, omega (arith, turn.invariant.0, turn.invariant.2))

@@ -8,7 +8,7 @@ use Rattle.n_shortest.proofs.heap.child.Goals as goal
 
 pub less-requires : goal.less-requires
 less-requires c =
-    let start = c.before.before.before.before in
+    let start = c.before.before.before.before.before in
     let right = start.requires.0.each (2 * start.args.i + 2) (omega arith) in
     let left = start.requires.0.each (2 * start.args.i + 1) (omega arith) in
     search (right, left)

@@ -17,7 +17,7 @@ returns-then-natural_less-2 c =
 -- on ties by the entries
 pub returns : goal.returns
 returns c =
-    let tied = c.before.before.before in
+    let tied = c.before.before.before.before in
     let args = tied.args in
     c.half_first.ensures ∙ (λ i. half_first (c.entry_at.ensures i) (c.entry_at-2.ensures i))
     ∙ sym (less-tie args.part.now args.a args.b _ _ tied.rank_at-x.ensures tied.rank_at-y.ensures (sym tied.natural_less.ensures.same ∙ tied.if-natural_less.false) (sym tied.natural_less-2.ensures.same ∙ tied.if-natural_less-2.false))

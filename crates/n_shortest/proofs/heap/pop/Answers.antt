@@ -10,9 +10,9 @@ pub sift_down-requires : goal.sift_down-requires
 sift_down-requires c = let start = c.before.before.before in (fits-fewer start.args.part.now start.args.len start.requires.0 start.requires.1, search rules)
 
 pub shape_of-part : goal.shape_of-part
-shape_of-part c = let start = c.before.before.before.before.before.before in c.sift_down.auto.part ∙ length-set start.args.part.now 5 (heap_word start.args.part.now (start.args.len - 1))
+shape_of-part c = let start = c.before.before.before.before.before.before.before in c.sift_down.auto.part ∙ length-set start.args.part.now 5 (heap_word start.args.part.now (start.args.len - 1))
 
 pub returns : goal.returns
 returns c =
-    let start = c.before.before.before.before.before.before in
+    let start = c.before.before.before.before.before.before.before in
     c.sift_down.ensures ∙ pop-made start.args.part.now start.args.len

@@ -42,7 +42,7 @@ pub returns-then-v-end : goal.returns-then-v-end
 returns-then-v-end c =
     let args = c.args in
     let s : Words = record { part = args.part.now; counts = args.c } in
-    let e = ap (put_w args.p.nodes (Finished args.cost) args.x nothing) (links-whole c.before.before.before.before.before.before.before) ∙ sym (expand-end args.p args.most args.x args.v args.cost s c.if-v-end.true) in record {
+    let e = ap (put_w args.p.nodes (Finished args.cost) args.x nothing) (links-whole c.before.before.before.before.before.before.before.before) ∙ sym (expand-end args.p args.most args.x args.v args.cost s c.if-v-end.true) in record {
       value = c.put.ensures.value ∙ ap (λ (w : Words). w.counts) e;
       part_after = c.put.ensures.part_after ∙ ap (λ (w : Words). w.part) e;
     }
@@ -51,7 +51,7 @@ pub returns : goal.returns
 returns c =
     let args = c.args in
     let s : Words = record { part = args.part.now; counts = args.c } in
-    let e = links-whole c.before.before.before ∙ sym (expand-on args.p args.most args.x args.v args.cost s c.if-v-end.false) in record {
+    let e = links-whole c.before.before.before.before ∙ sym (expand-on args.p args.most args.x args.v args.cost s c.if-v-end.false) in record {
       value = ap (λ (w : Words). w.counts) e;
       part_after = ap (λ (w : Words). w.part) e;
     }

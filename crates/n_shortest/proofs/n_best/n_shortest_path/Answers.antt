@@ -10,7 +10,7 @@ use Rattle.n_shortest.proofs.n_best.n_shortest_path.Reads
 use Rattle.n_shortest.proofs.n_best.n_shortest_path.Tie
 
 abbrev After-put-c : Type 0
-After-put-c = Lts.After-put Tie.the-claims Reads.Pre Reads.Post the-invariant-loop-turn the-decreases-loop-turn Tie.handed_clauses
+After-put-c = Lts.After-put Tie.the-claims Reads.Pre Reads.Post goal.the-invariant-loop-turn goal.the-decreases-loop-turn Tie.handed_clauses
 
 -- the part and the counts with the first entry put in
 begun : (c : After-put-c) → let args = c.args in ◌≡◌ {A = Words} (record { part = c.put-c.new.part; counts = c.put-c.result }) (begun_w args.p args.part.now)

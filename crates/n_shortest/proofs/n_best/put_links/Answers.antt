@@ -9,20 +9,26 @@ use Rattle.n_shortest.specs.SearchWords.{Words, put_w, links_w}
 use Rattle.n_shortest.proofs.Linking.{Going, Next, next, links_end, links-none, going_on}
 use borrow.Author.Rules.{rules}
 use Rattle.n_shortest.proofs.n_best.put_links.Goals as goal
+use Rattle.n_shortest.proofs.n_best.put_links.Lts
+use Rattle.n_shortest.proofs.n_best.put_links.Reads
+use Rattle.n_shortest.proofs.n_best.put_links.Tie
+
+abbrev Else-k : Type 0
+Else-k = Lts.Else1 Tie.the-claims Reads.Pre Reads.Post goal.the-invariant-loop-turn goal.the-decreases-loop-turn Tie.handed_clauses
 
 -- the link that is next, and that its slot lies in the part
-ahead : (c : goal.Else-k) → let args = c.args in let turn = c.loop-turn in Next args.p args.x args.cost turn.k (record { part = turn.part; counts = turn.counts }) turn.invariant.fan
+ahead : (c : Else-k) → let args = c.args in let turn = c.loop-turn in Next args.p args.x args.cost turn.k (record { part = turn.part; counts = turn.counts }) turn.invariant.fan
 ahead c =
     let args = c.args in
     let turn = c.loop-turn in
     next args.p args.x args.cost turn.k (record { part = turn.part; counts = turn.counts }) turn.invariant.fan turn.invariant.chain c.if-k.false
 
-room : (c : goal.Else-k) → let turn = c.loop-turn in (c.args.p.links + 8 * turn.k + 2 < length turn.part) × (length turn.part * 4 < 2 ^ 63)
+room : (c : Else-k) → let turn = c.loop-turn in (c.args.p.links + 8 * turn.k + 2 < length turn.part) × (length turn.part * 4 < 2 ^ 63)
 room c = ((ahead c).slot, omega (arith, c.loop-turn.invariant.long, c.well-formed.0.1))
 
 pub loop-turn-init : goal.loop-turn-init
 loop-turn-init c =
-    let root = c.before in
+    let root = c.before.before in
     let part = root.args.part.now in
     record {
       few = omega arith;
@@ -60,25 +66,25 @@ pub offset_bounds-part-at : goal.offset_bounds-part-at
 offset_bounds-part-at c = let r = room (c) in omega (arith, r.0, r.1)
 
 pub bounds-part-at : goal.bounds-part-at
-bounds-part-at c = let r = room c.before in omega (arith, r.0, r.1)
+bounds-part-at c = let r = room c.before.before in omega (arith, r.0, r.1)
 
 pub overflow_add-at-in-loop-turn : goal.overflow_add-at-in-loop-turn
-overflow_add-at-in-loop-turn c = let r = room c.before in omega (arith, r.0, r.1)
+overflow_add-at-in-loop-turn c = let r = room c.before.before in omega (arith, r.0, r.1)
 
 pub offset_bounds-part-at-in-loop-turn : goal.offset_bounds-part-at-in-loop-turn
-offset_bounds-part-at-in-loop-turn c = let r = room c.before in omega (arith, r.0, r.1)
+offset_bounds-part-at-in-loop-turn c = let r = room c.before.before in omega (arith, r.0, r.1)
 
 pub bounds-part-at-in-loop-turn : goal.bounds-part-at-in-loop-turn
-bounds-part-at-in-loop-turn c = let r = room c.before.before in omega (arith, r.0, r.1)
+bounds-part-at-in-loop-turn c = let r = room c.before.before.before in omega (arith, r.0, r.1)
 
 pub overflow_add-on : goal.overflow_add-on
-overflow_add-on c = let r = room c.before.before.before in omega (arith, r.0, r.1)
+overflow_add-on c = let r = room c.before.before.before.before in omega (arith, r.0, r.1)
 
 pub offset_bounds-part-at-in-loop-turn-2 : goal.offset_bounds-part-at-in-loop-turn-2
-offset_bounds-part-at-in-loop-turn-2 c = let r = room c.before.before.before in omega (arith, r.0, r.1)
+offset_bounds-part-at-in-loop-turn-2 c = let r = room c.before.before.before.before in omega (arith, r.0, r.1)
 
 pub bounds-part-at-in-loop-turn-2 : goal.bounds-part-at-in-loop-turn-2
-bounds-part-at-in-loop-turn-2 c = let r = room c.before.before.before.before in omega (arith, r.0, r.1)
+bounds-part-at-in-loop-turn-2 c = let r = room c.before.before.before.before.before in omega (arith, r.0, r.1)
 
 pub put-counts-requires : goal.put-counts-requires
 put-counts-requires c =
@@ -88,7 +94,7 @@ put-counts-requires c =
 
 pub loop-turn-preserved : goal.loop-turn-preserved
 loop-turn-preserved c =
-    let root = c.before.before.before.before.before.before.before.before.before.before.before.before.before.before in
+    let root = c.before.before.before.before.before.before.before.before.before.before.before.before.before.before.before in
     let args = root.args in
     let turn = c.loop-turn in
     let s : Words = record { part = turn.part; counts = turn.counts } in

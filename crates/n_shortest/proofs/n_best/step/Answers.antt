@@ -44,7 +44,7 @@ returns c =
     let args = c.args in
     let s : Words = record { part = args.part.now; counts = args.c } in
     let x = heap_word s.part 0 in
-    let e = (λ i. taken_w args.p args.n args.most x (c.entry_at-e.ensures i) (popped c.before.before.before.before.before.before.before i)) ∙ step_is args.p args.n args.most s in record {
+    let e = (λ i. taken_w args.p args.n args.most x (c.entry_at-e.ensures i) (popped c.before.before.before.before.before.before.before.before i)) ∙ step_is args.p args.n args.most s in record {
       value = c.take.ensures.value ∙ ap (λ (w : Words). w.counts) e;
       part_after = c.take.ensures.part_after ∙ ap (λ (w : Words). w.part) e;
     }

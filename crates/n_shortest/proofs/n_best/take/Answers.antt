@@ -36,7 +36,7 @@ finish-requires c =
     (omega (arith, f.0, root.requires.0.after, root.requires.0.inside), f.1)
 
 pub bounds-part-at : goal.bounds-part-at
-bounds-part-at c = omega (arith, (half c.before.before).0, c.requires.0.inside)
+bounds-part-at c = omega (arith, (half c.before.before.before).0, c.requires.0.inside)
 
 pub overflow_add-visits : goal.overflow_add-visits
 overflow_add-visits c = omega (arith, (half c.before.before).1)

@@ -16,18 +16,18 @@ use Rattle.read_back.proofs.cost.cost_of.Goals as goal
 
 pub run_sum-sum-requires : goal.run_sum-sum-requires
 run_sum-sum-requires c =
-    let r = c.before.before in
+    let r = c.before.before.before in
     let run = r.args.run.now in
     (r.requires.sheet_value.2, λ i h. omega (arith, link-in-sheet r.args.sheet.now (λ i. omega (arith, c.type_inv.sheet i)) r.requires.sheet_value.0 (take r.args.count run) r.requires.reading i (omega (arith, length-take-le r.args.count run r.requires.sheet_value.2)), get_or-take r.args.count run i 0 h))
 
 pub node_at-node-requires : goal.node_at-node-requires
 node_at-node-requires c =
-    let r = c.before.before.before in
+    let r = c.before.before.before.before in
     omega (arith, r.requires.sheet_value.1, r.requires.end_value, end-in-sheet r.args.sheet.now (λ i. omega (arith, c.type_inv.sheet i)) r.requires.sheet_value.0 (take r.args.count r.args.run.now) r.requires.reading)
 
 pub returns : goal.returns
 returns c =
-    let r = c.before.before.before.before.before.before in
+    let r = c.before.before.before.before.before.before.before in
     let bytes = r.args.sheet.now in
     let front = take r.args.count r.args.run.now in
     let weight = ap (λ (k : Node). k.weight) c.Node-at.ensures ∙ λ i. of_bits binary32 (word bytes (16 * r.requires.sheet_value.1 i + 12 * r.requires.end_value i + 8)) in

@@ -28,7 +28,7 @@ word-requires c = omega (arith, c.requires.1 c.loop-i.i c.loop-i-test.true)
 
 pub loop-i-preserved : goal.loop-i-preserved
 loop-i-preserved c =
-    let root = c.before.before.before.before.before.before.before.before.before in
+    let root = c.before.before.before.before.before.before.before.before.before.before in
     let args = root.args in
     let turn = c.loop-i in
     let below = c.loop-i-test.true in
@@ -37,7 +37,7 @@ loop-i-preserved c =
 
 pub returns : goal.returns
 returns c =
-    let root = c.before.before.before.before.before in
+    let root = c.before.before.before.before.before.before in
     let args = root.args in
     let turn = c.loop-i in
     sum-end args.sheet.now args.run.now args.count root.requires.0 turn.sum turn.i (omega (arith, turn.invariant.0, c.loop-i-test.false)) turn.invariant.1

@@ -22,19 +22,19 @@ use Rattle.read_back.proofs.reading.held.Goals as goal
 
 pub returns-then-t-eq-NOTHING : goal.returns-then-t-eq-NOTHING
 returns-then-t-eq-NOTHING c =
-    let r = c.before.before.before.before.before in
+    let r = c.before.before.before.before.before.before in
     let a = r.args in
     let m = machine a.sheet.now in
     held_none m _ a.run.now (none-held m (start_none a.sheet.now r.requires.0 a.t r.requires.1 c.if-t-eq-NOTHING.true) (way_of a.result.now a.nodes a.links a.n a.k))
 
 pub first_of-first-requires : goal.first_of-first-requires
 first_of-first-requires c =
-    let r = c.before.before.before.before.before.before.before in
+    let r = c.before.before.before.before.before.before.before.before in
     first-asked r.args.sheet.now r.requires.0 r.args.t r.requires.1 c.if-t-eq-NOTHING.false
 
 pub walk-w-requires : goal.walk-w-requires
 walk-w-requires c =
-    let r = c.before.before.before.before.before.before.before.before in
+    let r = c.before.before.before.before.before.before.before.before.before in
     let a = r.args in
     let s = c.shape_of-shape.ensures in record {
       walking = (begun a.sheet.now r.requires.0 a.t r.requires.1 c.if-t-eq-NOTHING.false c.first_of-first.result c.first_of-first.ensures, links-at a.sheet.now r.requires.0 a.t r.requires.1, refl);
@@ -43,7 +43,7 @@ walk-w-requires c =
 
 pub returns-then-not-w : goal.returns-then-not-w
 returns-then-not-w c =
-    let r = c.before.before.before.before.before.before.before.before.before.before.before in
+    let r = c.before.before.before.before.before.before.before.before.before.before.before.before in
     let a = r.args in
     let m = machine a.sheet.now in
     let w = c.walk-w.result in
@@ -54,7 +54,7 @@ returns-then-not-w c =
 
 pub returns-then-run-w : goal.returns-then-run-w
 returns-then-run-w c =
-    let r = c.before.before.before.before.before.before.before.before.before.before.before.before.before in
+    let r = c.before.before.before.before.before.before.before.before.before.before.before.before.before.before in
     let a = r.args in
     let m = machine a.sheet.now in
     let w = c.walk-w.result in
@@ -66,7 +66,7 @@ returns-then-run-w c =
 
 pub store_way-requires : goal.store_way-requires
 store_way-requires c =
-    let r = c.before.before.before.before.before.before.before.before.before.before.before.before.before.before in
+    let r = c.before.before.before.before.before.before.before.before.before.before.before.before.before.before.before in
     let a = r.args in
     let m = machine a.sheet.now in
     let w = c.walk-w.result in
@@ -80,7 +80,7 @@ store_way-requires c =
 
 pub cost_of-requires : goal.cost_of-requires
 cost_of-requires c =
-    let r = c.before.before.before.before.before.before.before.before.before.before.before.before.before.before.before.before.before.before in
+    let r = c.before.before.before.before.before.before.before.before.before.before.before.before.before.before.before.before.before.before.before in
     let a = r.args in
     let m = machine a.sheet.now in
     let w = c.walk-w.result in
@@ -96,7 +96,7 @@ cost_of-requires c =
 
 pub returns : goal.returns
 returns c =
-    let r = c.before.before.before.before.before.before.before.before.before.before.before.before.before.before.before.before.before.before.before in
+    let r = c.before.before.before.before.before.before.before.before.before.before.before.before.before.before.before.before.before.before.before.before in
     let a = r.args in
     let m = machine a.sheet.now in
     let w = c.walk-w.result in

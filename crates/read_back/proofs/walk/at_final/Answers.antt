@@ -7,16 +7,16 @@ use borrow.Author.Rules.{rules}
 use Rattle.read_back.proofs.walk.at_final.Goals as goal
 
 pub word-requires : goal.word-requires
-word-requires c = let r = c.before.before in omega (arith, r.requires.1, node_in r.args.sheet.now r.args.w r.requires.0)
+word-requires c = let r = c.before.before.before in omega (arith, r.requires.1, node_in r.args.sheet.now r.args.w r.requires.0)
 
 pub returns-then-word-eq0 : goal.returns-then-word-eq0
-returns-then-word-eq0 c = let r = c.before.before.before.before in sym (ends-unmarked r.args.sheet.now r.args.w r.requires.0 c.word.result (c.word.ensures ∙ ap (λ (t : ℕ). mark_at r.args.sheet.now t r.args.w.at) r.requires.1) c.if-word-eq0.true)
+returns-then-word-eq0 c = let r = c.before.before.before.before.before in sym (ends-unmarked r.args.sheet.now r.args.w r.requires.0 c.word.result (c.word.ensures ∙ ap (λ (t : ℕ). mark_at r.args.sheet.now t r.args.w.at) r.requires.1) c.if-word-eq0.true)
 
 pub word-requires-2 : goal.word-requires-2
-word-requires-2 c = let r = c.before.before.before.before in omega (arith, r.requires.1, node_in r.args.sheet.now r.args.w r.requires.0)
+word-requires-2 c = let r = c.before.before.before.before.before in omega (arith, r.requires.1, node_in r.args.sheet.now r.args.w r.requires.0)
 
 pub returns : goal.returns
 returns c =
-    let r = c.before.before.before.before.before in
+    let r = c.before.before.before.before.before.before in
     ends-marked r.args.sheet.now r.args.w r.requires.0 c.word.result c.word-2.result (c.word.ensures ∙ ap (λ (t : ℕ). mark_at r.args.sheet.now t r.args.w.at) r.requires.1)
     (c.word-2.ensures ∙ ap (λ (t : ℕ). final_at r.args.sheet.now t r.args.w.at) r.requires.1) c.if-word-eq0.false

@@ -13,14 +13,14 @@ use borrow.Author.Rules.{rules}
 use Rattle.read_back.proofs.way.store_way.Goals as goal
 
 pub loop-q-init : goal.loop-q-init
-loop-q-init c = let r = c.before.before in (refl, r.requires.1, omega arith, refl)
+loop-q-init c = let r = c.before.before.before in (refl, r.requires.1, omega arith, refl)
 
 pub only_link-only-requires : goal.only_link-only-requires
 only_link-only-requires c = c.loop-q-test.true
 
 pub number_of-requires : goal.number_of-requires
 number_of-requires c =
-    let r = c.before.before.before.before.before in
+    let r = c.before.before.before.before.before.before in
     let a = r.args in
     let turn = c.loop-q in
     let g = way-goes a.result.now a.s.nodes a.s.links a.s.before a.s.last turn.q _ c.loop-q-test.true turn.invariant.1 in
@@ -28,7 +28,7 @@ number_of-requires c =
 
 pub put_number-count-requires : goal.put_number-count-requires
 put_number-count-requires c =
-    let r = c.before.before.before.before.before.before.before in
+    let r = c.before.before.before.before.before.before.before.before in
     let a = r.args in
     let turn = c.loop-q in
     let g = way-goes a.result.now a.s.nodes a.s.links a.s.before a.s.last turn.q _ c.loop-q-test.true turn.invariant.1 in
@@ -39,7 +39,7 @@ put_number-count-requires c =
 
 pub overflow_mul-only : goal.overflow_mul-only
 overflow_mul-only c =
-    let r = c.before.before.before.before.before.before.before.before.before.before in
+    let r = c.before.before.before.before.before.before.before.before.before.before.before in
     let a = r.args in
     let turn = c.loop-q in
     let g = way-goes a.result.now a.s.nodes a.s.links a.s.before a.s.last turn.q _ c.loop-q-test.true turn.invariant.1 in
@@ -47,7 +47,7 @@ overflow_mul-only c =
 
 pub overflow_add-only : goal.overflow_add-only
 overflow_add-only c =
-    let r = c.before.before.before.before.before.before.before.before.before.before in
+    let r = c.before.before.before.before.before.before.before.before.before.before.before in
     let a = r.args in
     let turn = c.loop-q in
     let g = way-goes a.result.now a.s.nodes a.s.links a.s.before a.s.last turn.q _ c.loop-q-test.true turn.invariant.1 in
@@ -55,7 +55,7 @@ overflow_add-only c =
 
 pub word-q-requires : goal.word-q-requires
 word-q-requires c =
-    let r = c.before.before.before.before.before.before.before.before.before.before in
+    let r = c.before.before.before.before.before.before.before.before.before.before.before in
     let a = r.args in
     let turn = c.loop-q in
     let g = way-goes a.result.now a.s.nodes a.s.links a.s.before a.s.last turn.q _ c.loop-q-test.true turn.invariant.1 in
@@ -63,7 +63,7 @@ word-q-requires c =
 
 pub loop-q-smaller : goal.loop-q-smaller
 loop-q-smaller c =
-    let r = c.before.before.before.before.before.before.before.before.before.before.before in
+    let r = c.before.before.before.before.before.before.before.before.before.before.before.before in
     let a = r.args in
     let turn = c.loop-q in
     let g = way-goes a.result.now a.s.nodes a.s.links a.s.before a.s.last turn.q _ c.loop-q-test.true turn.invariant.1 in
@@ -71,7 +71,7 @@ loop-q-smaller c =
 
 pub loop-q-preserved : goal.loop-q-preserved
 loop-q-preserved c =
-    let r = c.before.before.before.before.before.before.before.before.before.before.before in
+    let r = c.before.before.before.before.before.before.before.before.before.before.before.before in
     let a = r.args in
     let turn = c.loop-q in
     let g = way-goes a.result.now a.s.nodes a.s.links a.s.before a.s.last turn.q _ c.loop-q-test.true turn.invariant.1 in
@@ -88,7 +88,7 @@ loop-q-preserved c =
 
 pub returns : goal.returns
 returns c =
-    let r = c.before.before.before.before in
+    let r = c.before.before.before.before.before in
     let a = r.args in
     let turn = c.loop-q in
     let none = way-over a.result.now a.s.nodes a.s.links a.s.before a.s.last turn.q _ c.loop-q-test.false turn.invariant.1 in

@@ -8,9 +8,15 @@ use Rattle.reversed_machine.specs.ReverseWords.{finals_reversed}
 use Rattle.machine.proofs.FinalCount.{count-plain, count-final, count-mono}
 use Rattle.reversed_machine.proofs.Passing.{finals-plain, finals-again}
 use Rattle.reversed_machine.proofs.reverse.reverse_finals.Goals as goal
+use Rattle.reversed_machine.proofs.reverse.reverse_finals.Lts
+use Rattle.reversed_machine.proofs.reverse.reverse_finals.Reads
+use Rattle.reversed_machine.proofs.reverse.reverse_finals.Tie
+
+abbrev Then-word-ne0 : Type 0
+Then-word-ne0 = Lts.Then1 Tie.the-claims Reads.Pre Reads.Post goal.the-invariant-loop-v goal.the-decreases-loop-v
 
 -- at a final node: how many are before it
-before : (c : goal.Then-word-ne0) → let args = c.args in let turn = c.loop-v in
+before : (c : Then-word-ne0) → let args = c.args in let turn = c.loop-v in
     (final_count args.sheet.now args.links turn.v ≡ final_count args.sheet.now args.links (turn.v - 1) + 1) × (final_count args.sheet.now args.links turn.v ≤ args.finals)
 before c =
     let args = c.args in
@@ -21,19 +27,19 @@ before c =
     )
 
 pub overflow_sub-k : goal.overflow_sub-k
-overflow_sub-k c = omega (arith, before c)
+overflow_sub-k c = omega (arith, before c.before)
 
 pub overflow_cast-k : goal.overflow_cast-k
-overflow_cast-k c = omega (arith, before c.before.before)
+overflow_cast-k c = omega (arith, before c.before.before.before)
 
 pub overflow_mul-k : goal.overflow_mul-k
-overflow_mul-k c = omega (arith, before c.before.before)
+overflow_mul-k c = omega (arith, before c.before.before.before)
 
 pub overflow_add-chains : goal.overflow_add-chains
-overflow_add-chains c = omega (arith, before c.before.before)
+overflow_add-chains c = omega (arith, before c.before.before.before)
 
 pub put_in_front-requires : goal.put_in_front-requires
-put_in_front-requires c = (search rules, omega (arith, before c.before.before))
+put_in_front-requires c = (search rules, omega (arith, before c.before.before.before))
 
 pub loop-v-preserved-then-word-ne0 : goal.loop-v-preserved-then-word-ne0
 loop-v-preserved-then-word-ne0 c =
@@ -41,7 +47,7 @@ loop-v-preserved-then-word-ne0 c =
     let args = c.args in
     let put = c.put_in_front in
     let bytes = args.sheet.now in
-    let last = before c.before.before.before.before.before in
+    let last = before c.before.before.before.before.before.before in
     let number : turn.k - 1 ≡ args.links + final_count bytes args.links (turn.v - 1) = omega (arith, last, turn.invariant.2) in (
       search rules,
       put.auto.part ∙ turn.invariant.1,

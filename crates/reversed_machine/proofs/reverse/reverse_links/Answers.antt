@@ -8,9 +8,15 @@ use Rattle.sheet.proofs.Below.{sum_mono}
 use Rattle.reversed_machine.specs.ReverseWords.{links_put, links_reversed}
 use Rattle.reversed_machine.proofs.Passing.{first_below, nodes-again}
 use Rattle.reversed_machine.proofs.reverse.reverse_links.Goals as goal
+use Rattle.reversed_machine.proofs.reverse.reverse_links.Lts
+use Rattle.reversed_machine.proofs.reverse.reverse_links.Reads
+use Rattle.reversed_machine.proofs.reverse.reverse_links.Tie
+
+abbrev After-word-count : Type 0
+After-word-count = Lts.After-word Tie.the-claims Reads.Pre Reads.Post goal.the-invariant-loop-v goal.the-decreases-loop-v Tie.handed_clauses
 
 -- the links of this node are the last of those up to it, which are among all
-among : (c : goal.After-word-count) → let args = c.args in let turn = c.loop-v in
+among : (c : After-word-count) → let args = c.args in let turn = c.loop-v in
     (turn.first ≡ first_link args.sheet.now args.links (turn.v - 1) + c.word-count.result) × (turn.first ≤ args.links)
 among c =
     let args = c.args in
@@ -21,14 +27,14 @@ among c =
     )
 
 pub overflow_sub-first : goal.overflow_sub-first
-overflow_sub-first c = omega (arith, among c)
+overflow_sub-first c = omega (arith, among c.before)
 
 pub reverse_node-requires : goal.reverse_node-requires
 reverse_node-requires c =
     let args = c.args in
     let pre = c.requires in
     let turn = c.loop-v in
-    let few = among c.before in
+    let few = among c.before.before in
     let all : turn.first - c.word-count.result + c.word-count.result ≡ turn.first = omega (arith, few) in
     (omega (arith, all, few), omega (arith, all, few), search rules, omega (arith, all, few, turn.invariant.1), λ l h. omega (arith, pre.0.2 l (omega (arith, all, few)), turn.invariant.1))
 
@@ -39,7 +45,7 @@ loop-v-preserved c =
     let node = c.reverse_node in
     let bytes = args.sheet.now in
     let read = c.word-count in
-    let few = among c.before.before.before.before in (
+    let few = among c.before.before.before.before.before in (
       search rules,
       node.auto.part ∙ turn.invariant.1,
       omega (arith, few),

@@ -8,29 +8,35 @@ use borrow.Author.Tests.{eq-eqb, ne_eqb}
 use Rattle.sheet.specs.Sheet.{parts_of, count, mark}
 use Rattle.row_writer.proofs.Accepted.{size_is, count_at, mark-at}
 use Rattle.row_writer.proofs.has_rows.has_own.Goals as goal
+use Rattle.row_writer.proofs.has_rows.has_own.Lts
+use Rattle.row_writer.proofs.has_rows.has_own.Reads
+use Rattle.row_writer.proofs.has_rows.has_own.Tie
+
+abbrev After-word : Type 0
+After-word = Lts.After-word Tie.the-claims Reads.Pre Reads.Post Tie.handed_clauses
 
 pub word-requires : goal.word-requires
-word-requires c = let s = c.before in omega (arith, s.requires.links_value, s.requires.v_bound, size_is s.args.sheet.now s.requires.sheet_value)
+word-requires c = let s = c.before.before in omega (arith, s.requires.links_value, s.requires.v_bound, size_is s.args.sheet.now s.requires.sheet_value)
 
 -- the count that was read
-counted : (c : goal.After-word) → let s = c.before.before in c.word.result ≡ count (parts_of s.args.sheet.now) s.args.v
+counted : (c : After-word) → let s = c.before.before in c.word.result ≡ count (parts_of s.args.sheet.now) s.args.v
 counted c = let s = c.before.before in c.word.ensures ∙ count_at s.args.sheet.now s.args.links s.requires.links_value s.args.v s.requires.v_bound
 
 pub returns-then-word-ne0 : goal.returns-then-word-ne0
 returns-then-word-ne0 c =
-    let s = c.before.before.before in
+    let s = c.before.before.before.before in
     let p = parts_of s.args.sheet.now in
     let v = s.args.v in
-    sym (ap (λ (b : Bool). not b || eqb (mark p v) 1) (ne_eqb (count p v) 0 (λ e. c.if-word-ne0.true (counted c.before ∙ e))))
+    sym (ap (λ (b : Bool). not b || eqb (mark p v) 1) (ne_eqb (count p v) 0 (λ e. c.if-word-ne0.true (counted c.before.before ∙ e))))
 
 pub word-requires-2 : goal.word-requires-2
-word-requires-2 c = let s = c.before.before.before in omega (arith, s.requires.links_value, s.requires.v_bound, size_is s.args.sheet.now s.requires.sheet_value)
+word-requires-2 c = let s = c.before.before.before.before in omega (arith, s.requires.links_value, s.requires.v_bound, size_is s.args.sheet.now s.requires.sheet_value)
 
 pub returns : goal.returns
 returns c =
-    let s = c.before.before.before.before in
+    let s = c.before.before.before.before.before in
     let bytes = s.args.sheet.now in
     let p = parts_of bytes in
     let v = s.args.v in
     ap (λ (k : ℕ). eqb k 1) (c.word-2.ensures ∙ mark-at bytes s.args.links s.requires.links_value v s.requires.v_bound)
-    ∙ sym (ap (λ (b : Bool). not b || eqb (mark p v) 1) (eq-eqb (count p v) 0 (sym (counted c.before.before) ∙ c.if-word-ne0.false)))
+    ∙ sym (ap (λ (b : Bool). not b || eqb (mark p v) 1) (eq-eqb (count p v) 0 (sym (counted c.before.before.before) ∙ c.if-word-ne0.false)))

@@ -32,11 +32,11 @@ module _ (bytes : List ℕ) (t : Trailer) (same : t ≡ trailer_at bytes) where
         ∙ ap (λ (b : Bool). b && (has_own p (t.nodes - 1) || is_led p (t.nodes - 1))) (sym e)
 
 pub returns-then-t : goal.returns-then-t
-returns-then-t c = let s = c.before.before.before in sym (past s.args.sheet.now s.args.t s.requires.t_value c.if-t.true)
+returns-then-t c = let s = c.before.before.before.before in sym (past s.args.sheet.now s.args.t s.requires.t_value c.if-t.true)
 
 pub has_own-requires : goal.has_own-requires
 has_own-requires c =
-    let s = c.before.before.before in
+    let s = c.before.before.before.before in
     let bytes = s.args.sheet.now in
     let t = s.args.t in record {
       sheet_value = s.requires.sheet_value;
@@ -46,13 +46,13 @@ has_own-requires c =
 
 pub returns-then-not-has_own : goal.returns-then-not-has_own
 returns-then-not-has_own c =
-    let s = c.before.before.before.before.before in
+    let s = c.before.before.before.before.before.before in
     let bytes = s.args.sheet.now in
     sym (tests bytes s.args.t s.requires.t_value c.if-t.false false (sym c.if-not-has_own.true ∙ c.has_own.ensures))
 
 pub has_own-requires-2 : goal.has_own-requires-2
 has_own-requires-2 c =
-    let s = c.before.before.before.before.before.before in
+    let s = c.before.before.before.before.before.before.before in
     let bytes = s.args.sheet.now in
     let t = s.args.t in record {
       sheet_value = s.requires.sheet_value;
@@ -62,7 +62,7 @@ has_own-requires-2 c =
 
 pub returns-then-has_own : goal.returns-then-has_own
 returns-then-has_own c =
-    let s = c.before.before.before.before.before.before.before.before in
+    let s = c.before.before.before.before.before.before.before.before.before in
     let bytes = s.args.sheet.now in
     let t = s.args.t in
     let own = sym c.if-not-has_own.false ∙ c.has_own.ensures in
@@ -71,14 +71,14 @@ returns-then-has_own c =
 
 pub is_led-requires : goal.is_led-requires
 is_led-requires c =
-    let s = c.before.before.before.before.before.before.before.before in record {
+    let s = c.before.before.before.before.before.before.before.before.before in record {
       sheet_value = s.requires.sheet_value;
       links_value = links-are s.args.sheet.now s.args.t s.requires.t_value;
     }
 
 pub returns : goal.returns
 returns c =
-    let s = c.before.before.before.before.before.before.before.before.before in
+    let s = c.before.before.before.before.before.before.before.before.before.before in
     let bytes = s.args.sheet.now in
     let t = s.args.t in
     let own = sym c.if-not-has_own.false ∙ c.has_own.ensures in

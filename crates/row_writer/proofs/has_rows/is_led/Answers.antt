@@ -11,39 +11,45 @@ use Rattle.sheet.proofs.Below.{all_below-more, all_below-fails}
 use Rattle.text_rows.specs.Written.{is_led}
 use Rattle.row_writer.proofs.Accepted.{size_is, next-at}
 use Rattle.row_writer.proofs.has_rows.is_led.Goals as goal
+use Rattle.row_writer.proofs.has_rows.is_led.Lts
+use Rattle.row_writer.proofs.has_rows.is_led.Reads
+use Rattle.row_writer.proofs.has_rows.is_led.Tie
+
+abbrev After-word : Type 0
+After-word = Lts.After-word Tie.the-claims Reads.Pre Reads.Post goal.the-invariant-loop-l goal.the-decreases-loop-l Tie.handed_clauses
 
 pub loop-l-init : goal.loop-l-init
 unfolding all_below
 loop-l-init c = (search rules, refl)
 
 pub word-requires : goal.word-requires
-word-requires c = let s = c.before.before.before in omega (arith, c.loop-l-test.true, s.requires.links_value, size_is s.args.sheet.now s.requires.sheet_value)
+word-requires c = let s = c.before.before.before.before in omega (arith, c.loop-l-test.true, s.requires.links_value, size_is s.args.sheet.now s.requires.sheet_value)
 
 -- the next node that was read
-led : (c : goal.After-word) → c.word.result ≡ next (parts_of c.args.sheet.now) c.loop-l.l
+led : (c : After-word) → c.word.result ≡ next (parts_of c.args.sheet.now) c.loop-l.l
 led c = let s = c.before.before.before.before in c.word.ensures ∙ next-at s.args.sheet.now c.loop-l.l (omega (arith, c.loop-l-test.true, s.requires.links_value))
 
 pub returns-then-word-v : goal.returns-then-word-v
 unfolding is_led
 returns-then-word-v c =
-    let s = c.before.before.before.before.before in
+    let s = c.before.before.before.before.before.before in
     let p = parts_of s.args.sheet.now in
     let v = s.args.v in
     let l = c.loop-l.l in
-    sym (ap not (all_below-fails (link_count p) (λ k. not (eqb (next p k) v)) l (omega (arith, c.loop-l-test.true, s.requires.links_value)) (ap not (eq-eqb (next p l) v (sym (led c.before) ∙ c.if-word-v.true)))))
+    sym (ap not (all_below-fails (link_count p) (λ k. not (eqb (next p k) v)) l (omega (arith, c.loop-l-test.true, s.requires.links_value)) (ap not (eq-eqb (next p l) v (sym (led c.before.before) ∙ c.if-word-v.true)))))
 
 pub loop-l-preserved : goal.loop-l-preserved
 loop-l-preserved c =
-    let s = c.before.before.before.before.before in
+    let s = c.before.before.before.before.before.before in
     let p = parts_of s.args.sheet.now in
     let v = s.args.v in
     let turn = c.loop-l in
-    (search rules, all_below-more turn.l (λ k. not (eqb (next p k) v)) turn.invariant.1 (ap not (ne_eqb (next p turn.l) v (λ e. c.if-word-v.false (led c.before ∙ e)))))
+    (search rules, all_below-more turn.l (λ k. not (eqb (next p k) v)) turn.invariant.1 (ap not (ne_eqb (next p turn.l) v (λ e. c.if-word-v.false (led c.before.before ∙ e)))))
 
 pub returns : goal.returns
 unfolding is_led
 returns c =
-    let s = c.before.before.before in
+    let s = c.before.before.before.before in
     let p = parts_of s.args.sheet.now in
     let turn = c.loop-l in
     let all : turn.l ≡ link_count p = omega (arith, turn.invariant.0, c.loop-l-test.false, s.requires.links_value) in

@@ -18,7 +18,7 @@ word-requires c = omega (arith, node-within c.args.sheet.now c.requires.sheet_va
 
 pub returns-then-word-eq0 : goal.returns-then-word-eq0
 returns-then-word-eq0 c =
-    let start = c.before.before.before.before in
+    let start = c.before.before.before.before.before in
     let bytes = start.args.sheet.now in
     let links = start.args.links in
     let v = start.args.v in
@@ -36,7 +36,7 @@ word-requires-2 c = omega (arith, node-within c.args.sheet.now c.requires.sheet_
 
 pub put_weight-next-requires : goal.put_weight-next-requires
 put_weight-next-requires c =
-    let start = c.before.before.before.before.before.before.before.before.before.before in
+    let start = c.before.before.before.before.before.before.before.before.before.before.before in
     let bytes = start.args.sheet.now in
     let links = start.args.links in
     let v = start.args.v in
@@ -50,7 +50,7 @@ put_weight-next-requires c =
 
 pub returns : goal.returns
 returns c =
-    let start = c.before.before.before.before.before.before.before.before.before.before.before.before.before.before.before.before.before.before in
+    let start = c.before.before.before.before.before.before.before.before.before.before.before.before.before.before.before.before.before.before.before in
     let bytes = start.args.sheet.now in
     let links = start.args.links in
     let v = start.args.v in

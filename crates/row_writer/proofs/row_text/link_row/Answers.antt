@@ -10,20 +10,20 @@ use borrow.Author.Rules.{rules}
 use Rattle.row_writer.proofs.row_text.link_row.Goals as goal
 
 pub link_at-k-requires : goal.link_at-k-requires
-link_at-k-requires c = let start = c.before.before in link-within start.args.sheet.now start.requires.sheet_value start.args.l start.requires.l_bound
+link_at-k-requires c = let start = c.before.before.before in link-within start.args.sheet.now start.requires.sheet_value start.args.l start.requires.l_bound
 
 pub overflow_mul-l : goal.overflow_mul-l
-overflow_mul-l c = let start = c.before.before.before in omega (arith, link-within start.args.sheet.now start.requires.sheet_value start.args.l start.requires.l_bound)
+overflow_mul-l c = let start = c.before.before.before.before in omega (arith, link-within start.args.sheet.now start.requires.sheet_value start.args.l start.requires.l_bound)
 
 pub overflow_add-l : goal.overflow_add-l
-overflow_add-l c = let start = c.before.before.before in omega (arith, link-within start.args.sheet.now start.requires.sheet_value start.args.l start.requires.l_bound)
+overflow_add-l c = let start = c.before.before.before.before in omega (arith, link-within start.args.sheet.now start.requires.sheet_value start.args.l start.requires.l_bound)
 
 pub word-bits-requires : goal.word-bits-requires
-word-bits-requires c = let start = c.before.before.before in omega (arith, link-within start.args.sheet.now start.requires.sheet_value start.args.l start.requires.l_bound)
+word-bits-requires c = let start = c.before.before.before.before in omega (arith, link-within start.args.sheet.now start.requires.sheet_value start.args.l start.requires.l_bound)
 
 pub put_weight-next-requires : goal.put_weight-next-requires
 put_weight-next-requires c =
-    let third = c.before.before.before in
+    let third = c.before.before.before.before in
     let second = third.before.before.before.before in
     let first = second.before.before.before.before in
     let source = first.before.before.before.before in
@@ -35,7 +35,7 @@ put_weight-next-requires c =
 
 pub put_text-requires : goal.put_text-requires
 put_text-requires c =
-    let weight = c.before.before.before.before in
+    let weight = c.before.before.before.before.before in
     let third = weight.before.before.before.before in
     let second = third.before.before.before.before in
     let first = second.before.before.before.before in
@@ -45,7 +45,7 @@ put_text-requires c =
 
 pub returns : goal.returns
 returns c =
-    let weight = c.before.before.before.before.before.before.before in
+    let weight = c.before.before.before.before.before.before.before.before in
     let third = weight.before.before.before.before in
     let second = third.before.before.before.before in
     let first = second.before.before.before.before in

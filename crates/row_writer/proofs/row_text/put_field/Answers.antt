@@ -37,7 +37,7 @@ put_units-requires c =
 
 pub returns : goal.returns
 returns c =
-    let start = c.before.before.before.before.before.before.before.before in
+    let start = c.before.before.before.before.before.before.before.before.before in
     let bits = start.args.bits in
     let cost = c.cost-units in
     let from = c.from_bits in

@@ -15,7 +15,7 @@ put_part-requires c =
 pub returns : goal.returns
 unfolding magnitude_text
 returns c =
-    let start = c.before.before.before.before.before.before.before.before.before in
+    let start = c.before.before.before.before.before.before.before.before.before.before in
     let ones = c.put_decimal-next.ensures.puts in
     let part = c.put_part.ensures in record {
       puts = puts_then ones part.0;

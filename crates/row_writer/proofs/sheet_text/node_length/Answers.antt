@@ -8,9 +8,15 @@ use Rattle.row_writer.specs.Room.{row_most}
 use Rattle.row_writer.proofs.Accepted.{link-below}
 use Rattle.row_writer.proofs.Measured.{row_from, texts, texts-none, texts-more, length-node}
 use Rattle.row_writer.proofs.sheet_text.node_length.Goals as goal
+use Rattle.row_writer.proofs.sheet_text.node_length.Lts
+use Rattle.row_writer.proofs.sheet_text.node_length.Reads
+use Rattle.row_writer.proofs.sheet_text.node_length.Tie
+
+abbrev In-loop-i : Type 0
+In-loop-i = Lts.In-loop Tie.the-claims Reads.Pre Reads.Post goal.the-invariant-loop-i goal.the-decreases-loop-i Tie.handed_clauses
 
 pub link_count-count-requires : goal.link_count-count-requires
-link_count-count-requires c = let s = c.before in record {
+link_count-count-requires c = let s = c.before.before in record {
       sheet_value = s.requires.sheet_value;
       links_value = s.requires.links_value;
       v_bound = s.requires.v_bound;
@@ -22,21 +28,21 @@ loop-i-init c =
     (search rules, sym (ap length (texts-none (row_from (parts_of args.sheet.now) args.v args.first))), search rules)
 
 -- the link is the node's, so one of the sheet's
-below : (c : goal.In-loop-i) → let s = c.before.before.before.before in s.args.first + c.loop-i.i < link_count (parts_of s.args.sheet.now)
+below : (c : In-loop-i) → let s = c.before.before.before.before in s.args.first + c.loop-i.i < link_count (parts_of s.args.sheet.now)
 below c =
     let s = c.before.before.before.before in
     omega (arith, s.requires.first_value, link-below s.args.sheet.now s.requires.sheet_value s.args.v c.loop-i.i s.requires.v_bound (omega (arith, c.loop-i-test.true, c.link_count-count.ensures)))
 
 pub overflow_add-l : goal.overflow_add-l
-overflow_add-l c = omega (arith, below c, c.requires.links_value)
+overflow_add-l c = omega (arith, below c.before, c.requires.links_value)
 
 pub overflow_cast-l : goal.overflow_cast-l
-overflow_cast-l c = omega (arith, below c, c.requires.links_value)
+overflow_cast-l c = omega (arith, below c.before, c.requires.links_value)
 
 pub link_length-size-requires : goal.link_length-size-requires
 link_length-size-requires c = record {
       sheet_value = c.requires.sheet_value;
-      l_bound = below c;
+      l_bound = below c.before;
     }
 
 pub overflow_add-size : goal.overflow_add-size
@@ -50,7 +56,7 @@ loop-i-preserved c =
     (search rules, (λ i. turn.invariant.1 i + c.link_length-size.ensures.value i) ∙ sym (ap length (texts-more row turn.i) ∙ length-append (texts row turn.i) (row turn.i)), omega (arith, turn.invariant.2, c.link_length-size.ensures.upper_bound))
 
 pub final_length-requires : goal.final_length-requires
-final_length-requires c = let s = c.before.before.before.before in record {
+final_length-requires c = let s = c.before.before.before.before.before in record {
       sheet_value = s.requires.sheet_value;
       links_value = s.requires.links_value;
       v_bound = s.requires.v_bound;
@@ -61,7 +67,7 @@ overflow_add-result c = omega (arith, c.loop-i.invariant.0, c.loop-i.invariant.2
 
 pub returns : goal.returns
 returns c =
-    let s = c.before.before.before.before.before in
+    let s = c.before.before.before.before.before.before in
     let turn = c.loop-i in
     let all : turn.i ≡ count (parts_of s.args.sheet.now) s.args.v = omega (arith, turn.invariant.0, c.loop-i-test.false, c.link_count-count.ensures) in record {
       value = (λ i. turn.invariant.1 i + c.final_length.ensures.value i) ∙ sym (length-node (parts_of s.args.sheet.now) s.args.v s.args.first turn.i s.requires.first_value all);

@@ -10,9 +10,18 @@ use Rattle.row_writer.proofs.Accepted.{link-below}
 use Rattle.row_writer.proofs.Stored.{puts_none}
 use Rattle.row_writer.proofs.Measured.{row_from, texts, texts-none, texts-more, next_fits, node-is, length-node}
 use Rattle.row_writer.proofs.sheet_text.put_node.Goals as goal
+use Rattle.row_writer.proofs.sheet_text.put_node.Lts
+use Rattle.row_writer.proofs.sheet_text.put_node.Reads
+use Rattle.row_writer.proofs.sheet_text.put_node.Tie
+
+abbrev After-loop-i : Type 0
+After-loop-i = Lts.After-loop Tie.the-claims Reads.Pre Reads.Post goal.the-invariant-loop-i goal.the-decreases-loop-i Tie.handed_clauses
+
+abbrev In-loop-i : Type 0
+In-loop-i = Lts.In-loop Tie.the-claims Reads.Pre Reads.Post goal.the-invariant-loop-i goal.the-decreases-loop-i Tie.handed_clauses
 
 pub link_count-count-requires : goal.link_count-count-requires
-link_count-count-requires c = let s = c.before.before in record {
+link_count-count-requires c = let s = c.before.before.before in record {
       sheet_value = s.requires.sheet_value;
       links_value = s.requires.links_value;
       v_bound = s.requires.v_bound;
@@ -24,20 +33,20 @@ loop-i-init c =
     (search rules, refl, puts-same (sym (texts-none (row_from (parts_of args.sheet.now) args.v args.first))) (puts_none args.result.now args.at))
 
 -- the link is the node's, so one of the sheet's
-below : (c : goal.In-loop-i) → let s = c.before.before.before.before.before in s.args.first + c.loop-i.i < link_count (parts_of s.args.sheet.now)
+below : (c : In-loop-i) → let s = c.before.before.before.before.before in s.args.first + c.loop-i.i < link_count (parts_of s.args.sheet.now)
 below c =
     let s = c.before.before.before.before.before in
     omega (arith, s.requires.first_value, link-below s.args.sheet.now s.requires.sheet_value s.args.v c.loop-i.i s.requires.v_bound (omega (arith, c.loop-i-test.true, c.link_count-count.ensures)))
 
 pub overflow_add-l : goal.overflow_add-l
-overflow_add-l c = omega (arith, below c, c.requires.links_value)
+overflow_add-l c = omega (arith, below c.before, c.requires.links_value)
 
 pub overflow_cast-l : goal.overflow_cast-l
-overflow_cast-l c = omega (arith, below c, c.requires.links_value)
+overflow_cast-l c = omega (arith, below c.before, c.requires.links_value)
 
 pub put_link-next-requires : goal.put_link-next-requires
 put_link-next-requires c =
-    let inside = c.before in
+    let inside = c.before.before in
     let s = inside.before.before.before.before.before in
     let turn = inside.loop-i in
     let n = inside.link_count-count in
@@ -57,12 +66,12 @@ loop-i-preserved c =
     (search rules, put.auto.res ∙ turn.invariant.1, puts-same (sym (texts-more row turn.i)) (puts_then turn.invariant.2 put.ensures))
 
 -- all links are stored
-links-put : (c : goal.After-loop-i) → let s = c.before.before.before.before.before in c.loop-i.i ≡ count (parts_of s.args.sheet.now) s.args.v
+links-put : (c : After-loop-i) → let s = c.before.before.before.before.before in c.loop-i.i ≡ count (parts_of s.args.sheet.now) s.args.v
 links-put c = omega (arith, c.loop-i.invariant.0, c.loop-i-test.false, c.link_count-count.ensures)
 
 pub put_final-requires : goal.put_final-requires
 put_final-requires c =
-    let after = c.before in
+    let after = c.before.before in
     let s = after.before.before.before.before.before in
     let turn = after.loop-i in
     let p = parts_of s.args.sheet.now in record {
@@ -74,7 +83,7 @@ put_final-requires c =
 
 pub returns : goal.returns
 returns c =
-    let after = c.before.before.before.before in
+    let after = c.before.before.before.before.before in
     let s = after.before.before.before.before.before in
     let turn = after.loop-i in
     puts-same (sym (node-is (parts_of s.args.sheet.now) s.args.v s.args.first turn.i s.requires.1.1.1.0 (links-put after))) (puts_then turn.invariant.2 c.put_final.ensures)

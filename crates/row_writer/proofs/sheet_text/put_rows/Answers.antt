@@ -15,13 +15,25 @@ use Rattle.text_rows.proofs.HasRows.{start-below}
 use Rattle.row_writer.proofs.Accepted.{links-are, nodes-are, start_is, first_next, first-most}
 use Rattle.row_writer.proofs.Measured.{texts, texts-none, texts-more, text-is, start_fits_lem, other_fits}
 use Rattle.row_writer.proofs.sheet_text.put_rows.Goals as goal
+use Rattle.row_writer.proofs.sheet_text.put_rows.Lts
+use Rattle.row_writer.proofs.sheet_text.put_rows.Reads
+use Rattle.row_writer.proofs.sheet_text.put_rows.Tie
+
+abbrev After-link_count-first : Type 0
+After-link_count-first = Lts.After-link_count Tie.the-claims Reads.Pre Reads.Post goal.the-invariant-loop-v goal.the-decreases-loop-v Tie.handed_clauses
+
+abbrev Start : Type 0
+Start = Lts.Start Tie.the-claims Reads.Pre Reads.Post goal.the-invariant-loop-v goal.the-decreases-loop-v Tie.handed_clauses
+
+abbrev In-loop-v : Type 0
+In-loop-v = Lts.Then1 Tie.the-claims Reads.Pre Reads.Post goal.the-invariant-loop-v goal.the-decreases-loop-v Tie.handed_clauses
 
 -- the start, as the trailer has it
-start-in : (s : goal.Start) → s.args.t.start < node_count (parts_of s.args.sheet.now)
+start-in : (s : Start) → s.args.t.start < node_count (parts_of s.args.sheet.now)
 start-in s = omega (arith, start_is s.args.sheet.now s.args.t s.requires.1.0, start-below (parts_of s.args.sheet.now) s.requires.1.1.0)
 
 pub first_link-start_first-requires : goal.first_link-start_first-requires
-first_link-start_first-requires c = let s = c.before.before in record {
+first_link-start_first-requires c = let s = c.before.before.before in record {
       sheet_value = s.requires.sheet_value;
       links_value = links-are s.args.sheet.now s.args.t s.requires.t_value;
       v_bound = start-in s;
@@ -29,7 +41,7 @@ first_link-start_first-requires c = let s = c.before.before in record {
 
 pub put_node-next-requires : goal.put_node-next-requires
 put_node-next-requires c =
-    let s = c.before.before.before.before in
+    let s = c.before.before.before.before.before in
     let bytes = s.args.sheet.now in
     let p = parts_of bytes in
     let size = ap (λ (v : ℕ). length (node_rows p v)) (start_is bytes s.args.t s.requires.t_value) in record {
@@ -48,14 +60,14 @@ loop-v-init c =
     (search rules, refl, refl, puts-same (sym (texts-none (other_rows p))) (puts_none _ put.result))
 
 -- a node of the sheet
-node : (c : goal.In-loop-v) → c.loop-v.v < node_count (parts_of c.args.sheet.now)
+node : (c : In-loop-v) → c.loop-v.v < node_count (parts_of c.args.sheet.now)
 node c =
     let s = c.before.before.before.before.before.before.before.before.before.before in
     omega (arith, c.loop-v-test.true, nodes-are s.args.sheet.now s.args.t s.requires.t_value)
 
 pub put_other-next-requires : goal.put_other-next-requires
 put_other-next-requires c =
-    let s = c.before.before.before.before.before.before.before.before.before.before.before in
+    let s = c.before.before.before.before.before.before.before.before.before.before.before.before in
     let bytes = s.args.sheet.now in
     let p = parts_of bytes in
     let turn = c.loop-v in
@@ -64,21 +76,21 @@ put_other-next-requires c =
       sheet_value = s.requires.sheet_value;
       links_value = links-are bytes s.args.t s.requires.t_value;
       start_value = start_is bytes s.args.t s.requires.t_value;
-      v_bound = node c.before;
+      v_bound = node c.before.before;
       first_value = turn.invariant.2;
-      v_in_bounds = omega (arith, size, turn.invariant.1, turn.invariant.3.ends, put.ensures.ends, put.auto.res, other_fits p turn.v (node c.before), s.requires.sheet_in_bounds);
+      v_in_bounds = omega (arith, size, turn.invariant.1, turn.invariant.3.ends, put.ensures.ends, put.auto.res, other_fits p turn.v (node c.before.before), s.requires.sheet_in_bounds);
     }
 
 pub link_count-first-requires : goal.link_count-first-requires
 link_count-first-requires c =
-    let s = c.before.before.before.before.before.before.before.before.before.before.before.before.before.before in record {
+    let s = c.before.before.before.before.before.before.before.before.before.before.before.before.before.before.before in record {
       sheet_value = s.requires.sheet_value;
       links_value = links-are s.args.sheet.now s.args.t s.requires.t_value;
-      v_bound = node c.before.before.before.before;
+      v_bound = node c.before.before.before.before.before;
     }
 
 -- the first link of the node after
-next : (c : goal.After-link_count-first) → let turn = c.loop-v in
+next : (c : After-link_count-first) → let turn = c.loop-v in
     turn.first + c.link_count-first.result ≡ first_of (parts_of c.args.sheet.now) (turn.v + 1)
 next c =
     let turn = c.loop-v in
@@ -87,22 +99,22 @@ next c =
 
 pub overflow_add-first : goal.overflow_add-first
 overflow_add-first c =
-    let s = c.before.before.before.before.before.before.before.before.before.before.before.before.before.before.before in
+    let s = c.before.before.before.before.before.before.before.before.before.before.before.before.before.before.before.before in
     let bytes = s.args.sheet.now in
     let turn = c.loop-v in
-    omega (arith, next c, first-most bytes s.requires.sheet_value (turn.v + 1) (omega (arith, node c.before.before.before.before.before)), links-are bytes s.args.t s.requires.t_value)
+    omega (arith, next c.before, first-most bytes s.requires.sheet_value (turn.v + 1) (omega (arith, node c.before.before.before.before.before.before)), links-are bytes s.args.t s.requires.t_value)
 
 pub loop-v-preserved : goal.loop-v-preserved
 loop-v-preserved c =
-    let s = c.before.before.before.before.before.before.before.before.before.before.before.before.before.before.before in
+    let s = c.before.before.before.before.before.before.before.before.before.before.before.before.before.before.before.before in
     let p = parts_of s.args.sheet.now in
     let turn = c.loop-v in
     let put = c.put_other-next in
-    (search rules, put.auto.res ∙ turn.invariant.1, next c, puts-same (sym (texts-more (other_rows p) turn.v)) (puts_then turn.invariant.3 put.ensures))
+    (search rules, put.auto.res ∙ turn.invariant.1, next c.before, puts-same (sym (texts-more (other_rows p) turn.v)) (puts_then turn.invariant.3 put.ensures))
 
 pub returns : goal.returns
 returns c =
-    let s = c.before.before.before.before.before.before.before.before.before.before in
+    let s = c.before.before.before.before.before.before.before.before.before.before.before in
     let bytes = s.args.sheet.now in
     let p = parts_of bytes in
     let turn = c.loop-v in

@@ -11,26 +11,35 @@ use Rattle.row_writer.specs.Room.{row_most}
 use Rattle.row_writer.proofs.Accepted.{links-are, nodes-are, first_next, first-most}
 use Rattle.row_writer.proofs.Measured.{length-text, sum_more}
 use Rattle.row_writer.proofs.sheet_text.text_length.Goals as goal
+use Rattle.row_writer.proofs.sheet_text.text_length.Lts
+use Rattle.row_writer.proofs.sheet_text.text_length.Reads
+use Rattle.row_writer.proofs.sheet_text.text_length.Tie
+
+abbrev After-node_length-size : Type 0
+After-node_length-size = Lts.After-node_length Tie.the-claims Reads.Pre Reads.Post goal.the-invariant-loop-v goal.the-decreases-loop-v Tie.handed_clauses
+
+abbrev In-loop-v : Type 0
+In-loop-v = Lts.Then1 Tie.the-claims Reads.Pre Reads.Post goal.the-invariant-loop-v goal.the-decreases-loop-v Tie.handed_clauses
 
 pub loop-v-init : goal.loop-v-init
 unfolding sum_below
 loop-v-init c = (search rules, refl, refl, search rules)
 
 -- a node of the sheet
-node : (c : goal.In-loop-v) → c.loop-v.v < node_count (parts_of c.args.sheet.now)
+node : (c : In-loop-v) → c.loop-v.v < node_count (parts_of c.args.sheet.now)
 node c = let s = c.before.before.before.before in omega (arith, c.loop-v-test.true, nodes-are s.args.sheet.now s.args.t s.requires.t_value)
 
 pub node_length-size-requires : goal.node_length-size-requires
 node_length-size-requires c =
-    let s = c.before.before.before.before in record {
+    let s = c.before.before.before.before.before in record {
       sheet_value = s.requires.sheet_value;
       links_value = links-are s.args.sheet.now s.args.t s.requires.t_value;
-      v_bound = node c;
+      v_bound = node c.before;
       first_value = c.loop-v.invariant.1;
     }
 
 -- the first link of the node after, and how long the rows up to it are
-first-most-of : (c : goal.After-node_length-size) → let s = c.before.before.before.before.before in let v = c.loop-v.v in
+first-most-of : (c : After-node_length-size) → let s = c.before.before.before.before.before in let v = c.loop-v.v in
     first_of (parts_of s.args.sheet.now) v + count (parts_of s.args.sheet.now) v ≤ s.args.t.links
 first-most-of c =
     let s = c.before.before.before.before.before in
@@ -39,18 +48,18 @@ first-most-of c =
     omega (arith, first_next bytes v, first-most bytes s.requires.sheet_value (v + 1) (omega (arith, node c.before)), links-are bytes s.args.t s.requires.t_value)
 
 pub overflow_add-size : goal.overflow_add-size
-overflow_add-size c = omega (arith, c.loop-v.invariant.3, c.node_length-size.ensures.upper_bound, first-most-of c)
+overflow_add-size c = omega (arith, c.loop-v.invariant.3, c.node_length-size.ensures.upper_bound, first-most-of c.before)
 
 pub link_count-first-requires : goal.link_count-first-requires
 link_count-first-requires c =
-    let s = c.before.before.before.before.before in record {
+    let s = c.before.before.before.before.before.before in record {
       sheet_value = s.requires.sheet_value;
       links_value = links-are s.args.sheet.now s.args.t s.requires.t_value;
-      v_bound = node c.before;
+      v_bound = node c.before.before;
     }
 
 pub overflow_add-first : goal.overflow_add-first
-overflow_add-first c = omega (arith, c.loop-v.invariant.1, c.link_count-first.ensures, first-most-of c.before)
+overflow_add-first c = omega (arith, c.loop-v.invariant.1, c.link_count-first.ensures, first-most-of c.before.before)
 
 pub loop-v-preserved : goal.loop-v-preserved
 loop-v-preserved c =
@@ -66,7 +75,7 @@ loop-v-preserved c =
 
 pub returns : goal.returns
 returns c =
-    let s = c.before.before.before.before in
+    let s = c.before.before.before.before.before in
     let p = parts_of s.args.sheet.now in
     let turn = c.loop-v in
     let all : turn.v ≡ node_count p = omega (arith, turn.invariant.0, c.loop-v-test.false, nodes-are s.args.sheet.now s.args.t s.requires.t_value) in

@@ -6,26 +6,32 @@ use Rattle.rows.specs.Answers.{text_measured}
 use Rattle.row_writer.proofs.Accepted.{size_is}
 use Rattle.rows.proofs.TextAnswers.{passed, promise-refused, promise-short, promise-written}
 use Rattle.rows.proofs.to_rows.sheet_to_rows.Goals as goal
+use Rattle.rows.proofs.to_rows.sheet_to_rows.Lts
+use Rattle.rows.proofs.to_rows.sheet_to_rows.Reads
+use Rattle.rows.proofs.to_rows.sheet_to_rows.Tie
+
+abbrev In-Length : Type 0
+In-Length = Lts.After-known_told2 Tie.the-claims Reads.Pre Reads.Post Tie.handed_clauses
 
 -- what measuring answered
-measured : (c : goal.In-Length) → text_measured c.args.sheet.now ≡ Length c.in-Length.size
+measured : (c : In-Length) → text_measured c.args.sheet.now ≡ Length c.in-Length.size
 measured c = sym c.rows_bytes.ensures ∙ c.in-Length.is
 
 pub returns-then-res-size : goal.returns-then-res-size
 returns-then-res-size c =
-    let told = c.before in
+    let told = c.before.before in
     let args = told.args in
     promise-short args.sheet.now args.result.now told.in-Length.size (measured told) c.if-res-size.true
 
 pub trailer_of-t-requires : goal.trailer_of-t-requires
 trailer_of-t-requires c =
-    let told = c.before in
+    let told = c.before.before in
     let bytes = told.args.sheet.now in
     omega (arith, size_is bytes (passed bytes told.in-Length.size (measured told)).0)
 
 pub put_rows-requires : goal.put_rows-requires
 put_rows-requires c =
-    let told = c.before.before.before in
+    let told = c.before.before.before.before in
     let bytes = told.args.sheet.now in
     let r = passed bytes told.in-Length.size (measured told) in record {
       sheet_value = r.0;
@@ -41,6 +47,6 @@ returns-in-Refused c =
 
 pub returns-else-res-size : goal.returns-else-res-size
 returns-else-res-size c =
-    let told = c.before.before.before.before.before.before in
+    let told = c.before.before.before.before.before.before.before in
     let args = told.args in
     promise-written args.sheet.now args.result.now told.in-Length.size (measured told) _ (λ i. omega (arith, told.type_inv.sheet i)) c.if-res-size.false c.put_rows.ensures

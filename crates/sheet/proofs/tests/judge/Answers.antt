@@ -7,8 +7,8 @@ use Rattle.sheet.proofs.Passes.{first-1, first-2, first-3, first-4, first-none}
 use borrow.Author.Rules.{rules}
 use Rattle.sheet.proofs.tests.judge.Goals as goal
 use Rattle.sheet.proofs.tests.judge.Lts
-use Rattle.sheet.proofs.tests.judge.Tie
 use Rattle.sheet.proofs.tests.judge.Reads
+use Rattle.sheet.proofs.tests.judge.Tie
 
 abbrev Start : Type 0
 Start = Lts.Start Tie.the-claims Reads.Pre Reads.Post

@@ -17,7 +17,7 @@ returns-then-reached-nodes c =
 
 pub led_height-requires : goal.led_height-requires
 led_height-requires c =
-    let r = c.before.before.before.before in
+    let r = c.before.before.before.before.before in
     (r.requires.0, r.requires.1, r.requires.2, omega (arith, c.reached_height-reached.ensures, scan-low r.args.work.now r.args.t.nodes))
 
 pub returns : goal.returns

@@ -13,15 +13,15 @@ use Rattle.shortest_distance.proofs.Lengths.{led-from-next}
 use Rattle.shortest_distance.proofs.node_slots.led_from.Goals as goal
 
 pub overflow_add-first : goal.overflow_add-first
-overflow_add-first c = let r = c.before.before.before in omega (arith, (sheet-fields r.args.sheet.now r.requires.0).few-links)
+overflow_add-first c = let r = c.before.before.before.before in omega (arith, (sheet-fields r.args.sheet.now r.requires.0).few-links)
 
 pub word-next-requires : goal.word-next-requires
-word-next-requires c = let r = c.before.before.before in omega (arith, (sheet-fields r.args.sheet.now r.requires.0).laid_out)
+word-next-requires c = let r = c.before.before.before.before in omega (arith, (sheet-fields r.args.sheet.now r.requires.0).laid_out)
 
 -- a link leads to one of the nodes, which are few
 pub overflow_add-top : goal.overflow_add-top
 overflow_add-top c =
-    let r = c.before.before.before.before.before in
+    let r = c.before.before.before.before.before.before in
     let f = sheet-fields r.args.sheet.now r.requires.0 in
     let l = r.args.first + c.loop-i.i in
     let inside : l < stated_links r.args.sheet.now = omega arith in

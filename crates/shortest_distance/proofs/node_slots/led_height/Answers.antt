@@ -13,9 +13,15 @@ use Rattle.distance.specs.Held.{reached_in}
 use Rattle.shortest_distance.specs.NodeSlots.{distance_at, led_from, led_height}
 use Rattle.shortest_distance.proofs.Lengths.{led-height-next}
 use Rattle.shortest_distance.proofs.node_slots.led_height.Goals as goal
+use Rattle.shortest_distance.proofs.node_slots.led_height.Lts
+use Rattle.shortest_distance.proofs.node_slots.led_height.Reads
+use Rattle.shortest_distance.proofs.node_slots.led_height.Tie
+
+abbrev After-word-count : Type 0
+After-word-count = Lts.After-word Tie.the-claims Reads.Pre Reads.Post goal.the-invariant-loop-v goal.the-decreases-loop-v
 
 -- the links of the nodes up to this one are among those of the sheet
-within : (c : goal.After-word-count) → c.loop-v.first + c.word-count.result ≤ c.args.t.links
+within : (c : After-word-count) → c.loop-v.first + c.word-count.result ≤ c.args.t.links
 within c =
     let r = c.before.before.before.before.before in
     let bytes = r.args.sheet.now in
@@ -23,15 +29,15 @@ within c =
     omega (arith, turn.invariant.1, c.word-count.ensures, next-first bytes r.args.t.links turn.v, first-in (fields-for bytes r.requires.0 r.args.t r.requires.1) (suc turn.v) (omega arith))
 
 pub word-count-requires : goal.word-count-requires
-word-count-requires c = let r = c.before.before.before.before in omega (arith, (fields-for r.args.sheet.now r.requires.0 r.args.t r.requires.1).laid_out)
+word-count-requires c = let r = c.before.before.before.before.before in omega (arith, (fields-for r.args.sheet.now r.requires.0 r.args.t r.requires.1).laid_out)
 
 pub led_from-top-requires : goal.led_from-top-requires
 led_from-top-requires c =
-    let r = c.before.before.before.before.before.before.before.before in
-    (r.requires.0, omega (arith, within c.before.before.before, ap (λ (t : Trailer). t.links) r.requires.1))
+    let r = c.before.before.before.before.before.before.before.before.before in
+    (r.requires.0, omega (arith, within c.before.before.before.before, ap (λ (t : Trailer). t.links) r.requires.1))
 
 pub overflow_add-first : goal.overflow_add-first
-overflow_add-first c = omega (arith, within c.before.before.before)
+overflow_add-first c = omega (arith, within c.before.before.before.before)
 
 pub loop-v-preserved : goal.loop-v-preserved
 loop-v-preserved c =

@@ -15,6 +15,12 @@ use Rattle.shortest_distance.specs.ParentWords.{parent_stored}
 use Rattle.shortest_distance.specs.NodeSlots.{prepared}
 use Rattle.shortest_distance.proofs.Areas.{prepared-next}
 use Rattle.shortest_distance.proofs.node_slots.prepare.Goals as goal
+use Rattle.shortest_distance.proofs.node_slots.prepare.Lts
+use Rattle.shortest_distance.proofs.node_slots.prepare.Reads
+use Rattle.shortest_distance.proofs.node_slots.prepare.Tie
+
+abbrev After-word-first : Type 0
+After-word-first = Lts.After-word Tie.the-claims Reads.Pre Reads.Post goal.the-invariant-loop-v goal.the-decreases-loop-v
 
 -- one node more in the sum
 next-sum : (bytes : List ℕ) (links v : ℕ) → sum_below (v + 1) (count_at bytes links) ≡ sum_below v (count_at bytes links) + count_at bytes links v
@@ -22,7 +28,7 @@ unfolding sum_below
 next-sum bytes links v = ap (λ (k : ℕ). sum_below k (count_at bytes links)) (add-one v)
 
 -- the links of the nodes up to this one are among those stated
-within : (c : goal.After-word-first) → c.loop-v.first + c.word-first.result ≤ c.args.links
+within : (c : After-word-first) → c.loop-v.first + c.word-first.result ≤ c.args.links
 within c =
     let args = c.args in
     let bytes = args.sheet.now in
@@ -30,7 +36,7 @@ within c =
     omega (arith, turn.invariant.2, c.word-first.ensures, next-sum bytes args.links turn.v, sum_mono (count_at bytes args.links) args.nodes (turn.v + 1) (omega arith), c.requires.2)
 
 pub overflow_add-first : goal.overflow_add-first
-overflow_add-first c = omega (arith, within c)
+overflow_add-first c = omega (arith, within c.before)
 
 pub loop-v-preserved : goal.loop-v-preserved
 loop-v-preserved c =

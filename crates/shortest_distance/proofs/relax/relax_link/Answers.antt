@@ -34,7 +34,7 @@ pub returns : goal.returns
 returns c =
     let args = c.args in
     let less = c.natural_less.result in
-    let made = offer-taken args.k args.l args.v args.d args.work.now (judged c.before.before.before.before.before.before.before.before.before.before ∙ c.if-not-natural_less.false) c.times-offer.result c.times-offer.ensures.same in
+    let made = offer-taken args.k args.l args.v args.d args.work.now (judged c.before.before.before.before.before.before.before.before.before.before.before ∙ c.if-not-natural_less.false) c.times-offer.result c.times-offer.ensures.same in
     let stored = c.store_parent.ensures ∙ ap (λ (x : List ℕ). parent_stored x args.k.nextstate (By args.l args.v)) c.put_distance.ensures in record {
       value = ap not (c.is_reached.ensures ∙ ap reached_in c.distance_at-old.ensures) ∙ made.0;
       work_new = stored ∙ made.1;

@@ -22,7 +22,7 @@ returns-then-n-eq0 c =
 
 pub single_shortest_path-requires : goal.single_shortest_path-requires
 single_shortest_path-requires c =
-    let root = c.before.before.before.before.before.before.before in
+    let root = c.before.before.before.before.before.before.before.before in
     let args = root.args in
     let one : slots_for (machine_of (parts_of args.sheet.now)) args.n ≡ length (machine_of (parts_of args.sheet.now)).finals = ap (slots_for (machine_of (parts_of args.sheet.now))) c.if-n-eq1.true in
     let few = nodes-is args.sheet.now (λ i. omega (arith, c.type_inv.sheet i)) root.requires.sheet_value.0 args.t root.requires.sheet_value.1 args.finals root.requires.sheet_value.2 in record {
