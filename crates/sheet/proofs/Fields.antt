@@ -28,6 +28,7 @@ length-words bytes at (suc n) = ap suc (length-words bytes (at + 4) n)
 
 pub get_d_words : (bytes : List ℕ) (at n i : ℕ) → i < n → get_or (words bytes at n) i 0 ≡ word bytes (at + 4 * i)
 unfolding words
+get_d_words bytes at zero i h = elim h [ ]
 get_d_words bytes at (suc n) zero h = ap (word bytes) (sym (add-zero at))
 get_d_words bytes at (suc n) (suc i) h = get_d_words bytes (at + 4) n i (omega arith) ∙ ap (word bytes) (let e : at + 4 + 4 * i ≡ at + 4 * suc i = omega arith in e)
 

@@ -8,6 +8,10 @@ use Rattle.list_machine.specs.TrimWords.{unmarked}
 use Rattle.list_machine.proofs.Marks.{unmarked-next}
 use Rattle.list_machine.proofs.trim.clear_marks.Goals as goal
 
+pub loop-i-init : goal.loop-i-init
+unfolding unmarked
+loop-i-init c = search rules
+
 pub loop-i-preserved : goal.loop-i-preserved
 loop-i-preserved c =
     let turn = c.loop-i in

@@ -24,6 +24,10 @@ inside c =
     let same : listed_word turn.part turn.k ≡ listed_word old turn.k = ap (λ (l : List ℕ). listed_word l turn.k) turn.invariant.2 ∙ listed-keeps (length old) turn.k old (λ j h. omega (arith, start.requires.1 j (omega arith))) (8 * turn.k + 6) (listed-other (length old) turn.k) in
     omega (arith, same, turn.invariant.1, start.requires.1 turn.k (omega arith))
 
+pub loop-k-init : goal.loop-k-init
+unfolding mark_listed
+loop-k-init c = search rules
+
 pub overflow_cast-i : goal.overflow_cast-i
 overflow_cast-i c = omega (arith, inside c)
 

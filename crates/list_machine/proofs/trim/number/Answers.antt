@@ -8,6 +8,10 @@ use Rattle.list_machine.specs.TrimWords.{mark_of, mark_count, number_one, number
 use Rattle.list_machine.proofs.Marks.{numbered_next, count_next, mark-kept, count-le}
 use Rattle.list_machine.proofs.trim.number.Goals as goal
 
+pub loop-i-init : goal.loop-i-init
+unfolding mark_count numbered
+loop-i-init c = search rules
+
 pub number_one-count-requires : goal.number_one-count-requires
 number_one-count-requires c = let turn = c.loop-i in (search rules, omega (arith, turn.invariant.3, count-le c.args.part.now (turn.i - 1), c.requires.2))
 

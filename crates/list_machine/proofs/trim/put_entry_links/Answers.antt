@@ -11,6 +11,10 @@ use Rattle.list_machine.specs.TrimWords.{mark_count, stated_words, link_words}
 use Rattle.list_machine.proofs.Placing.{stored_next, links-next, length-links, count-mono}
 use Rattle.list_machine.proofs.trim.put_entry_links.Goals as goal
 
+pub loop-i-init : goal.loop-i-init
+unfolding mark_count link_words bytes_of_all
+loop-i-init c = search rules
+
 pub put_stated-next-requires : goal.put_stated-next-requires
 put_stated-next-requires c =
     let turn = c.loop-i in

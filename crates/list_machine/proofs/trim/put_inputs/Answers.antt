@@ -11,6 +11,10 @@ use Rattle.list_machine.specs.TrimWords.{mark_count, repeat_words, input_words}
 use Rattle.list_machine.proofs.Placing.{stored_next, inputs-next, length-inputs, count-mono}
 use Rattle.list_machine.proofs.trim.put_inputs.Goals as goal
 
+pub loop-i-init : goal.loop-i-init
+unfolding mark_count input_words bytes_of_all
+loop-i-init c = search rules
+
 pub put_input-next-requires : goal.put_input-next-requires
 put_input-next-requires c =
     let turn = c.loop-i in

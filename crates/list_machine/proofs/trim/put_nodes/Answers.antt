@@ -10,6 +10,10 @@ use Rattle.list_machine.specs.TrimWords.{node_words}
 use Rattle.list_machine.proofs.Placing.{stored_next, nodes-next, length-nodes}
 use Rattle.list_machine.proofs.trim.put_nodes.Goals as goal
 
+pub loop-k-init : goal.loop-k-init
+unfolding node_words bytes_of_all
+loop-k-init c = search rules
+
 pub loop-k-preserved : goal.loop-k-preserved
 loop-k-preserved c =
     let turn = c.loop-k in

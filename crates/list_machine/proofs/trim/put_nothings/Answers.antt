@@ -9,6 +9,10 @@ use Rattle.slots.specs.Slots.{nothing}
 use Rattle.list_machine.proofs.Placing.{nothings-next}
 use Rattle.list_machine.proofs.trim.put_nothings.Goals as goal
 
+pub loop-k-init : goal.loop-k-init
+unfolding bytes_of_all
+loop-k-init c = search rules
+
 pub loop-k-preserved : goal.loop-k-preserved
 loop-k-preserved c =
     let turn = c.loop-k in

@@ -21,6 +21,10 @@ After-shared_slice_known-in-loop-k-1 = Lts.After-shared_slice_known2 Tie.the-cla
 inside : (c : After-shared_slice_known-in-loop-k-1) → let part = c.args.part.now in 8 * listed_word part c.loop-k.k + 8 ≤ length part
 inside c = c.requires.1 c.loop-k.k (omega arith)
 
+pub loop-k-init : goal.loop-k-init
+unfolding start_words bytes_of_all
+loop-k-init c = search rules
+
 pub overflow_cast-entry : goal.overflow_cast-entry
 overflow_cast-entry c = omega (arith, inside c.before)
 

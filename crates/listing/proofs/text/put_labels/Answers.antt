@@ -9,6 +9,10 @@ use Rattle.listing.proofs.Labels.{puts-label}
 use borrow.Author.Rules.{rules}
 use Rattle.listing.proofs.text.put_labels.Goals as goal
 
+pub loop-i-init : goal.loop-i-init
+unfolding flat_map
+loop-i-init c = search rules
+
 pub overflow_cast-link-in-loop-i : goal.overflow_cast-link-in-loop-i
 overflow_cast-link-in-loop-i c = omega (arith, c.type_inv.run c.loop-i.i)
 

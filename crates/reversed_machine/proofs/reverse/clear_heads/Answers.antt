@@ -9,6 +9,10 @@ use Rattle.reversed_machine.specs.ReverseWords.{heads_cleared}
 use Rattle.reversed_machine.proofs.Passing.{cleared-next}
 use Rattle.reversed_machine.proofs.reverse.clear_heads.Goals as goal
 
+pub loop-q-init : goal.loop-q-init
+unfolding heads_cleared
+loop-q-init c = search rules
+
 pub bounds-part-at-in-loop-q : goal.bounds-part-at-in-loop-q
 bounds-part-at-in-loop-q c = simp length-set (omega arith)
 

@@ -9,6 +9,10 @@ use Rattle.sheet.specs.Words.{bytes_of, bytes_of_all}
 use Rattle.sheet.proofs.Bytes.{sets_word}
 use Rattle.sheet.proofs.words.put_words.Goals as goal
 
+pub loop-i-init : goal.loop-i-init
+unfolding bytes_of_all
+loop-i-init c = search rules
+
 pub loop-i-preserved : goal.loop-i-preserved
 loop-i-preserved c =
     let put = c.put_word in

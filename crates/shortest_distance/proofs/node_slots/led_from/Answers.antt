@@ -12,6 +12,10 @@ use Rattle.shortest_distance.specs.NodeSlots.{led_from}
 use Rattle.shortest_distance.proofs.Lengths.{led-from-next}
 use Rattle.shortest_distance.proofs.node_slots.led_from.Goals as goal
 
+pub loop-i-init : goal.loop-i-init
+unfolding led_from
+loop-i-init c = search rules
+
 pub overflow_add-first : goal.overflow_add-first
 overflow_add-first c = let r = c.before.before.before.before in omega (arith, (sheet-fields r.args.sheet.now r.requires.0).few-links)
 

@@ -28,6 +28,10 @@ within c =
     let turn = c.loop-v in
     omega (arith, turn.invariant.1, c.word-count.ensures, next-first bytes r.args.t.links turn.v, first-in (fields-for bytes r.requires.0 r.args.t r.requires.1) (suc turn.v) (omega arith))
 
+pub loop-v-init : goal.loop-v-init
+unfolding sum_below led_height
+loop-v-init c = search rules
+
 pub word-count-requires : goal.word-count-requires
 word-count-requires c = let r = c.before.before.before.before.before in omega (arith, (fields-for r.args.sheet.now r.requires.0 r.args.t r.requires.1).laid_out)
 

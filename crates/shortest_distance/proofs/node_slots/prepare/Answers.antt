@@ -35,6 +35,10 @@ within c =
     let turn = c.loop-v in
     omega (arith, turn.invariant.2, c.word-first.ensures, next-sum bytes args.links turn.v, sum_mono (count_at bytes args.links) args.nodes (turn.v + 1) (omega arith), c.requires.2)
 
+pub loop-v-init : goal.loop-v-init
+unfolding sum_below prepared
+loop-v-init c = search rules
+
 pub overflow_add-first : goal.overflow_add-first
 overflow_add-first c = omega (arith, within c.before)
 

@@ -10,6 +10,10 @@ use Rattle.shortest_distance.specs.NodeSlots.{distance_words}
 use Rattle.shortest_distance.proofs.Areas.{sets-distance}
 use Rattle.shortest_distance.proofs.node_slots.put_distances.Goals as goal
 
+pub loop-v-init : goal.loop-v-init
+unfolding bytes_of_all distance_words
+loop-v-init c = search rules
+
 pub loop-v-preserved : goal.loop-v-preserved
 loop-v-preserved c =
     let put = c.write_distance in
