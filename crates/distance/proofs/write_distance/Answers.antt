@@ -9,4 +9,4 @@ pub returns : goal.returns
 returns c =
     let args = c.args in
     c.put_words.ensures
-    ∙ λ i. sets args.result.now args.at (bytes_of_all (c.mark.ensures i ∷ c.bits.ensures i ∷ []))
+    ∙ λ i. sets args.res.now args.at (bytes_of_all (c.mark.ensures i ∷ c.bits.ensures i ∷ []))

@@ -3,7 +3,11 @@ use borrow.Author.Rules.{rules}
 use Rattle.list_answer.proofs.put_none.Goals as goal
 
 pub returns-then-res-lt-TRAILER : goal.returns-then-res-lt-TRAILER
-returns-then-res-lt-TRAILER c = none-short c.args.res.now c.if-res-lt-TRAILER.true
+returns-then-res-lt-TRAILER c =
+    let told = none-short c.args.res.now c.if-res-lt-TRAILER.true in
+    record { value = told.0; res_after = told.1 }
 
 pub returns : goal.returns
-returns c = none-long c.args.res.now _ c.if-res-lt-TRAILER.false c.put_words.ensures
+returns c =
+    let told = none-long c.args.res.now _ c.if-res-lt-TRAILER.false c.put_words.ensures in
+    record { value = told.0; res_after = told.1 }

@@ -21,7 +21,7 @@ words-length work n = length-bytes_of_all (distance_words work n) ∙ omega (ari
 pub returns-then-res-count : goal.returns-then-res-count
 returns-then-res-count c =
     let args = c.args in
-    let result = args.result.now in
+    let result = args.res.now in
     let ws = distance_words args.work.now args.count in record {
       value = sym (ap (λ (b : Bool). handed_by b args.count) (lt-ltb (length result) (8 * args.count) c.if-res-count.true));
       res_after = sym (ap (λ (b : Bool). cond b result (bytes_of_all ws ++ drop (length (bytes_of_all ws)) result)) (lt-ltb (length result) (length (bytes_of_all ws)) (omega (arith, words-length args.work.now args.count))));
@@ -30,7 +30,7 @@ returns-then-res-count c =
 pub returns : goal.returns
 returns c =
     let args = c.args in
-    let result = args.result.now in
+    let result = args.res.now in
     let ws = distance_words args.work.now args.count in
     let room : 8 * args.count ≤ length result = c.if-res-count.false in record {
       value = sym (ap (λ (b : Bool). handed_by b args.count) (le-ltb (length result) (8 * args.count) room));

@@ -14,7 +14,7 @@ pub returns-then-part-i-eq0 : goal.returns-then-part-i-eq0
 returns-then-part-i-eq0 c =
     let args = c.args in
     let part = args.part.now in
-    let old = args.result.now in record {
+    let old = args.res.now in record {
       value = omega (arith, mark-off part args.i c.if-part-i-eq0.true);
       res_after = sym (ap (λ (l : List ℕ). sets old args.at (bytes_of_all l)) (repeat-off part args.i c.if-part-i-eq0.true) ∙ sets-none old args.at);
     }
@@ -28,5 +28,5 @@ returns c =
     let part = args.part.now in
     let off = c.if-part-i-eq0.false in record {
       value = omega (arith, mark_on part args.i off);
-      res_after = c.put_word.ensures ∙ ap (sets args.result.now args.at) (sym (ap bytes_of_all (repeat-on part args.i off) ∙ bytes_of_all-one (input_word part args.i)));
+      res_after = c.put_word.ensures ∙ ap (sets args.res.now args.at) (sym (ap bytes_of_all (repeat-on part args.i off) ∙ bytes_of_all-one (input_word part args.i)));
     }

@@ -15,5 +15,5 @@ pub returns : goal.returns
 returns c =
     let args = c.args in
     let part = args.part.now in
-    stored_next args.result.now c.put_start_links.new.res c.put_entry_links.new.res 0 (start_words part args.listed) (link_words args.sheet.now args.links part (args.entries - 1)) (16 * args.listed)
+    stored_next args.res.now c.put_start_links.new.res c.put_entry_links.new.res 0 (start_words part args.listed) (link_words args.sheet.now args.links part (args.entries - 1)) (16 * args.listed)
     c.put_start_links.ensures c.put_entry_links.ensures (omega (arith, length-start part args.listed))

@@ -15,7 +15,7 @@ pub returns : goal.returns
 returns c =
     let start = c.before.before.before.before.before.before.before.before.before.before.before.before.before.before.before.before in
     let args = start.args in
-    let old = args.result.now in
+    let old = args.res.now in
     let part = args.part.now in
     let links = links_part args.sheet.now args.links part args.entries args.listed in
     let nodes = nodes_part args.listed args.kept in

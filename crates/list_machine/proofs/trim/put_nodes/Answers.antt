@@ -21,8 +21,8 @@ loop-k-preserved c =
     let call = c.put_words in (
       omega arith,
       call.auto.bytes ∙ turn.invariant.1,
-      stored_next args.result.now turn.result call.new.bytes args.at (node_words turn.k) (1 ∷ 0 ∷ 0 ∷ []) (args.at + 12 * turn.k) turn.invariant.2 call.ensures (omega (arith, length-nodes turn.k))
-          ∙ ap (λ (l : List ℕ). sets args.result.now args.at (bytes_of_all l)) (sym (nodes-next turn.k)),
+      stored_next args.res.now turn.result call.new.bytes args.at (node_words turn.k) (1 ∷ 0 ∷ 0 ∷ []) (args.at + 12 * turn.k) turn.invariant.2 call.ensures (omega (arith, length-nodes turn.k))
+          ∙ ap (λ (l : List ℕ). sets args.res.now args.at (bytes_of_all l)) (sym (nodes-next turn.k)),
     )
 
 pub returns : goal.returns
@@ -30,4 +30,4 @@ returns c =
     let args = c.args in
     let turn = c.loop-k in
     let all : turn.k ≡ args.count = omega arith in
-    turn.invariant.2 ∙ ap (λ (n : ℕ). sets args.result.now args.at (bytes_of_all (node_words n))) all
+    turn.invariant.2 ∙ ap (λ (n : ℕ). sets args.res.now args.at (bytes_of_all (node_words n))) all

@@ -20,7 +20,7 @@ loop-k-preserved c =
     let call = c.put_word in (
       omega arith,
       call.auto.bytes ∙ turn.invariant.1,
-      nothings-next args.result.now turn.result call.new.bytes args.at turn.k turn.invariant.2 call.ensures,
+      nothings-next args.res.now turn.result call.new.bytes args.at turn.k turn.invariant.2 call.ensures,
     )
 
 pub returns : goal.returns
@@ -28,4 +28,4 @@ returns c =
     let args = c.args in
     let turn = c.loop-k in
     let all : turn.k ≡ args.count = omega arith in
-    turn.invariant.2 ∙ ap (λ (n : ℕ). sets args.result.now args.at (bytes_of_all (replicate n nothing))) all
+    turn.invariant.2 ∙ ap (λ (n : ℕ). sets args.res.now args.at (bytes_of_all (replicate n nothing))) all

@@ -11,4 +11,4 @@ pub returns : goal.returns
 returns c =
     let args = c.args in
     let part = args.part.now in
-    stored_next args.result.now c.put_nothings.new.res c.put_inputs.new.res args.at (replicate args.listed nothing) (input_words part (args.entries - 1)) (args.at + 4 * args.listed) c.put_nothings.ensures c.put_inputs.ensures (omega (arith, length-replicate args.listed nothing))
+    stored_next args.res.now c.put_nothings.new.res c.put_inputs.new.res args.at (replicate args.listed nothing) (input_words part (args.entries - 1)) (args.at + 4 * args.listed) c.put_nothings.ensures c.put_inputs.ensures (omega (arith, length-replicate args.listed nothing))

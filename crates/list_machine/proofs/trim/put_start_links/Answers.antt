@@ -49,8 +49,8 @@ loop-k-preserved c =
     let state = state_word part (listed_word part turn.k) in (
       omega arith,
       call.auto.bytes ∙ turn.invariant.1,
-      stored_next args.result.now turn.result call.new.bytes 0 (start_words part turn.k) (0 ∷ 0 ∷ 0 ∷ state ∷ []) (16 * turn.k) turn.invariant.2 call.ensures (omega (arith, length-start part turn.k))
-          ∙ ap (λ (l : List ℕ). sets args.result.now 0 (bytes_of_all l)) (sym (start-next part turn.k)),
+      stored_next args.res.now turn.result call.new.bytes 0 (start_words part turn.k) (0 ∷ 0 ∷ 0 ∷ state ∷ []) (16 * turn.k) turn.invariant.2 call.ensures (omega (arith, length-start part turn.k))
+          ∙ ap (λ (l : List ℕ). sets args.res.now 0 (bytes_of_all l)) (sym (start-next part turn.k)),
     )
 
 pub returns : goal.returns
@@ -58,4 +58,4 @@ returns c =
     let args = c.args in
     let turn = c.loop-k in
     let all : turn.k ≡ args.listed = omega arith in
-    turn.invariant.2 ∙ ap (λ (n : ℕ). sets args.result.now 0 (bytes_of_all (start_words args.part.now n))) all
+    turn.invariant.2 ∙ ap (λ (n : ℕ). sets args.res.now 0 (bytes_of_all (start_words args.part.now n))) all

@@ -13,7 +13,7 @@ pub returns-then-part-i-eq0 : goal.returns-then-part-i-eq0
 returns-then-part-i-eq0 c =
     let args = c.args in
     let part = args.part.now in
-    let old = args.result.now in record {
+    let old = args.res.now in record {
       value = omega (arith, mark-off part args.i c.if-part-i-eq0.true);
       res_after = sym (ap (λ (l : List ℕ). sets old args.at (bytes_of_all l)) (stated-off part args.i args.sheet.now args.links c.if-part-i-eq0.true) ∙ sets-none old args.at);
     }
@@ -27,5 +27,5 @@ returns c =
     let part = args.part.now in
     let off = c.if-part-i-eq0.false in record {
       value = omega (arith, mark_on part args.i off);
-      res_after = stored-as args.result.now c.put_link.new.res args.at (entry_words args.sheet.now args.links part args.i) (stated_words args.sheet.now args.links part args.i) c.put_link.ensures (sym (stated-on part args.i args.sheet.now args.links off));
+      res_after = stored-as args.res.now c.put_link.new.res args.at (entry_words args.sheet.now args.links part args.i) (stated_words args.sheet.now args.links part args.i) c.put_link.ensures (sym (stated-on part args.i args.sheet.now args.links off));
     }

@@ -9,7 +9,7 @@ use Rattle.list_machine.proofs.trim.put_states.Goals as goal
 pub returns : goal.returns
 returns c =
     let args = c.args in
-    let old = args.result.now in
+    let old = args.res.now in
     let heads = head_words args.listed in
     let nodes = node_words args.kept in
     let two = stored_next old c.put_words.new.bytes c.put_nodes.new.res args.at heads nodes (args.at + 24) c.put_words.ensures c.put_nodes.ensures (omega arith) in

@@ -29,7 +29,7 @@ pub returns-then-res-links : goal.returns-then-res-links
 returns-then-res-links c =
     let start = c.before.before.before.before.before.before.before.before.before.before.before.before.before in
     let args = start.args in
-    let r = short-answer args.sheet.now args.t.links args.part.now args.entries args.listed start.requires args.taken args.result.now c.number-kept.result (kept-is c.before.before.before.before) (omega arith) in record {
+    let r = short-answer args.sheet.now args.t.links args.part.now args.entries args.listed start.requires args.taken args.res.now c.number-kept.result (kept-is c.before.before.before.before) (omega arith) in record {
       value = r.0;
       part_after = part-is c.before.before.before.before;
       res_after = r.1;
@@ -40,9 +40,9 @@ put_list-requires c =
     let start = c.before.before.before.before.before.before.before.before.before.before.before.before.before.before.before.before in
     let args = start.args in
     let n = c.before.before.before.before.before.before.before in
-    let w : Writable args.sheet.now args.t.links (stated args.entries args.listed args.part.now) args.entries args.listed (kept_count args.entries args.listed args.part.now) (length args.result.now) = new-writable args.sheet.now args.t.links args.part.now args.entries args.listed start.requires (length args.result.now) (omega (arith, kept-is n)) in
-    subst (λ (p : List ℕ). Writable args.sheet.now args.t.links p args.entries args.listed n.number-kept.result (length args.result.now)) (sym (part-is n))
-    (subst (λ (k : ℕ). Writable args.sheet.now args.t.links (stated args.entries args.listed args.part.now) args.entries args.listed k (length args.result.now)) (sym (kept-is n)) w)
+    let w : Writable args.sheet.now args.t.links (stated args.entries args.listed args.part.now) args.entries args.listed (kept_count args.entries args.listed args.part.now) (length args.res.now) = new-writable args.sheet.now args.t.links args.part.now args.entries args.listed start.requires (length args.res.now) (omega (arith, kept-is n)) in
+    subst (λ (p : List ℕ). Writable args.sheet.now args.t.links p args.entries args.listed n.number-kept.result (length args.res.now)) (sym (part-is n))
+    (subst (λ (k : ℕ). Writable args.sheet.now args.t.links (stated args.entries args.listed args.part.now) args.entries args.listed k (length args.res.now)) (sym (kept-is n)) w)
 
 pub overflow_cast-result : goal.overflow_cast-result
 overflow_cast-result c = omega (arith, few c.before.before.before.before.before.before.before.before.before.before)
@@ -55,7 +55,7 @@ returns c =
     let start = c.before.before.before.before.before.before.before.before.before.before.before.before.before.before.before.before.before.before.before in
     let args = start.args in
     let n = c.before.before.before.before.before.before.before.before.before.before in
-    let r = made-answer args.sheet.now args.t.links args.part.now args.entries args.listed start.requires args.taken args.result.now n.number-kept.result n.number-kept.new.part (kept-is n) (part-is n) (omega arith) c.put_list.new.res c.put_list.ensures in record {
+    let r = made-answer args.sheet.now args.t.links args.part.now args.entries args.listed start.requires args.taken args.res.now n.number-kept.result n.number-kept.new.part (kept-is n) (part-is n) (omega arith) c.put_list.new.res c.put_list.ensures in record {
       value = r.0;
       part_after = part-is n;
       res_after = r.1;

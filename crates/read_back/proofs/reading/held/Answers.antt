@@ -24,8 +24,9 @@ pub returns-then-t-eq-NOTHING : goal.returns-then-t-eq-NOTHING
 returns-then-t-eq-NOTHING c =
     let r = c.before.before.before.before.before.before in
     let a = r.args in
-    let m = machine a.sheet.now in
-    held_none m _ a.run.now (none-held m (start_none a.sheet.now r.requires.0 a.t r.requires.1 c.if-t-eq-NOTHING.true) (way_of a.result.now a.nodes a.links a.n a.k))
+    let m = machine a.sheet.now in 
+    let told = held_none m _ a.run.now (none-held m (start_none a.sheet.now r.requires.0 a.t r.requires.1 c.if-t-eq-NOTHING.true) (way_of a.result.now a.nodes a.links a.n a.k)) in
+    record { value = told.0; run_new = told.1 }
 
 pub first_of-first-requires : goal.first_of-first-requires
 first_of-first-requires c =
@@ -49,8 +50,9 @@ returns-then-not-w c =
     let w = c.walk-w.result in
     let o = way_in a.result.now c.shape_of-shape.result c.first_state-from.result in
     let way : o ≡ way_of a.result.now a.nodes a.links a.n a.k = way_same a.result.now a.n a.nodes a.links a.k _ _ c.shape_of-shape.ensures c.first_state-from.ensures in
-    let starts = start-some a.sheet.now r.requires.0 a.t r.requires.1 c.if-t-eq-NOTHING.false in
-    held_none m _ a.run.now (ap (if_reading m) (sym way) ∙ held-not m a.t.start starts w o c.walk-w.ensures c.if-not-w.true)
+    let starts = start-some a.sheet.now r.requires.0 a.t r.requires.1 c.if-t-eq-NOTHING.false in 
+    let told = held_none m _ a.run.now (ap (if_reading m) (sym way) ∙ held-not m a.t.start starts w o c.walk-w.ensures c.if-not-w.true) in
+    record { value = told.0; run_new = told.1 }
 
 pub returns-then-run-w : goal.returns-then-run-w
 returns-then-run-w c =
@@ -61,8 +63,9 @@ returns-then-run-w c =
     let o = way_in a.result.now c.shape_of-shape.result c.first_state-from.result in
     let way : o ≡ way_of a.result.now a.nodes a.links a.n a.k = way_same a.result.now a.n a.nodes a.links a.k _ _ c.shape_of-shape.ensures c.first_state-from.ensures in
     let starts = start-some a.sheet.now r.requires.0 a.t r.requires.1 c.if-t-eq-NOTHING.false in
-    let h = held_by m a.t.start starts w o c.walk-w.ensures c.if-not-w.false in
-    held-short m _ h.way a.run.now (ap (if_reading m) (sym way) ∙ h.held) (omega (arith, h.counts, c.if-run-w.true))
+    let h = held_by m a.t.start starts w o c.walk-w.ensures c.if-not-w.false in 
+    let told = held-short m _ h.way a.run.now (ap (if_reading m) (sym way) ∙ h.held) (omega (arith, h.counts, c.if-run-w.true)) in
+    record { value = told.0; run_new = told.1 }
 
 pub store_way-requires : goal.store_way-requires
 store_way-requires c =

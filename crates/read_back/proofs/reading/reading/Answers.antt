@@ -15,8 +15,9 @@ returns-then-count-k c =
     let below : Below 256 a.sheet.now = λ i. omega (arith, c.type_inv.sheet i) in
     let passed = accepted-number a.sheet.now (input_number a.sheet.now) c.in-Accepted.t (sym c.input.ensures ∙ c.in-Accepted.is) in
     let counted = counts-given a.result.now a.n a.nodes a.links c.in-Readings.count (sym c.in-Readings.is ∙ c.count_readings.ensures.value) in
-    let number = number-absent a.sheet.now a.n a.result.now a.nodes a.links a.k (length a.run.now) passed.0 counted.1 counted.2 (omega (arith, counted.0, c.if-count-k.true)) in
-    answered a.sheet.now below a.n a.result.now a.nodes a.links a.k a.run.now 31 (λ z. omega (arith, z)) number
+    let number = number-absent a.sheet.now a.n a.result.now a.nodes a.links a.k (length a.run.now) passed.0 counted.1 counted.2 (omega (arith, counted.0, c.if-count-k.true)) in 
+    let told = answered a.sheet.now below a.n a.result.now a.nodes a.links a.k a.run.now 31 (λ z. omega (arith, z)) number in
+    record { value = told.0; run_new = told.1.0; reads_list = told.1.1.0; tells_true = told.1.1.1 }
 
 pub held-requires : goal.held-requires
 held-requires c =
@@ -31,8 +32,9 @@ returns-in-Refused c =
     let r = c.before.before.before.before.before.before.before.before in
     let a = r.args in
     let below : Below 256 a.sheet.now = λ i. omega (arith, c.type_inv.sheet i) in
-    let refused = refused-number a.sheet.now (input_number a.sheet.now) c.in-Refused.number (sym c.input.ensures ∙ c.in-Refused.is) in
-    answered a.sheet.now below a.n a.result.now a.nodes a.links a.k a.run.now _ refused.1 (answer-input a.sheet.now a.n a.result.now a.nodes a.links a.k (length a.run.now) _ refused.1 refused.0)
+    let refused = refused-number a.sheet.now (input_number a.sheet.now) c.in-Refused.number (sym c.input.ensures ∙ c.in-Refused.is) in 
+    let told = answered a.sheet.now below a.n a.result.now a.nodes a.links a.k a.run.now _ refused.1 (answer-input a.sheet.now a.n a.result.now a.nodes a.links a.k (length a.run.now) _ refused.1 refused.0) in
+    record { value = told.0; run_new = told.1.0; reads_list = told.1.1.0; tells_true = told.1.1.1 }
 
 pub returns-in-Refused-count_readings : goal.returns-in-Refused-count_readings
 returns-in-Refused-count_readings c =
@@ -41,8 +43,9 @@ returns-in-Refused-count_readings c =
     let below : Below 256 a.sheet.now = λ i. omega (arith, c.type_inv.sheet i) in
     let passed = accepted-number a.sheet.now (input_number a.sheet.now) c.in-Accepted.t (sym c.input.ensures ∙ c.in-Accepted.is) in
     let refused = count-refused a.result.now a.n a.nodes a.links c.in-Refused-count_readings.number (sym c.in-Refused-count_readings.is ∙ c.count_readings.ensures.value) in
-    let number = number_counts a.sheet.now a.n a.result.now a.nodes a.links a.k (length a.run.now) passed.0 (λ z. refused.1 (refused.0 ∙ z)) ∙ sym refused.0 in
-    answered a.sheet.now below a.n a.result.now a.nodes a.links a.k a.run.now _ refused.1 number
+    let number = number_counts a.sheet.now a.n a.result.now a.nodes a.links a.k (length a.run.now) passed.0 (λ z. refused.1 (refused.0 ∙ z)) ∙ sym refused.0 in 
+    let told = answered a.sheet.now below a.n a.result.now a.nodes a.links a.k a.run.now _ refused.1 number in
+    record { value = told.0; run_new = told.1.0; reads_list = told.1.1.0; tells_true = told.1.1.1 }
 
 pub returns-else-count-k : goal.returns-else-count-k
 returns-else-count-k c =
@@ -50,5 +53,6 @@ returns-else-count-k c =
     let a = r.args in
     let below : Below 256 a.sheet.now = λ i. omega (arith, c.type_inv.sheet i) in
     let passed = accepted-number a.sheet.now (input_number a.sheet.now) c.in-Accepted.t (sym c.input.ensures ∙ c.in-Accepted.is) in
-    let counted = counts-given a.result.now a.n a.nodes a.links c.in-Readings.count (sym c.in-Readings.is ∙ c.count_readings.ensures.value) in
-    answered-held a.sheet.now below a.n a.result.now a.nodes a.links a.k a.run.now passed.0 counted.1 counted.2 (omega (arith, counted.0, c.if-count-k.false)) _ _ c.held.ensures.value c.held.ensures.run_new
+    let counted = counts-given a.result.now a.n a.nodes a.links c.in-Readings.count (sym c.in-Readings.is ∙ c.count_readings.ensures.value) in 
+    let told = answered-held a.sheet.now below a.n a.result.now a.nodes a.links a.k a.run.now passed.0 counted.1 counted.2 (omega (arith, counted.0, c.if-count-k.false)) _ _ c.held.ensures.value c.held.ensures.run_new in
+    record { value = told.0; run_new = told.1.0; reads_list = told.1.1.0; tells_true = told.1.1.1 }

@@ -30,7 +30,7 @@ link_count-count-requires c = let s = c.before.before.before in record {
 pub loop-i-init : goal.loop-i-init
 loop-i-init c =
     let args = c.args in
-    (search rules, refl, puts-same (sym (texts-none (row_from (parts_of args.sheet.now) args.v args.first))) (puts_none args.result.now args.at))
+    (search rules, refl, puts-same (sym (texts-none (row_from (parts_of args.sheet.now) args.v args.first))) (puts_none args.res.now args.at))
 
 -- the link is the node's, so one of the sheet's
 below : (c : In-loop-i) → let s = c.before.before.before.before.before in s.args.first + c.loop-i.i < link_count (parts_of s.args.sheet.now)

@@ -18,7 +18,9 @@ reading : (c : In-Accepted) → let bytes = c.args.sheet.now in (read_number byt
 reading c = accepted-told c.args.sheet.now c.in-Accepted.t (sym c.read.ensures ∙ c.in-Accepted.is)
 
 pub has_rows-requires : goal.has_rows-requires
-has_rows-requires c = reading c.before
+has_rows-requires c =
+    let told = reading c.before in
+    record { sheet_value = told.0; t_value = told.1 }
 
 pub returns-then-not-has_rows : goal.returns-then-not-has_rows
 returns-then-not-has_rows c =

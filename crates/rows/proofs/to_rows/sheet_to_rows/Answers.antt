@@ -21,7 +21,9 @@ pub returns-then-res-size : goal.returns-then-res-size
 returns-then-res-size c =
     let told = c.before.before in
     let args = told.args in
-    promise-short args.sheet.now args.result.now told.in-Length.size (measured told) c.if-res-size.true
+    promise-short args.sheet.now args.res.now told.in 
+    let told = -Length.size (measured told) c.if-res-size.true in
+    record { value = told.0; res_after = told.1.0; by_index = told.1.1.0; no_text = told.1.1.1 }
 
 pub trailer_of-t-requires : goal.trailer_of-t-requires
 trailer_of-t-requires c =
@@ -43,10 +45,14 @@ put_rows-requires c =
 pub returns-in-Refused : goal.returns-in-Refused
 returns-in-Refused c =
     let args = c.args in
-    promise-refused args.sheet.now args.result.now c.in-Refused.k (sym c.rows_bytes.ensures ∙ c.in-Refused.is)
+    promise-refused args.sheet.now args.res.now c.in 
+    let told = -Refused.k (sym c.rows_bytes.ensures ∙ c.in-Refused.is) in
+    record { value = told.0; res_after = told.1.0; by_index = told.1.1.0; no_text = told.1.1.1 }
 
 pub returns-else-res-size : goal.returns-else-res-size
 returns-else-res-size c =
     let told = c.before.before.before.before.before.before.before in
     let args = told.args in
-    promise-written args.sheet.now args.result.now told.in-Length.size (measured told) _ (λ i. omega (arith, told.type_inv.sheet i)) c.if-res-size.false c.put_rows.ensures
+    promise-written args.sheet.now args.res.now told.in 
+    let told = -Length.size (measured told) _ (λ i. omega (arith, told.type_inv.sheet i)) c.if-res-size.false c.put_rows.ensures in
+    record { value = told.0; res_after = told.1.0; by_index = told.1.1.0; no_text = told.1.1.1 }

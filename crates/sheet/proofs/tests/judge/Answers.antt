@@ -41,7 +41,7 @@ returns-then-not-l c =
     first-3 (marked g) (started g) g.args.l.nexts (weighed g)
     (sym c.both.ensures ∙ c.if-not-both.false)
     (sym c.start_fits.ensures ∙ c.if-not-start_fits.false)
-    c.if-not-l.true
+    (not-true _ c.if-not-l.true)
 
 pub returns-then-not-both-2 : goal.returns-then-not-both-2
 returns-then-not-both-2 c =
@@ -49,7 +49,7 @@ returns-then-not-both-2 c =
     first-4 (marked g) (started g) g.args.l.nexts (weighed g)
     (sym c.both.ensures ∙ c.if-not-both.false)
     (sym c.start_fits.ensures ∙ c.if-not-start_fits.false)
-    c.if-not-l.false
+    (not-false _ c.if-not-l.false)
     (sym c.both-2.ensures ∙ c.if-not-both-2.true)
 
 pub returns : goal.returns
@@ -58,5 +58,5 @@ returns c =
     first-none (marked g) (started g) g.args.l.nexts (weighed g)
     (sym c.both.ensures ∙ c.if-not-both.false)
     (sym c.start_fits.ensures ∙ c.if-not-start_fits.false)
-    c.if-not-l.false
+    (not-false _ c.if-not-l.false)
     (sym c.both-2.ensures ∙ c.if-not-both-2.false)

@@ -24,5 +24,5 @@ returns c =
     c.put_words-3.ensures
     ∙ ap (λ (m : List ℕ). sets m (16 * t + 12 * n) (bytes_of_all trailer))
     (c.put_words-2.ensures ∙ ap (λ (m : List ℕ). sets m (16 * t) (bytes_of_all ys)) c.put_words.ensures)
-    ∙ (λ i. sets (sets (sets args.result.now 0 (bytes_of_all xs)) (first i) (bytes_of_all ys)) (second i) (bytes_of_all trailer))
-    ∙ sheet-stores args.result.now xs ys trailer
+    ∙ (λ i. sets (sets (sets args.res.now 0 (bytes_of_all xs)) (first i) (bytes_of_all ys)) (second i) (bytes_of_all trailer))
+    ∙ sheet-stores args.res.now xs ys trailer

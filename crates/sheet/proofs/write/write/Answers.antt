@@ -44,8 +44,9 @@ number c room =
 pub returns-then-not-records_fit : goal.returns-then-not-records_fit
 returns-then-not-records_fit c =
     let s = c.before.before.before.before.before.before in
-    let old = s.args.res.now in
-    refused (given s) old 1 (λ e. omega arith) (write-unfit (given s) (length old) (sym c.records_fit.ensures ∙ c.if-not-records_fit.true))
+    let old = s.args.res.now in 
+    let told = refused (given s) old 1 (λ e. omega arith) (write-unfit (given s) (length old) (sym c.records_fit.ensures ∙ c.if-not-records_fit.true)) in
+    record { value = told.0; res_after = told.1.0; by_index = told.1.1 }
 
 pub overflow_cast-t : goal.overflow_cast-t
 overflow_cast-t c = omega (arith, (records (given c.before.before.before.before.before.before) (fits c.before)).3)
@@ -57,18 +58,20 @@ pub returns-then-number-ne0 : goal.returns-then-number-ne0
 returns-then-number-ne0 c =
     let s = c.before.before.before.before.before.before.before.before.before.before in
     let old = s.args.res.now in
-    let k = c.judge-number.result in
-    refused (given s) old k c.if-number-ne0.true (number c.before.before (length old) ∙ ap (λ (t : Bool). cond (not t) k (cond (ltb (length old) (sheet_length (given s))) 21 0)) (ne_eqb k 0 c.if-number-ne0.true))
+    let k = c.judge-number.result in 
+    let told = refused (given s) old k c.if-number-ne0.true (number c.before.before (length old) ∙ ap (λ (t : Bool). cond (not t) k (cond (ltb (length old) (sheet_length (given s))) 21 0)) (ne_eqb k 0 c.if-number-ne0.true)) in
+    record { value = told.0; res_after = told.1.0; by_index = told.1.1 }
 
 pub returns-then-res-size : goal.returns-then-res-size
 returns-then-res-size c =
     let s = c.before.before.before.before.before.before.before.before.before.before.before in
     let old = s.args.res.now in
-    let k = c.judge-number.result in
-    refused (given s) old 21 (λ e. omega arith)
+    let k = c.judge-number.result in 
+    let told = refused (given s) old 21 (λ e. omega arith)
     (number c.before.before.before (length old)
     ∙ ap (λ (t : Bool). cond (not t) k (cond (ltb (length old) (sheet_length (given s))) 21 0)) (eq-eqb k 0 c.if-number-ne0.false)
-    ∙ ap (λ (t : Bool). cond t 21 0) (lt-ltb (length old) (sheet_length (given s)) c.if-res-size.true))
+    ∙ ap (λ (t : Bool). cond t 21 0) (lt-ltb (length old) (sheet_length (given s)) c.if-res-size.true)) in
+    record { value = told.0; res_after = told.1.0; by_index = told.1.1 }
 
 pub put_sheet-requires : goal.put_sheet-requires
 put_sheet-requires c = record {
@@ -93,5 +96,6 @@ returns c =
     let zero : write_number (given s) (length old) ≡ 0 =
     number c.before.before.before.before.before.before.before (length old)
     ∙ ap (λ (t : Bool). cond (not t) k (cond (ltb (length old) (sheet_length (given s))) 21 0)) (eq-eqb k 0 c.if-number-ne0.false)
-    ∙ ap (λ (t : Bool). cond t 21 0) (le-ltb (length old) (sheet_length (given s)) room) in
-    stored_back (given s) fit (links-below c.before.before.before.before.before.before.before.before.before.before.before.before) (nodes-below c.before.before.before.before.before.before.before.before.before.before.before.before) s.ranges.start.fits old _ room zero c.put_sheet.ensures
+    ∙ ap (λ (t : Bool). cond t 21 0) (le-ltb (length old) (sheet_length (given s)) room) in 
+    let told = stored_back (given s) fit (links-below c.before.before.before.before.before.before.before.before.before.before.before.before) (nodes-below c.before.before.before.before.before.before.before.before.before.before.before.before) s.ranges.start.fits old _ room zero c.put_sheet.ensures in
+    record { value = told.0; res_after = told.1.0; by_index = told.1.1 }

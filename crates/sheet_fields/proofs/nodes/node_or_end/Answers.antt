@@ -20,23 +20,26 @@ answer sheet v r e = (e, λ read. subst (NodeOf (machine sheet) v) (sym e) (node
 
 pub returns-then-sheet-lt-TRAILER : goal.returns-then-sheet-lt-TRAILER
 returns-then-sheet-lt-TRAILER c =
-    let args = c.args in
-    answer args.sheet.now args.v NodeStep.End (node-short args.sheet.now args.v c.if-sheet-lt-TRAILER.true)
+    let args = c.args in 
+    let told = answer args.sheet.now args.v NodeStep.End (node-short args.sheet.now args.v c.if-sheet-lt-TRAILER.true) in
+    record { value = told.0; node_of = told.1 }
 
 pub returns-then-nodes-v : goal.returns-then-nodes-v
 returns-then-nodes-v c =
     let args = c.args in
     let sheet = args.sheet.now in
-    let stated = c.trailer_of-t.ensures in
-    answer sheet args.v NodeStep.End (node-past sheet args.v c.if-sheet-lt-TRAILER.false (subst (λ (t : Trailer). t.nodes ≤ args.v) stated c.if-nodes-v.true))
+    let stated = c.trailer_of-t.ensures in 
+    let told = answer sheet args.v NodeStep.End (node-past sheet args.v c.if-sheet-lt-TRAILER.false (subst (λ (t : Trailer). t.nodes ≤ args.v) stated c.if-nodes-v.true)) in
+    record { value = told.0; node_of = told.1 }
 
 pub returns-then-sheet-links : goal.returns-then-sheet-links
 returns-then-sheet-links c =
     let args = c.args in
     let sheet = args.sheet.now in
     let stated = c.trailer_of-t.ensures in
-    let among = subst (λ (t : Trailer). args.v < t.nodes) stated c.if-nodes-v.false in
-    answer sheet args.v NodeStep.End (node-unfit sheet args.v c.if-sheet-lt-TRAILER.false among (subst (λ (t : Trailer). length sheet < 16 * t.links + 12 * t.nodes + 20) stated c.if-sheet-links.true))
+    let among = subst (λ (t : Trailer). args.v < t.nodes) stated c.if-nodes-v.false in 
+    let told = answer sheet args.v NodeStep.End (node-unfit sheet args.v c.if-sheet-lt-TRAILER.false among (subst (λ (t : Trailer). length sheet < 16 * t.links + 12 * t.nodes + 20) stated c.if-sheet-links.true)) in
+    record { value = told.0; node_of = told.1 }
 
 pub returns : goal.returns
 returns c =
@@ -44,5 +47,6 @@ returns c =
     let sheet = args.sheet.now in
     let stated = c.trailer_of-t.ensures in
     let among = subst (λ (t : Trailer). args.v < t.nodes) stated c.if-nodes-v.false in
-    let node = c.Node-at.ensures ∙ ap (λ (t : Trailer). node_at sheet t.links args.v) stated in
-    answer sheet args.v (NodeStep.Node c.Node-at.result) (ap NodeStep.Node node ∙ node-there sheet args.v c.if-sheet-lt-TRAILER.false among (subst (λ (t : Trailer). 16 * t.links + 12 * t.nodes + 20 ≤ length sheet) stated c.if-sheet-links.false))
+    let node = c.Node-at.ensures ∙ ap (λ (t : Trailer). node_at sheet t.links args.v) stated in 
+    let told = answer sheet args.v (NodeStep.Node c.Node-at.result) (ap NodeStep.Node node ∙ node-there sheet args.v c.if-sheet-lt-TRAILER.false among (subst (λ (t : Trailer). 16 * t.links + 12 * t.nodes + 20 ≤ length sheet) stated c.if-sheet-links.false)) in
+    record { value = told.0; node_of = told.1 }

@@ -22,11 +22,11 @@ loop-v-preserved c =
     let args = c.args in (
       search rules,
       put.auto.res ∙ turn.invariant.1,
-      put.ensures ∙ (λ i. sets (turn.invariant.2 i) (8 * turn.v) (bytes_of_all (words_in (read.ensures i)))) ∙ sets-distance args.result.now args.work.now turn.v,
+      put.ensures ∙ (λ i. sets (turn.invariant.2 i) (8 * turn.v) (bytes_of_all (words_in (read.ensures i)))) ∙ sets-distance args.res.now args.work.now turn.v,
     )
 
 pub returns : goal.returns
 returns c =
     let args = c.args in
     let all : c.loop-v.v ≡ args.count = omega arith in
-    c.loop-v.invariant.2 ∙ ap (λ (n : ℕ). sets args.result.now 0 (bytes_of_all (distance_words args.work.now n))) all
+    c.loop-v.invariant.2 ∙ ap (λ (n : ℕ). sets args.res.now 0 (bytes_of_all (distance_words args.work.now n))) all

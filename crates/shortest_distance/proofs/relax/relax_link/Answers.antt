@@ -27,8 +27,9 @@ judged c =
 
 pub returns-then-not-natural_less : goal.returns-then-not-natural_less
 returns-then-not-natural_less c =
-    let args = c.args in
-    offer-left args.k args.l args.v args.d args.work.now (judged c.before ∙ c.if-not-natural_less.true)
+    let args = c.args in 
+    let told = offer-left args.k args.l args.v args.d args.work.now (judged c.before ∙ c.if-not-natural_less.true) in
+    record { value = told.0; work_new = told.1 }
 
 pub returns : goal.returns
 returns c =

@@ -16,8 +16,8 @@ returns-then-n-eq0 c =
     let args = c.args in
     let m = machine_of (parts_of args.sheet.now) in
     let e : result_for m args.n ≡ empty = ap (result_for m) c.if-n-eq0.true ∙ zero-empty m in record {
-      value = c.put_none.ensures.value ∙ ap (λ r. listed_in r (length args.result.now)) (sym e);
-      res_after = c.put_none.ensures.res_after ∙ ap (λ r. listed_over r args.result.now) (sym e);
+      value = c.put_none.ensures.value ∙ ap (λ r. listed_in r (length args.res.now)) (sym e);
+      res_after = c.put_none.ensures.res_after ∙ ap (λ r. listed_over r args.res.now) (sym e);
     }
 
 pub single_shortest_path-requires : goal.single_shortest_path-requires
@@ -36,6 +36,6 @@ returns-then-n-eq1 c =
     let m = machine_of (parts_of args.sheet.now) in
     let one : args.n ≡ 1 = c.if-n-eq1.true in
     let x = c.single_shortest_path.ensures in record {
-      value = x.0 ∙ ap (λ (k : ℕ). listed_in (result_for m k) (length args.result.now)) (sym one);
-      res_after = x.1.0 ∙ ap (λ (k : ℕ). listed_over (result_for m k) args.result.now) (sym one);
+      value = x.0 ∙ ap (λ (k : ℕ). listed_in (result_for m k) (length args.res.now)) (sym one);
+      res_after = x.1.0 ∙ ap (λ (k : ℕ). listed_over (result_for m k) args.res.now) (sym one);
     }

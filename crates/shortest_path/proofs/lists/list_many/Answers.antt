@@ -103,8 +103,8 @@ returns-then-not-is_reached c =
     let old = c.measure.new.part in
     let part = c.reverse.new.part in
     let e = none-there args.sheet.now (λ i. omega (arith, c.type_inv.sheet i)) root.requires.sheet_value.0 args.t root.requires.sheet_value.1 args.finals root.requires.sheet_value.2 args.n root.requires.le_n.0 root.requires.le_n.1 old part (omega (arith, root.requires.le_n.2, c.measure.auto.part)) (turned c.before.before.before.before.before.before.before.before.before.before.before) (unreached c.before.before.before.before.before) in record {
-      value = c.put_none.ensures.value ∙ ap (λ r. listed_in r (length args.result.now)) (sym e);
-      res_after = c.put_none.ensures.res_after ∙ ap (λ r. listed_over r args.result.now) (sym e);
+      value = c.put_none.ensures.value ∙ ap (λ r. listed_in r (length args.res.now)) (sym e);
+      res_after = c.put_none.ensures.res_after ∙ ap (λ r. listed_over r args.res.now) (sym e);
     }
 
 pub overflow_add-end : goal.overflow_add-end
@@ -155,9 +155,9 @@ returns c =
     let made = c.n_shortest_path-c in
     let whole : ◌≡◌ {A = Words} (record { part = made.new.part; counts = made.result }) ended = λ i. record { part = made.ensures.part_after i; counts = made.ensures.value i } in
     let there = reached c.before.before.before.before.before.before.before.before.before.before.before.before.before.before.before in
-    let long = length args.result.now in record {
+    let long = length args.res.now in record {
       value = c.write_list.ensures.value ∙ ap (λ (w : Words). list_answer w.counts.listed (kept_count w.counts.entries w.counts.listed w.part) w.counts.taken long) whole
           ∙ answers args.sheet.now (λ i. omega (arith, c.type_inv.sheet i)) root.requires.sheet_value.0 args.t root.requires.sheet_value.1 args.finals root.requires.sheet_value.2 args.n root.requires.le_n.0 root.requires.le_n.1 old part (omega (arith, root.requires.le_n.2, c.measure.auto.part)) (turned c.before.before.before.before.before.before.before.before.before.before.before.before.before.before.before.before.before.before.before.before.before) there long;
-      res_after = c.write_list.ensures.res_after ∙ ap (λ (w : Words). list_after args.sheet.now args.t.links w.part w.counts.entries w.counts.listed args.result.now) whole
-          ∙ leaves args.sheet.now (λ i. omega (arith, c.type_inv.sheet i)) root.requires.sheet_value.0 args.t root.requires.sheet_value.1 args.finals root.requires.sheet_value.2 args.n root.requires.le_n.0 root.requires.le_n.1 old part (omega (arith, root.requires.le_n.2, c.measure.auto.part)) (turned c.before.before.before.before.before.before.before.before.before.before.before.before.before.before.before.before.before.before.before.before.before) there args.result.now;
+      res_after = c.write_list.ensures.res_after ∙ ap (λ (w : Words). list_after args.sheet.now args.t.links w.part w.counts.entries w.counts.listed args.res.now) whole
+          ∙ leaves args.sheet.now (λ i. omega (arith, c.type_inv.sheet i)) root.requires.sheet_value.0 args.t root.requires.sheet_value.1 args.finals root.requires.sheet_value.2 args.n root.requires.le_n.0 root.requires.le_n.1 old part (omega (arith, root.requires.le_n.2, c.measure.auto.part)) (turned c.before.before.before.before.before.before.before.before.before.before.before.before.before.before.before.before.before.before.before.before.before) there args.res.now;
     }

@@ -33,4 +33,4 @@ returns c =
     let done : args.count - turn.i ≡ 0 = omega arith in
     states-end turn.result (args.at + 12 + 12 * turn.i) (args.count - turn.i) done ∙ turn.invariant.2
     ∙ ap (λ (x : List ℕ). sets x (args.at + 12) (bytes_of_all (way_states args.count))) c.put_words.ensures
-    ∙ sets-words args.result.now args.at (0 ∷ 1 ∷ args.bits ∷ []) (way_states args.count) (args.at + 12) (omega arith)
+    ∙ sets-words args.res.now args.at (0 ∷ 1 ∷ args.bits ∷ []) (way_states args.count) (args.at + 12) (omega arith)
