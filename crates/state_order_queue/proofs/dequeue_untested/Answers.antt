@@ -21,22 +21,22 @@ low : (c : Start) → c.args.q.front < node_limit
 low c = let q = c.args.q in front-bound q.front q.back (valid-ends q c.requires.0) c.requires.1
 
 pub returns-in_default : goal.returns-in_default
-returns-in_default c = let start = c.before.before in absurd (not-both (ap (empty_from start.args.q.front) c.in_default.is) start.requires.1)
+returns-in_default c = let start = c.before in absurd (not-both (ap (empty_from start.args.q.front) c.in_default.is) start.requires.1)
 
 pub bounds-queue-front : goal.bounds-queue-front
-bounds-queue-front c = low c.before.before.before
+bounds-queue-front c = low c.before
 
 pub next_front-next-requires : goal.next_front-next-requires
 next_front-next-requires c =
-    let start = c.before.before.before.before.before in
+    let start = c.before.before in
     let q = start.args.q in
     filled-bound q.front _ q.back c.in-At.is (valid-ends q start.requires.0) start.requires.1
 
 pub dequeue_cleared-requires : goal.dequeue_cleared-requires
 dequeue_cleared-requires c =
-    let l = low c.before.before.before.before.before.before in
+    let l = low c.before.before.before in
     let q = c.args.q in
     (search rules, c.next_front-next.ensures ∙ ap (λ (b : Back). next_front q.front b (set q.flags q.front false)) (sym c.in-At.is))
 
 pub returns : goal.returns
-returns c = let start = c.before.before.before.before.before.before.before in c.dequeue_cleared.ensures ∙ cleared-dequeued start.args.q start.requires.1
+returns c = let start = c.before.before.before.before in c.dequeue_cleared.ensures ∙ cleared-dequeued start.args.q start.requires.1

@@ -22,7 +22,7 @@ use Rattle.yeldmur.proofs.yeldmur_areas.Reads
 use Rattle.yeldmur.proofs.yeldmur_areas.Tie
 
 abbrev In-Accepted : Type 0
-In-Accepted = Lts.After-known_told2 Tie.the-claims Reads.Pre Reads.Post Tie.handed_clauses
+In-Accepted = Lts.Past-After-known_told2 Tie.the-claims Reads.Pre Reads.Post Tie.handed_clauses
 
 -- the sheet is accepted, and the trailer is its own
 passed : (c : In-Accepted) → let bytes = c.args.sheet.now in (input_number bytes ≡ 0) × (c.in-Accepted.t ≡ trailer_at bytes)

@@ -12,7 +12,7 @@ use Rattle.list_machine.proofs.Placing.{stored_next, links-next, length-links, c
 use Rattle.list_machine.proofs.trim.put_entry_links.Given as goal
 
 abbrev pub invariant-loop-i : goal.invariant-loop-i
-invariant-loop-i l = (0 < l.i) × (l.i ≤ l.entries) × (length l.res ≡ length l.initial.result) × (l.next ≡ l.at + 16 * mark_count l.part (l.i - 1)) × (l.res ≡ sets l.initial.result l.at (bytes_of_all (link_words l.sheet l.links l.part (l.i - 1))))
+invariant-loop-i l = (0 < l.i) × (l.i ≤ l.entries) × (length l.res ≡ length l.initial.res) × (l.next ≡ l.at + 16 * mark_count l.part (l.i - 1)) × (l.res ≡ sets l.initial.res l.at (bytes_of_all (link_words l.sheet l.links l.part (l.i - 1))))
 
 abbrev pub decreases-loop-i : goal.decreases-loop-i
 decreases-loop-i l = l.entries - l.i

@@ -11,7 +11,7 @@ use Rattle.list_machine.proofs.Placing.{stored_next, nodes-next, length-nodes}
 use Rattle.list_machine.proofs.trim.put_nodes.Given as goal
 
 abbrev pub invariant-loop-k : goal.invariant-loop-k
-invariant-loop-k l = (l.k ≤ l.count) × (length l.res ≡ length l.initial.result) × (l.res ≡ sets l.initial.result l.at (bytes_of_all (node_words l.k)))
+invariant-loop-k l = (l.k ≤ l.count) × (length l.res ≡ length l.initial.res) × (l.res ≡ sets l.initial.res l.at (bytes_of_all (node_words l.k)))
 
 abbrev pub decreases-loop-k : goal.decreases-loop-k
 decreases-loop-k l = l.count - l.k

@@ -10,7 +10,7 @@ use Rattle.list_machine.proofs.Placing.{nothings-next}
 use Rattle.list_machine.proofs.trim.put_nothings.Given as goal
 
 abbrev pub invariant-loop-k : goal.invariant-loop-k
-invariant-loop-k l = (l.k ≤ l.count) × (length l.res ≡ length l.initial.result) × (l.res ≡ sets l.initial.result l.at (bytes_of_all (replicate l.k nothing)))
+invariant-loop-k l = (l.k ≤ l.count) × (length l.res ≡ length l.initial.res) × (l.res ≡ sets l.initial.res l.at (bytes_of_all (replicate l.k nothing)))
 
 abbrev pub decreases-loop-k : goal.decreases-loop-k
 decreases-loop-k l = l.count - l.k

@@ -12,7 +12,7 @@ use Rattle.list_machine.proofs.Placing.{stored_next, start-next, length-start}
 use Rattle.list_machine.proofs.trim.put_start_links.Given as goal
 
 abbrev pub invariant-loop-k : goal.invariant-loop-k
-invariant-loop-k l = (l.k ≤ l.listed) × (length l.res ≡ length l.initial.result) × (l.res ≡ sets l.initial.result 0 (bytes_of_all (start_words l.part l.k)))
+invariant-loop-k l = (l.k ≤ l.listed) × (length l.res ≡ length l.initial.res) × (l.res ≡ sets l.initial.res 0 (bytes_of_all (start_words l.part l.k)))
 
 abbrev pub decreases-loop-k : goal.decreases-loop-k
 decreases-loop-k l = l.listed - l.k

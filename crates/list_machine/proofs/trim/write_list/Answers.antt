@@ -37,7 +37,7 @@ returns-then-res-links c =
 
 pub put_list-requires : goal.put_list-requires
 put_list-requires c =
-    let start = c.before.before.before.before.before.before.before.before.before.before.before.before.before.before.before.before in
+    let start = c.before.before.before.before.before.before.before.before.before.before.before.before.before.before.before in
     let args = start.args in
     let n = c.before.before.before.before.before.before.before in
     let w : Writable args.sheet.now args.t.links (stated args.entries args.listed args.part.now) args.entries args.listed (kept_count args.entries args.listed args.part.now) (length args.res.now) = new-writable args.sheet.now args.t.links args.part.now args.entries args.listed start.requires (length args.res.now) (omega (arith, kept-is n)) in
@@ -52,7 +52,7 @@ overflow_cast-result-2 c = omega (arith, few c.before.before.before.before.befor
 
 pub returns : goal.returns
 returns c =
-    let start = c.before.before.before.before.before.before.before.before.before.before.before.before.before.before.before.before.before.before.before in
+    let start = c.before.before.before.before.before.before.before.before.before.before.before.before.before.before.before.before.before.before in
     let args = start.args in
     let n = c.before.before.before.before.before.before.before.before.before.before in
     let r = made-answer args.sheet.now args.t.links args.part.now args.entries args.listed start.requires args.taken args.res.now n.number-kept.result n.number-kept.new.part (kept-is n) (part-is n) (omega arith) c.put_list.new.res c.put_list.ensures in record {

@@ -14,7 +14,7 @@ use Rattle.listing.proofs.print.put_few.Goals as goal
 
 pub put_list-requires : goal.put_list-requires
 put_list-requires c =
-    let root = c.before.before.before.before.before.before.before.before.before.before.before.before.before in
+    let root = c.before.before.before.before.before.before.before.before.before.before.before in
     let a = root.args in
     let below : Below 256 a.sheet.now = λ i. omega (arith, c.type_inv.sheet i) in
     let told = c.nodes-1.given in
@@ -24,7 +24,7 @@ put_list-requires c =
 
 pub returns-in-Refused : goal.returns-in-Refused
 returns-in-Refused c =
-    let root = c.before.before.before.before.before.before.before.before.before.before.before.before.before.before.before in
+    let root = c.before.before.before.before.before.before.before.before.before.before.before.before.before in
     let a = root.args in
     let k = c.in-Refused.k in
     let refused = refused-input a.sheet.now (λ i. omega (arith, c.type_inv.sheet i)) a.n root.requires.1 root.requires.0 k (sym c.in-Refused.is ∙ c.shortest_path.ensures.value) in
@@ -32,7 +32,7 @@ returns-in-Refused c =
 
 pub returns-in-Made : goal.returns-in-Made
 returns-in-Made c =
-    let root = c.before.before.before.before.before.before.before.before.before.before.before.before.before.before.before.before in
+    let root = c.before.before.before.before.before.before.before.before.before.before.before.before.before.before in
     let a = root.args in
     let m = machine a.sheet.now in
     let below : Below 256 a.sheet.now = λ i. omega (arith, c.type_inv.sheet i) in

@@ -12,7 +12,7 @@ use Rattle.listing.proofs.print.put_list.Goals as goal
 
 pub put_readings-requires : goal.put_readings-requires
 put_readings-requires c =
-    let r = c.before.before.before.before.before.before.before.before.before.before.before.before.before in
+    let r = c.before.before.before.before.before.before.before.before.before.before.before in
     let a = r.args in
     let m = machine a.sheet.now in
     let below : Below 256 a.sheet.now = λ i. omega (arith, c.type_inv.sheet i) in
@@ -27,7 +27,7 @@ put_readings-requires c =
 
 pub returns-in-Readings : goal.returns-in-Readings
 returns-in-Readings c =
-    let r = c.before.before.before.before.before.before.before.before.before.before.before.before.before.before.before.before in
+    let r = c.before.before.before.before.before.before.before.before.before.before.before.before.before.before in
     let a = r.args in
     let m = machine a.sheet.now in
     let below : Below 256 a.sheet.now = λ i. omega (arith, c.type_inv.sheet i) in
@@ -39,7 +39,7 @@ returns-in-Readings c =
 
 pub returns-in-Refused : goal.returns-in-Refused
 returns-in-Refused c =
-    let r = c.before.before.before.before.before.before.before in
+    let r = c.before.before.before.before.before.before in
     let a = r.args in
     let m = machine a.sheet.now in
     let below : Below 256 a.sheet.now = λ i. omega (arith, c.type_inv.sheet i) in

@@ -18,14 +18,14 @@ use Rattle.listing.proofs.print.put_reading.Goals as goal
 
 pub overflow_add-k : goal.overflow_add-k
 overflow_add-k c =
-    let r = c.before.before.before.before.before.before.before.before.before.before.before in
+    let r = c.before.before.before.before.before.before.before.before.before in
     let a = r.args in
     let below : Below 256 a.sheet.now = λ i. omega (arith, c.type_inv.sheet i) in
     omega (arith, r.requires.answer.1, held-few a.sheet.now below a.n a.result.now a.nodes a.links r.requires.answer.0, r.requires.answer.0.few)
 
 pub put_line-requires : goal.put_line-requires
 put_line-requires c =
-    let r = c.before.before.before.before.before.before.before.before.before.before.before.before in
+    let r = c.before.before.before.before.before.before.before.before.before.before in
     let a = r.args in
     let m = machine a.sheet.now in
     let below : Below 256 a.sheet.now = λ i. omega (arith, c.type_inv.sheet i) in
@@ -46,7 +46,7 @@ put_line-requires c =
 
 pub returns-in-Reading : goal.returns-in-Reading
 returns-in-Reading c =
-    let r = c.before.before.before.before.before.before.before.before.before.before.before.before.before.before.before in
+    let r = c.before.before.before.before.before.before.before.before.before.before.before.before.before in
     let a = r.args in
     let m = machine a.sheet.now in
     let below : Below 256 a.sheet.now = λ i. omega (arith, c.type_inv.sheet i) in
@@ -68,7 +68,7 @@ returns-in-Reading c =
 
 pub returns-in-Refused : goal.returns-in-Refused
 returns-in-Refused c =
-    let r = c.before.before.before.before.before.before.before.before.before in
+    let r = c.before.before.before.before.before.before.before.before in
     let a = r.args in
     let m = machine a.sheet.now in
     let below : Below 256 a.sheet.now = λ i. omega (arith, c.type_inv.sheet i) in

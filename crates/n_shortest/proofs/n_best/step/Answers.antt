@@ -21,17 +21,17 @@ popped c = let args = c.args in λ i. record { part = c.pop.ensures i; counts = 
 
 pub entry_at-e-requires : goal.entry_at-e-requires
 entry_at-e-requires c =
-    let root = c.before.before.before in
+    let root = c.before.before in
     omega (arith, root.requires.0.sized.each 0 root.requires.1, root.requires.0.sized.room, root.requires.0.sized.after, root.requires.0.sized.inside)
 
 pub pop-requires : goal.pop-requires
 pop-requires c =
-    let root = c.before.before.before.before.before in
+    let root = c.before.before.before.before in
     (sized-fits root.args.p (record { part = root.args.part.now; counts = root.args.c }) root.requires.0.sized, root.requires.1)
 
 pub take-requires : goal.take-requires
 take-requires c =
-    let root = c.before.before.before.before.before.before.before.before.before.before in
+    let root = c.before.before.before.before.before.before.before.before.before in
     let s : Words = record { part = root.args.part.now; counts = root.args.c } in
     let z = root.requires.0.sized in
     let t = takes-without root.args.p s z root.requires.1 root.args.n (entry_w s.part (heap_word s.part 0)) root.requires.0.takes in (

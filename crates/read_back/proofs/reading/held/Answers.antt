@@ -83,7 +83,7 @@ store_way-requires c =
 
 pub cost_of-requires : goal.cost_of-requires
 cost_of-requires c =
-    let r = c.before.before.before.before.before.before.before.before.before.before.before.before.before.before.before.before.before.before.before in
+    let r = c.before.before.before.before.before.before.before.before.before.before.before.before.before.before.before.before.before.before in
     let a = r.args in
     let m = machine a.sheet.now in
     let w = c.walk-w.result in
@@ -99,7 +99,7 @@ cost_of-requires c =
 
 pub returns : goal.returns
 returns c =
-    let r = c.before.before.before.before.before.before.before.before.before.before.before.before.before.before.before.before.before.before.before.before in
+    let r = c.before.before.before.before.before.before.before.before.before.before.before.before.before.before.before.before.before.before.before in
     let a = r.args in
     let m = machine a.sheet.now in
     let w = c.walk-w.result in

@@ -10,7 +10,7 @@ use Rattle.read_back.proofs.reading.reading.Goals as goal
 
 pub returns-then-count-k : goal.returns-then-count-k
 returns-then-count-k c =
-    let r = c.before.before.before.before.before.before.before.before.before.before.before.before.before in
+    let r = c.before.before.before.before.before.before.before.before.before in
     let a = r.args in
     let below : Below 256 a.sheet.now = λ i. omega (arith, c.type_inv.sheet i) in
     let passed = accepted-number a.sheet.now (input_number a.sheet.now) c.in-Accepted.t (sym c.input.ensures ∙ c.in-Accepted.is) in
@@ -21,7 +21,7 @@ returns-then-count-k c =
 
 pub held-requires : goal.held-requires
 held-requires c =
-    let r = c.before.before.before.before.before.before.before.before.before.before.before.before.before.before in
+    let r = c.before.before.before.before.before.before.before.before.before.before in
     let a = r.args in
     let passed = accepted-number a.sheet.now (input_number a.sheet.now) c.in-Accepted.t (sym c.input.ensures ∙ c.in-Accepted.is) in
     let counted = counts-given a.result.now a.n a.nodes a.links c.in-Readings.count (sym c.in-Readings.is ∙ c.count_readings.ensures.value) in
@@ -29,7 +29,7 @@ held-requires c =
 
 pub returns-in-Refused : goal.returns-in-Refused
 returns-in-Refused c =
-    let r = c.before.before.before.before.before.before.before.before in
+    let r = c.before.before.before.before.before.before in
     let a = r.args in
     let below : Below 256 a.sheet.now = λ i. omega (arith, c.type_inv.sheet i) in
     let refused = refused-number a.sheet.now (input_number a.sheet.now) c.in-Refused.number (sym c.input.ensures ∙ c.in-Refused.is) in 
@@ -38,7 +38,7 @@ returns-in-Refused c =
 
 pub returns-in-Refused-count_readings : goal.returns-in-Refused-count_readings
 returns-in-Refused-count_readings c =
-    let r = c.before.before.before.before.before.before.before.before.before.before.before.before in
+    let r = c.before.before.before.before.before.before.before.before in
     let a = r.args in
     let below : Below 256 a.sheet.now = λ i. omega (arith, c.type_inv.sheet i) in
     let passed = accepted-number a.sheet.now (input_number a.sheet.now) c.in-Accepted.t (sym c.input.ensures ∙ c.in-Accepted.is) in
@@ -49,7 +49,7 @@ returns-in-Refused-count_readings c =
 
 pub returns-else-count-k : goal.returns-else-count-k
 returns-else-count-k c =
-    let r = c.before.before.before.before.before.before.before.before.before.before.before.before.before.before.before.before.before in
+    let r = c.before.before.before.before.before.before.before.before.before.before.before.before.before in
     let a = r.args in
     let below : Below 256 a.sheet.now = λ i. omega (arith, c.type_inv.sheet i) in
     let passed = accepted-number a.sheet.now (input_number a.sheet.now) c.in-Accepted.t (sym c.input.ensures ∙ c.in-Accepted.is) in

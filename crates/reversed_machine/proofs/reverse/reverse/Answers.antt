@@ -40,7 +40,7 @@ reverse_finals-requires c =
 
 pub least_total-least-requires : goal.least_total-least-requires
 least_total-least-requires c =
-    let g = grant c.before.before.before.before.before.before.before.before.before.before.before.before.before.before.before.before in
+    let g = grant c.before.before.before.before.before.before.before.before.before.before.before.before.before.before.before in
     let kept = c.reverse_finals.auto.part ∙ c.reverse_links.auto.part ∙ c.clear_heads.auto.part in
     (g.0.laid_out, omega (arith, kept, c.requires.nodes_bound))
 

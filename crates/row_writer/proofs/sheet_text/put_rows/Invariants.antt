@@ -18,7 +18,7 @@ use Rattle.row_writer.proofs.sheet_text.put_rows.Given as goal
 
 abbrev pub invariant-loop-v : goal.invariant-loop-v
 invariant-loop-v l =
-    (l.v ≤ l.t.nodes) × (length l.res ≡ length l.initial.result) × (l.first ≡ first_of (parts_of l.sheet) l.v) × Puts l.initial.result l.initial.next (texts (other_rows (parts_of l.sheet)) l.v) l.res l.next
+    (l.v ≤ l.t.nodes) × (length l.res ≡ length l.initial.res) × (l.first ≡ first_of (parts_of l.sheet) l.v) × Puts l.initial.res l.initial.next (texts (other_rows (parts_of l.sheet)) l.v) l.res l.next
 
 abbrev pub decreases-loop-v : goal.decreases-loop-v
 decreases-loop-v l = l.t.nodes - l.v

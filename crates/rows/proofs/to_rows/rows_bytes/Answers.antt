@@ -11,7 +11,7 @@ use Rattle.rows.proofs.to_rows.rows_bytes.Reads
 use Rattle.rows.proofs.to_rows.rows_bytes.Tie
 
 abbrev In-Accepted : Type 0
-In-Accepted = Lts.After-known_told2 Tie.the-claims Reads.Pre Reads.Post Tie.handed_clauses
+In-Accepted = Lts.Past-After-known_told2 Tie.the-claims Reads.Pre Reads.Post Tie.handed_clauses
 
 -- what reading found where it accepted
 reading : (c : In-Accepted) → let bytes = c.args.sheet.now in (read_number bytes ≡ 0) × (c.in-Accepted.t ≡ trailer_at bytes)

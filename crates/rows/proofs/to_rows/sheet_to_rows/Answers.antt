@@ -11,7 +11,7 @@ use Rattle.rows.proofs.to_rows.sheet_to_rows.Reads
 use Rattle.rows.proofs.to_rows.sheet_to_rows.Tie
 
 abbrev In-Length : Type 0
-In-Length = Lts.After-known_told2 Tie.the-claims Reads.Pre Reads.Post Tie.handed_clauses
+In-Length = Lts.Past-After-known_told2 Tie.the-claims Reads.Pre Reads.Post Tie.handed_clauses
 
 -- what measuring answered
 measured : (c : In-Length) → text_measured c.args.sheet.now ≡ Length c.in-Length.size

@@ -14,7 +14,7 @@ use Rattle.sheet_fields.proofs.counts.counts.Reads
 use Rattle.sheet_fields.proofs.counts.counts.Tie
 
 abbrev In-Accepted : Type 0
-In-Accepted = Lts.After-known_told2 Tie.the-claims Reads.Pre Reads.Post
+In-Accepted = Lts.Past-After-known_told2 Tie.the-claims Reads.Pre Reads.Post
 
 -- what reading found where it accepted
 passed : (c : In-Accepted) → tested c.args.sheet.now ≡ Accepted c.in-Accepted.t

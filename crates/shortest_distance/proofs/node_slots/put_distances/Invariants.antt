@@ -11,7 +11,7 @@ use Rattle.shortest_distance.proofs.Areas.{sets-distance}
 use Rattle.shortest_distance.proofs.node_slots.put_distances.Given as goal
 
 abbrev pub invariant-loop-v : goal.invariant-loop-v
-invariant-loop-v l = (l.v ≤ l.count) × (length l.res ≡ length l.initial.result) × (l.res ≡ sets l.initial.result 0 (bytes_of_all (distance_words l.work l.v)))
+invariant-loop-v l = (l.v ≤ l.count) × (length l.res ≡ length l.initial.res) × (l.res ≡ sets l.initial.res 0 (bytes_of_all (distance_words l.work l.v)))
 
 abbrev pub decreases-loop-v : goal.decreases-loop-v
 decreases-loop-v l = l.count - l.v

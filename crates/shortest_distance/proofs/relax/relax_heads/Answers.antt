@@ -60,7 +60,7 @@ next c = subst (λ (k : Link). k.nextstate < c.args.nodes) (sym c.link_at-k.ensu
 
 -- front's flag cleared and front moved: the queue without its head
 taken : (c : After-dequeue_cleared-queue) → c.dequeue_cleared-queue.result ≡ dequeued c.loop-turn.queue
-taken c = c.dequeue_cleared-queue.ensures ∙ cleared-dequeued c.loop-turn.queue (filled c.before.before.before.before.before.before.before.before.before)
+taken c = c.dequeue_cleared-queue.ensures ∙ cleared-dequeued c.loop-turn.queue (filled c.before.before.before.before.before.before.before.before)
 
 pub loop-turn-init : goal.loop-turn-init
 loop-turn-init c =
@@ -77,10 +77,10 @@ ended c e =
     ap (λ (s : State). s.work) (sym (heads-end args.sheet.now args.links (record { work = turn.work; queue = turn.queue }) (args.nodes - turn.turn) e) ∙ turn.invariant.3)
 
 pub returns-in_default : goal.returns-in_default
-returns-in_default c = ended c.before.before.before.before (ap (empty_from c.loop-turn.queue.front) c.in_default.is)
+returns-in_default c = ended c.before.before.before (ap (empty_from c.loop-turn.queue.front) c.in_default.is)
 
 pub returns-then-back-front : goal.returns-then-back-front
-returns-then-back-front c = ended c.before.before.before.before.before.before (ap (empty_from c.loop-turn.queue.front) c.in-At.is ∙ lt-ltb _ _ c.if-back-front.true)
+returns-then-back-front c = ended c.before.before.before.before (ap (empty_from c.loop-turn.queue.front) c.in-At.is ∙ lt-ltb _ _ c.if-back-front.true)
 
 pub overflow_cast-v : goal.overflow_cast-v
 overflow_cast-v c = omega (arith, node c.before)
@@ -118,13 +118,13 @@ bounds-queue-v c = omega (arith, node c.before.before.before.before.before.befor
 pub next_front-next-requires : goal.next_front-next-requires
 next_front-next-requires c =
     let turn = c.loop-turn in
-    filled-bound turn.queue.front _ turn.queue.back c.in-At.is (valid-ends turn.queue turn.invariant.2.valid) (filled c.before.before.before.before.before.before.before.before)
+    filled-bound turn.queue.front _ turn.queue.back c.in-At.is (valid-ends turn.queue turn.invariant.2.valid) (filled c.before.before.before.before.before.before.before)
 
 pub dequeue_cleared-queue-requires : goal.dequeue_cleared-queue-requires
 dequeue_cleared-queue-requires c =
     let q = c.loop-turn.queue in
     let sound = c.loop-turn.invariant.2 in (
-      get_or-set_same q.flags q.front false false (omega (arith, node c.before.before.before.before.before.before.before.before.before, sound.few, sound.full)),
+      get_or-set_same q.flags q.front false false (omega (arith, node c.before.before.before.before.before.before.before.before, sound.few, sound.full)),
       c.next_front-next.ensures ∙ ap (λ (b : Back). next_front q.front b (set q.flags q.front false)) (sym c.in-At.is),
     )
 
@@ -134,7 +134,7 @@ loop-i-init c =
     let args = c.args in
     let turn = c.loop-turn in
     let bytes = args.sheet.now in
-    let sound = head-taken bytes args.links args.nodes (record { work = turn.work; queue = turn.queue }) turn.invariant.2 (filled c.before.before.before.before.before.before.before.before.before.before) in
+    let sound = head-taken bytes args.links args.nodes (record { work = turn.work; queue = turn.queue }) turn.invariant.2 (filled c.before.before.before.before.before.before.before.before.before) in
     (search rules, refl, subst (Sound bytes args.links args.nodes turn.work) (sym (taken c.before)) sound, refl)
 
 pub overflow_add-l : goal.overflow_add-l
@@ -178,7 +178,7 @@ loop-turn-preserved c =
     let last : State = record { work = inner.work; queue = inner.queue } in
     let all : inner.i ≡ c.word-count.result = omega arith in
     let made = head-made bytes args.links old _ _ _ (c.as_weight-d.ensures ∙ ap weight_in c.distance_at.ensures) (all ∙ c.word-count.ensures) (taken c.before.before.before) last inner.invariant.3 in
-    let next = heads-again bytes args.links old args.nodes turn.turn _ last c.loop-turn-test.true (filled c.before.before.before.before.before.before.before.before.before.before.before.before) turn.invariant.2 made turn.invariant.3 in
+    let next = heads-again bytes args.links old args.nodes turn.turn _ last c.loop-turn-test.true (filled c.before.before.before.before.before.before.before.before.before.before.before) turn.invariant.2 made turn.invariant.3 in
     (search rules, inner.invariant.1 ∙ turn.invariant.1, next.0, next.1)
 
 pub returns : goal.returns

@@ -98,7 +98,7 @@ distance_at-requires c = let f = few c.before.before.before.before.before.before
 
 pub returns-then-not-is_reached : goal.returns-then-not-is_reached
 returns-then-not-is_reached c =
-    let root = c.before.before.before.before.before.before.before.before.before.before.before.before.before.before.before.before.before.before.before.before.before in
+    let root = c.before.before.before.before.before.before.before.before.before.before.before.before.before.before.before.before.before.before.before.before in
     let args = root.args in
     let old = c.measure.new.part in
     let part = c.reverse.new.part in
@@ -109,7 +109,7 @@ returns-then-not-is_reached c =
 
 pub overflow_add-end : goal.overflow_add-end
 overflow_add-end c =
-    let root = c.before.before.before.before.before.before.before.before.before.before.before.before.before.before.before.before.before.before in
+    let root = c.before.before.before.before.before.before.before.before.before.before.before.before.before.before.before.before.before in
     let args = root.args in
     let old = c.measure.new.part in
     let part = c.reverse.new.part in
@@ -121,7 +121,7 @@ overflow_add-links c = let f = few c.before.before.before.before.before.before.b
 
 pub n_shortest_path-c-requires : goal.n_shortest_path-c-requires
 n_shortest_path-c-requires c =
-    let root = c.before.before.before.before.before.before.before.before.before.before.before.before.before.before.before.before.before.before.before in
+    let root = c.before.before.before.before.before.before.before.before.before.before.before.before.before.before.before.before.before.before in
     let args = root.args in
     let old = c.measure.new.part in
     let part = c.reverse.new.part in
@@ -130,7 +130,7 @@ n_shortest_path-c-requires c =
 
 pub write_list-requires : goal.write_list-requires
 write_list-requires c =
-    let root = c.before.before.before.before.before.before.before.before.before.before.before.before.before.before.before.before.before.before.before.before.before.before.before.before.before.before in
+    let root = c.before.before.before.before.before.before.before.before.before.before.before.before.before.before.before.before.before.before.before.before.before.before.before.before.before in
     let args = root.args in
     let old = c.measure.new.part in
     let part = c.reverse.new.part in
@@ -146,7 +146,7 @@ shape_of-part c = c.write_list.auto.part ∙ c.n_shortest_path-c.auto.part ∙ c
 
 pub returns : goal.returns
 returns c =
-    let root = c.before.before.before.before.before.before.before.before.before.before.before.before.before.before.before.before.before.before.before.before.before.before.before.before.before.before.before.before.before.before.before in
+    let root = c.before.before.before.before.before.before.before.before.before.before.before.before.before.before.before.before.before.before.before.before.before.before.before.before.before.before.before.before.before.before in
     let args = root.args in
     let old = c.measure.new.part in
     let part = c.reverse.new.part in

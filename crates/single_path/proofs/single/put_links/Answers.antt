@@ -27,29 +27,29 @@ on c = sym c.parent_at.ensures ∙ c.in-By.is
 step : (c : In-By-2) → let way = way_back c.args.work.now in let v = c.loop-link.v in let u = c.in-By.source in
     (way v v ≡ c.in-By.link ∷ way u u) × (u < v)
 step c =
-    let root = c.before.before.before.before.before.before.before in
+    let root = c.before.before.before.before.before.before in
     let v = c.loop-link.v in
     let below : v ≤ root.args.end = omega (arith, c.loop-link.invariant.0) in
     (way_step root.args.work.now root.args.end root.requires.traced.falls v c.in-By.link c.in-By.source below (on c), root.requires.traced.falls.sources v c.in-By.link c.in-By.source below (on c))
 
 pub put_link-requires : goal.put_link-requires
 put_link-requires c =
-    let root = c.before.before.before.before.before.before.before.before.before.before in
+    let root = c.before.before.before.before.before.before.before.before in
     let turn = c.loop-link in
-    let s = step c.before.before.before in
-    (root.requires.traced.among turn.v c.in-By.link c.in-By.source (omega (arith, turn.invariant.0)) (on c.before.before.before), omega (arith, turn.invariant.2, ap length s.0))
+    let s = step c.before.before in
+    (root.requires.traced.among turn.v c.in-By.link c.in-By.source (omega (arith, turn.invariant.0)) (on c.before.before), omega (arith, turn.invariant.2, ap length s.0))
 
 pub overflow_add-i : goal.overflow_add-i
-overflow_add-i c = omega (arith, (step c.before.before.before.before.before.before).1, c.loop-link.invariant.0)
+overflow_add-i c = omega (arith, (step c.before.before.before.before.before).1, c.loop-link.invariant.0)
 
 pub loop-link-smaller : goal.loop-link-smaller
-loop-link-smaller c = (step c.before.before.before.before.before.before).1
+loop-link-smaller c = (step c.before.before.before.before.before).1
 
 pub loop-link-preserved : goal.loop-link-preserved
 loop-link-preserved c =
     let args = c.args in
     let turn = c.loop-link in
-    let s = step c.before.before.before.before.before.before in
+    let s = step c.before.before.before.before.before in
     let call = c.put_link in
     let size = call.auto.res in (
       omega (arith, s.1, turn.invariant.0),
@@ -60,7 +60,7 @@ loop-link-preserved c =
 
 pub returns : goal.returns
 returns c =
-    let root = c.before.before.before.before.before.before.before.before in
+    let root = c.before.before.before.before.before.before.before in
     let turn = c.loop-link in
     let none = way_end root.args.work.now root.args.end root.requires.traced.falls turn.v (sym c.parent_at.ensures ∙ c.in_default.is) in
     links_end turn.result root.args.sheet.now turn.i _ none ∙ turn.invariant.3

@@ -27,24 +27,24 @@ on c = sym c.parent_at.ensures ∙ c.in-By.is
 step : (c : In-By-2) → let way = way_back c.args.work.now in let v = c.loop-link.v in let u = c.in-By.source in
     (way v v ≡ c.in-By.link ∷ way u u) × (u < v)
 step c =
-    let root = c.before.before.before.before.before.before in
+    let root = c.before.before.before.before.before in
     let v = c.loop-link.v in
     let below : v ≤ root.args.end = omega (arith, c.loop-link.invariant.0) in
     (way_step root.args.work.now root.args.end root.requires.falls v c.in-By.link c.in-By.source below (on c), root.requires.falls.sources v c.in-By.link c.in-By.source below (on c))
 
 pub put_word-requires : goal.put_word-requires
-put_word-requires c = let turn = c.loop-link in omega (arith, turn.invariant.2, ap length (step c.before.before.before).0)
+put_word-requires c = let turn = c.loop-link in omega (arith, turn.invariant.2, ap length (step c.before.before).0)
 
 pub overflow_add-next : goal.overflow_add-next
-overflow_add-next c = let turn = c.loop-link in omega (arith, turn.invariant.2, ap length (step c.before.before.before.before.before.before).0)
+overflow_add-next c = let turn = c.loop-link in omega (arith, turn.invariant.2, ap length (step c.before.before.before.before.before).0)
 
 pub loop-link-smaller : goal.loop-link-smaller
-loop-link-smaller c = (step c.before.before.before.before.before.before).1
+loop-link-smaller c = (step c.before.before.before.before.before).1
 
 pub loop-link-preserved : goal.loop-link-preserved
 loop-link-preserved c =
     let turn = c.loop-link in
-    let s = step c.before.before.before.before.before.before in
+    let s = step c.before.before.before.before.before in
     let call = c.put_word in
     let size = call.auto.bytes in (
       omega (arith, s.1, turn.invariant.0),
@@ -55,7 +55,7 @@ loop-link-preserved c =
 
 pub returns : goal.returns
 returns c =
-    let root = c.before.before.before.before.before.before.before in
+    let root = c.before.before.before.before.before.before in
     let turn = c.loop-link in
     let none = way_end root.args.work.now root.args.end root.requires.falls turn.v (sym c.parent_at.ensures ∙ c.in_default.is) in
     numbers-end turn.result turn.next _ none ∙ turn.invariant.3

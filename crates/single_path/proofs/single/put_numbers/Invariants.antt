@@ -15,8 +15,8 @@ use Rattle.single_path.proofs.single.put_numbers.Given as goal
 
 abbrev pub invariant-loop-link : goal.invariant-loop-link
 invariant-loop-link l =
-    (l.v ≤ l.end) × (length l.res ≡ length l.initial.result) × (l.next + 4 * length (way_back l.work l.v l.v) ≤ length l.res)
-    × (sets l.res l.next (bytes_of_all (way_back l.work l.v l.v)) ≡ sets l.initial.result l.at (bytes_of_all (way_back l.work l.end l.end)))
+    (l.v ≤ l.end) × (length l.res ≡ length l.initial.res) × (l.next + 4 * length (way_back l.work l.v l.v) ≤ length l.res)
+    × (sets l.res l.next (bytes_of_all (way_back l.work l.v l.v)) ≡ sets l.initial.res l.at (bytes_of_all (way_back l.work l.end l.end)))
 
 abbrev pub decreases-loop-link : goal.decreases-loop-link
 decreases-loop-link l = l.v

@@ -13,8 +13,8 @@ use Rattle.single_path.proofs.single.put_states.Given as goal
 
 abbrev pub invariant-loop-i : goal.invariant-loop-i
 invariant-loop-i l =
-    (l.i ≤ l.count) × (length l.res ≡ length l.initial.result)
-    × (sets l.res (l.at + 12 + 12 * l.i) (bytes_of_all (way_states (l.count - l.i))) ≡ sets l.initial.result (l.at + 12) (bytes_of_all (way_states l.count)))
+    (l.i ≤ l.count) × (length l.res ≡ length l.initial.res)
+    × (sets l.res (l.at + 12 + 12 * l.i) (bytes_of_all (way_states (l.count - l.i))) ≡ sets l.initial.res (l.at + 12) (bytes_of_all (way_states l.count)))
 
 abbrev pub decreases-loop-i : goal.decreases-loop-i
 decreases-loop-i l = l.count - l.i

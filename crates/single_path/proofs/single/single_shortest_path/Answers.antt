@@ -23,7 +23,7 @@ best_end-requires c =
 pub returns-in_default : goal.returns-in_default
 returns-in_default c =
     let args = c.args in
-    let r = run c.before.before.before.before.before.before.before.before.before.before.before in
+    let r = run c.before.before.before.before.before.before.before.before.before.before in
     let found = c.best_end in
     let listed = none-for args.sheet.now args.work.now _ args.t.links args.t.nodes r found.result found.ensures c.in_default.is args.res.now _ _ c.put_none.ensures in record {
       value = listed.0;
@@ -37,7 +37,7 @@ single_shortest_path_backtrace-requires c =
     let args = c.args in
     let found = c.best_end in
     let end = c.end-1.given in
-    let r = traced-for args.sheet.now args.work.now _ args.t.links args.t.nodes (run c.before.before.before.before.before.before.before.before.before.before) found.result found.ensures end.0.0 end.1 in record {
+    let r = traced-for args.sheet.now args.work.now _ args.t.links args.t.nodes (run c.before.before.before.before.before.before.before.before) found.result found.ensures end.0.0 end.1 in record {
       traced = (r.0, r.1);
       end_lt_node_limit = r.2;
     }
@@ -45,7 +45,7 @@ single_shortest_path_backtrace-requires c =
 pub returns : goal.returns
 returns c =
     let args = c.args in
-    let r = run c.before.before.before.before.before.before.before.before.before.before.before.before.before in
+    let r = run c.before.before.before.before.before.before.before.before.before.before.before in
     let found = c.best_end in
     let end = c.end-1.given in
     let whole = c.type_inv.sheet in

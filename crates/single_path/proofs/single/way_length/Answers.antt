@@ -16,26 +16,26 @@ In-By-2 = Lts.After-source Tie.the-claims Reads.Pre Reads.Post goal.the-invarian
 -- the parent's source is below the node
 fall : (c : In-By-2) → c.in-By.source < c.loop-source.v
 fall c =
-    let root = c.before.before.before.before.before in
+    let root = c.before.before.before.before in
     let turn = c.loop-source in
     root.requires.sources turn.v c.in-By.field-0 c.in-By.source (omega (arith, turn.invariant.0)) (sym c.parent_at.ensures ∙ c.in-By.is)
 
 pub overflow_add-n : goal.overflow_add-n
-overflow_add-n c = omega (arith, fall c.before.before, c.loop-source.invariant.0)
+overflow_add-n c = omega (arith, fall c.before, c.loop-source.invariant.0)
 
 pub loop-source-smaller : goal.loop-source-smaller
-loop-source-smaller c = fall c.before.before
+loop-source-smaller c = fall c.before
 
 pub loop-source-preserved : goal.loop-source-preserved
 loop-source-preserved c =
-    let root = c.before.before.before.before.before.before.before in
+    let root = c.before.before.before.before.before in
     let turn = c.loop-source in
     let step = way_step root.args.work.now root.args.end root.requires turn.v c.in-By.field-0 c.in-By.source (omega (arith, turn.invariant.0)) (sym c.parent_at.ensures ∙ c.in-By.is) in
-    (omega (arith, fall c.before.before, turn.invariant.0), omega (arith, ap length step, turn.invariant.1))
+    (omega (arith, fall c.before, turn.invariant.0), omega (arith, ap length step, turn.invariant.1))
 
 pub returns : goal.returns
 returns c =
-    let root = c.before.before.before.before.before.before in
+    let root = c.before.before.before.before.before in
     let turn = c.loop-source in
     let none = way_end root.args.work.now root.args.end root.requires turn.v (sym c.parent_at.ensures ∙ c.in_default.is) in record {
       value = omega (arith, ap length none, turn.invariant.1);
