@@ -76,7 +76,7 @@ loop-turn-preserved c =
     let s : Words = record { part = turn.part; counts = turn.c } in
     let on = stopped-not args.n s c.if-c-eq0.false c.if-n-c.false in
     let step = c.step-c.ensures in
-    turns-on args.p args.n args.most args.allowed _ turn.turn s _ turn.invariant c.loop-turn-test.true on (λ i. record { part = step.1 i; counts = step.0 i }) c.step-c.auto.part
+    turns-on args.p args.n args.most args.allowed _ turn.turn s _ turn.invariant c.loop-turn-test.true on (λ i. record { part = step.part_after i; counts = step.value i }) c.step-c.auto.part
 
 pub shape_of-part : goal.shape_of-part
 shape_of-part c = c.loop-turn.invariant.long ∙ c.put-c.auto.part
