@@ -34,7 +34,7 @@ loop-i-preserved c =
       omega arith,
       call.auto.res ∙ turn.invariant.2,
       omega (arith, call.ensures.value, turn.invariant.3, count, ap (mark_count part) back),
-      stored_next args.res.now turn.result call.new.res args.at (input_words args.part.now (turn.i - 1)) (repeat_words part turn.i) turn.next turn.invariant.4 call.ensures.res_after (omega (arith, turn.invariant.3, length-inputs part (turn.i - 1)))
+      stored_next args.res.now turn.res call.new.res args.at (input_words args.part.now (turn.i - 1)) (repeat_words part turn.i) turn.next turn.invariant.4 call.ensures.res_after (omega (arith, turn.invariant.3, length-inputs part (turn.i - 1)))
           ∙ ap (λ (l : List ℕ). sets args.res.now args.at (bytes_of_all l)) (sym (inputs-next part turn.i turn.invariant.0) ∙ ap (input_words args.part.now) back),
     )
 

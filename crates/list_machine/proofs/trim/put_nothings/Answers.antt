@@ -20,7 +20,7 @@ loop-k-preserved c =
     let call = c.put_word in (
       omega arith,
       call.auto.bytes ∙ turn.invariant.1,
-      nothings-next args.res.now turn.result call.new.bytes args.at turn.k turn.invariant.2 call.ensures,
+      nothings-next args.res.now turn.res call.new.bytes args.at turn.k turn.invariant.2 call.ensures,
     )
 
 pub returns : goal.returns
