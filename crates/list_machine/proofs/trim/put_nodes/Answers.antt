@@ -1,9 +1,8 @@
 use mathlib.Core.List.{[], ◌∷◌, List}
 use borrow.Author.Rules.{rules}
 use mathlib.Core.Path.{◌≡◌, sym, ap, ◌∙◌}
-use Prim.Native.Nat.{ℕ, ◌+◌, ◌-◌, ◌*◌, ◌≤◌}
+use Prim.Native.Nat.{ℕ, ◌+◌, ◌*◌}
 use native.Mathlib.Omega.{arith}
-use lib.ListN.{length}
 use lib.Seq.{sets}
 use Rattle.sheet.specs.Words.{bytes_of_all}
 use Rattle.list_machine.specs.TrimWords.{node_words}

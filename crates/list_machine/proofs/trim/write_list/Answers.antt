@@ -6,7 +6,6 @@ use lib.ListN.{length}
 use Rattle.list_machine.specs.TrimWords.{mark_count, states, stated, kept_count, Writable}
 use Rattle.list_machine.proofs.Marks.{kept-few, new-writable}
 use Rattle.list_machine.proofs.AnswerByRoom.{short-answer, made-answer}
-use borrow.Author.Rules.{rules}
 use Rattle.list_machine.proofs.trim.write_list.Goals as goal
 use Rattle.list_machine.proofs.trim.write_list.Lts
 use Rattle.list_machine.proofs.trim.write_list.Reads

@@ -1,6 +1,5 @@
 use native.Mathlib.Omega.{arith}
 use Rattle.n_shortest.proofs.EntryWords.{inside-half, rank-half}
-use borrow.Author.Rules.{rules}
 use Rattle.n_shortest.proofs.entry.rank.Goals as goal
 
 pub overflow_add-nodes : goal.overflow_add-nodes

@@ -4,7 +4,6 @@ use native.Mathlib.Omega.{arith}
 use lib.Ieee.{binary32, to_bits}
 use lib.ListN.{set, length-set}
 use Rattle.tropical_weight.specs.Single.{number_bits}
-use borrow.Author.Rules.{rules}
 use Rattle.n_shortest.proofs.entry.store.Goals as goal
 
 pub bounds-part-at-2 : goal.bounds-part-at-2

@@ -2,8 +2,7 @@ use mathlib.Core.Path.{◌≡◌, refl, sym, ap, ◌∙◌, subst}
 use Prim.Native.Nat.{◌-◌}
 use native.Mathlib.Omega.{arith}
 use Rattle.n_shortest.specs.SearchWords.{Words, stopped_w, after_w, begun_w, Ready}
-use Rattle.n_shortest.proofs.Taking.{after_none, after-stopped, Turns, turns-on, stopped-heap, stopped-list, stopped-not}
-use borrow.Author.Rules.{rules}
+use Rattle.n_shortest.proofs.Taking.{after_none, after-stopped, turns-on, stopped-heap, stopped-list, stopped-not}
 use Rattle.n_shortest.proofs.n_best.n_shortest_path.Goals as goal
 use Rattle.n_shortest.proofs.n_best.n_shortest_path.Lts
 use Rattle.n_shortest.proofs.n_best.n_shortest_path.Reads

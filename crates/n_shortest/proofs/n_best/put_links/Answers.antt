@@ -6,8 +6,7 @@ use lib.ListN.{length}
 use Rattle.n_shortest.specs.declared.entry.Entry.TheVariants.{Half}
 use Rattle.search_slots.specs.Slots.{next_word}
 use Rattle.n_shortest.specs.SearchWords.{Words, put_w, links_w}
-use Rattle.n_shortest.proofs.Linking.{Going, Next, next, links_end, links-none, going_on}
-use borrow.Author.Rules.{rules}
+use Rattle.n_shortest.proofs.Linking.{Next, next, links_end, links-none, going_on}
 use Rattle.n_shortest.proofs.n_best.put_links.Goals as goal
 use Rattle.n_shortest.proofs.n_best.put_links.Lts
 use Rattle.n_shortest.proofs.n_best.put_links.Reads

@@ -9,7 +9,6 @@ use lib.ListN.{get_or, length-set}
 use Rattle.search_slots.specs.Slots.{visits_word}
 use Rattle.n_shortest.specs.SearchWords.{Words, Expands, Takes}
 use Rattle.n_shortest.proofs.Taking.{sized-visited, expands-visited, taken-over, taken-expanded, taken-finished}
-use borrow.Author.Rules.{rules}
 use Rattle.n_shortest.proofs.n_best.take.Goals as goal
 
 -- what taking a finished one, and a half-built one, asks
