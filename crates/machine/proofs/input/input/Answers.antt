@@ -24,14 +24,14 @@ use Rattle.machine.proofs.input.input.Tie
 abbrev After-links_climb : Type 0
 After-links_climb = Lts.After-links_climb Tie.the-claims Reads.Pre Reads.Post
 
-abbrev In-Accepted-2 : Type 0
-In-Accepted-2 = Lts.After-read2 Tie.the-claims Reads.Pre Reads.Post
+abbrev In-Accepted : Type 0
+In-Accepted = Lts.Past-After-known_told Tie.the-claims Reads.Pre Reads.Post
 
 abbrev Else-links-gt-LINK_LIMIT : Type 0
 Else-links-gt-LINK_LIMIT = Lts.Else2 Tie.the-claims Reads.Pre Reads.Post
 
 -- what reading found where it accepted
-reading : (c : In-Accepted-2) → (read_number c.args.sheet.now ≡ 0) × (c.in-Accepted.t ≡ trailer_at c.args.sheet.now)
+reading : (c : In-Accepted) → (read_number c.args.sheet.now ≡ 0) × (c.in-Accepted.t ≡ trailer_at c.args.sheet.now)
 reading c = accepted-number c.args.sheet.now (read_number c.args.sheet.now) c.in-Accepted.t (sym c.read-read.ensures ∙ c.in-Accepted.is)
 
 -- the limits, where both tests passed
