@@ -4,7 +4,7 @@ use Prim.Native.Nat.{◌+◌, ◌*◌, ◌≤◌, ◌<◌}
 use native.Mathlib.Nat.{le_of_eq}
 use lib.Dec.{leb}
 use lib.ListN.{length}
-use borrow.Author.Tests.{not-true, not-false, lt-leb, le-leb}
+use borrow.Author.Tests.{lt-leb, le-leb}
 use Rattle.tropical_weight.specs.Limits.{node_limit, link_limit}
 use Rattle.sheet.specs.declared.read.Tested.TheVariants.{Accepted}
 use Rattle.sheet.specs.declared.tr.Trailer.{Trailer}
@@ -15,7 +15,6 @@ use Rattle.sheet.specs.Records.{trailer_at}
 use Rattle.machine.specs.Input.{counts_fit, links_climb}
 use Rattle.machine.specs.Answers.{nodes_climb}
 use Rattle.machine.proofs.Testing.{refused-reading, accepted-number, input-5, input-6, input-passes, counts-are, counts-total, climb-same, in-sheet}
-use borrow.Author.Rules.{rules}
 use Rattle.machine.proofs.input.input.Goals as goal
 use Rattle.machine.proofs.input.input.Lts
 use Rattle.machine.proofs.input.input.Reads
@@ -24,14 +23,14 @@ use Rattle.machine.proofs.input.input.Tie
 abbrev After-links_climb : Type 0
 After-links_climb = Lts.After-links_climb Tie.the-claims Reads.Pre Reads.Post
 
-abbrev In-Accepted-2 : Type 0
-In-Accepted-2 = Lts.After-read2 Tie.the-claims Reads.Pre Reads.Post
+abbrev In-Accepted : Type 0
+In-Accepted = Lts.Past-After-known_told Tie.the-claims Reads.Pre Reads.Post
 
 abbrev Else-links-gt-LINK_LIMIT : Type 0
 Else-links-gt-LINK_LIMIT = Lts.Else2 Tie.the-claims Reads.Pre Reads.Post
 
 -- what reading found where it accepted
-reading : (c : In-Accepted-2) → (read_number c.args.sheet.now ≡ 0) × (c.in-Accepted.t ≡ trailer_at c.args.sheet.now)
+reading : (c : In-Accepted) → (read_number c.args.sheet.now ≡ 0) × (c.in-Accepted.t ≡ trailer_at c.args.sheet.now)
 reading c = accepted-number c.args.sheet.now (read_number c.args.sheet.now) c.in-Accepted.t (sym c.read-read.ensures ∙ c.in-Accepted.is)
 
 -- the limits, where both tests passed

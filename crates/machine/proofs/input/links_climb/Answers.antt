@@ -1,16 +1,15 @@
 use mathlib.Core.Path.{◌≡◌, refl, sym, ap, ◌∙◌}
-use mathlib.Core.Bool.{Bool, true}
 use mathlib.Core.List.{List}
-use Prim.Native.Nat.{ℕ, suc, ◌+◌, ◌-◌, ◌*◌, ◌≤◌, ◌<◌}
+use Prim.Native.Nat.{ℕ, suc, ◌+◌, ◌*◌, ◌≤◌, ◌<◌}
 use native.Mathlib.Numerals.{add-one}
 use native.Mathlib.Omega.{arith}
 use lib.Dec.{ltb}
-use borrow.Author.Tests.{not-true, not-false}
 use Rattle.sheet.specs.Below.{all_below, sum_below}
 use Rattle.sheet.specs.Words.{word}
 use Rattle.sheet.proofs.Below.{all_below-more, all_below-fails}
 use Rattle.sheet.proofs.Below.{sum_mono}
 use borrow.Author.Rules.{rules}
+use Rattle.machine.proofs.input.links_climb.Invariants.{counts, climbing}
 use Rattle.machine.proofs.input.links_climb.Goals as goal
 use Rattle.machine.proofs.input.links_climb.Lts
 use Rattle.machine.proofs.input.links_climb.Reads
@@ -21,13 +20,6 @@ After-node_climbs = Lts.After-node_climbs Tie.the-claims Reads.Pre Reads.Post go
 
 abbrev After-word-count : Type 0
 After-word-count = Lts.After-word Tie.the-claims Reads.Pre Reads.Post goal.the-invariant-loop-v goal.the-decreases-loop-v
-
--- the link counts, and whether the links of node v climb
-abbrev counts : List ℕ → ℕ → ℕ → ℕ
-counts bytes links u = word bytes (16 * links + 12 * u)
-
-abbrev climbing : List ℕ → ℕ → ℕ → Bool
-climbing bytes links v = all_below (counts bytes links v) (λ i. ltb v (word bytes (16 * (sum_below v (counts bytes links) + i) + 12)))
 
 -- one node more, as the definition of the sum has it
 next-sum : (bytes : List ℕ) (links v : ℕ) → sum_below (suc v) (counts bytes links) ≡ sum_below v (counts bytes links) + counts bytes links v
