@@ -1,19 +1,12 @@
 // The tally of a replay: how many cases there were, and how many differ.
 ghost use Rattle.std.specs.Prelude.{◌≡◌, cond, ◌+◌, ◌^◌, ◌≤◌, ◌<◌};
 
-use libc::STDOUT_FILENO;
+use std::io;
 
 #[derive(Clone, Copy)]
 pub struct Tally {
     pub cases: u64,
     pub differ: u64,
-}
-
-// Prints words and a number as a line.
-fn print_line(words: &[u8], n: u64) {
-    io::write_all(STDOUT_FILENO, words);
-    io::print_decimal(STDOUT_FILENO, n);
-    io::write_all(STDOUT_FILENO, b"\n");
 }
 
 // The tally before any case.
@@ -26,7 +19,7 @@ pub fn none() -> Tally
     }
 }
 
-// Counts the case of a line, and prints the line's number where it does not hold.
+// The tally with one case more.
 pub fn counted(t: Tally, holds: bool) -> Tally
     requires { (t.differ ≤ t.cases) × (t.cases + 1 < 2 ^ 64) }
     ensures cases_value { result.cases ≡ t.cases + 1 }
@@ -40,15 +33,22 @@ pub fn counted(t: Tally, holds: bool) -> Tally
             differ: t.differ,
         };
     }
-    print_line(b"differs: line ", cases);
     Tally {
         cases,
         differ: t.differ + 1,
     }
 }
 
+// Prints the number of the line whose case was counted last, where it does not hold.
+pub fn tell(rt: &impl Print, t: Tally, holds: bool) -> io::Result<()> {
+    if holds {
+        return Ok(());
+    }
+    println!(rt; "differs: line {}", t.cases)
+}
+
 // Prints both counts, a line each.
-pub fn print(t: Tally) {
-    print_line(b"cases: ", t.cases);
-    print_line(b"differ: ", t.differ);
+pub fn print(rt: &impl Print, t: Tally) -> io::Result<()> {
+    println!(rt; "cases: {}", t.cases)?;
+    println!(rt; "differ: {}", t.differ)
 }

@@ -2,7 +2,8 @@
 // number of units, or that it is off the grid. The weights of case P7 are the first two. Then each
 // exponent's field from which on the shift is another.
 #![tactic(auto)]
-use libc::STDOUT_FILENO;
+
+use std::io;
 
 const PATTERNS: [u32; 28] = [
     0x4300_0000, // 128
@@ -36,43 +37,40 @@ const PATTERNS: [u32; 28] = [
 ];
 
 // A cost by its sign and its magnitude.
-fn print_cost(cost: i32) {
+fn print_cost(rt: &impl Print, cost: i32) -> io::Result<()> {
     if cost < 0 {
-        io::write_all(STDOUT_FILENO, b"-");
+        print!(rt; "-")?;
     }
-    io::print_decimal(STDOUT_FILENO, tropical_weight::magnitude(cost) as u64);
+    print!(rt; "{}", tropical_weight::magnitude(cost))
 }
 
 // The pattern, and its number of units where it is on the grid.
-fn print_weight(bits: u32) {
-    io::print_hex(STDOUT_FILENO, bits as u64, 8);
+fn print_weight(rt: &impl Print, bits: u32) -> io::Result<()> {
+    print!(rt; "{bits:08x}")?;
     if tropical_weight::on_grid(bits) {
-        io::write_all(STDOUT_FILENO, b" ");
-        print_cost(tropical_weight::cost(tropical_weight::from_bits(bits)));
-        io::write_all(STDOUT_FILENO, b"\n");
+        print!(rt; " ")?;
+        print_cost(rt, tropical_weight::cost(tropical_weight::from_bits(bits)))?;
+        println!(rt; "")
     } else {
-        io::write_all(STDOUT_FILENO, b" off the grid\n");
+        println!(rt; " off the grid")
     }
 }
 
-fn print_weights() {
+fn print_weights(rt: &impl Print) -> io::Result<()> {
     let mut i = 0usize;
     while i < 28 {
-        print_weight(PATTERNS[i]);
+        print_weight(rt, PATTERNS[i])?;
         i += 1;
     }
+    Ok(())
 }
 
-fn print_turn(exponent: u64, shift: u64) {
-    io::write_all(STDOUT_FILENO, b"from exponent ");
-    io::print_decimal(STDOUT_FILENO, exponent);
-    io::write_all(STDOUT_FILENO, b" shift ");
-    io::print_decimal(STDOUT_FILENO, shift);
-    io::write_all(STDOUT_FILENO, b"\n");
+fn print_turn(rt: &impl Print, exponent: u64, shift: u64) -> io::Result<()> {
+    println!(rt; "from exponent {exponent} shift {shift}")
 }
 
 // Each turn of the table.
-fn print_turns() {
+fn print_turns(rt: &impl Print) -> io::Result<()> {
     let shifts = tropical_weight::grid_shifts();
     // no shift
     let mut last = 0xffu8;
@@ -80,14 +78,15 @@ fn print_turns() {
     while exponent < 256 {
         let shift = shifts[exponent];
         if shift != last {
-            print_turn(exponent as u64, shift as u64);
+            print_turn(rt, exponent as u64, shift as u64)?;
         }
         last = shift;
         exponent += 1;
     }
+    Ok(())
 }
 
-fn main() {
-    print_weights();
-    print_turns();
+fn main(rt: HostRuntime) -> io::Result<()> {
+    print_weights(&rt)?;
+    print_turns(&rt)
 }

@@ -1,15 +1,14 @@
-use borrow.Author.Rules.{rules}
 use mathlib.Core.Path.{◌≡◌, sym, ap, ◌∙◌, subst}
-use mathlib.Core.Logic.{⊎_elim}
 use native.Mathlib.Omega.{arith}
 use borrow.Author.Count.{below_more}
 use borrow.Author.Tests.{lt-ltb, le-ltb, leb-true}
 use mathlib.Core.Bool.{Bool, cond}
-use Prim.Native.Nat.{ℕ, ◌-◌, ◌≤◌, ◌<◌}
+use Prim.Native.Nat.{ℕ}
 use lib.Dec.{T, ltb}
 use lib.ListN.{length, get_or}
 use Rattle.stored_cases.specs.Left.{result_mark}
 use Rattle.stored_cases.proofs.areas.result_left.Goals as goal
+use Rattle.stored_cases.proofs.areas.result_left.Goals.{then-at-bytes, else-at-bytes}
 
 pub returns-then-res-at : goal.returns-then-res-at
 returns-then-res-at c z = absurd (subst T (sym z) tt)
@@ -19,13 +18,15 @@ loop-at-preserved c =
     let a = c.args in
     let turn = c.loop-at in
     let joined : c.if-at-bytes.byte ≡ cond {A = ℕ} (ltb turn.at (length a.bytes.now)) (get_or a.bytes.now turn.at 0) result_mark =
-    ⊎_elim (λ w. w.2 ∙ sym (ap {B = ℕ} (λ (b : Bool). cond b (get_or a.bytes.now turn.at 0) result_mark) (lt-ltb turn.at (length a.bytes.now) w.0.taken)))
-    (λ w. w.1 ∙ sym (ap {B = ℕ} (λ (b : Bool). cond b (get_or a.bytes.now turn.at 0) result_mark) (le-ltb turn.at (length a.bytes.now) w.0.left))) c.if-at-bytes.branch in
-    (omega (arith, c.loop-at-test.true), below_more (λ i. get_or a.result.now i 0 ≡ cond (ltb i (length a.bytes.now)) (get_or a.bytes.now i 0) result_mark) turn.at turn.invariant.1 (c.if-res-at.false ∙ joined))
+    elim c.if-at-bytes.branch [
+      | then-at-bytes w ↦ w.byte-is ∙ sym (ap {B = ℕ} (λ (b : Bool). cond b (get_or a.bytes.now turn.at 0) result_mark) (lt-ltb turn.at (length a.bytes.now) w.if-at-bytes.true))
+      | else-at-bytes w ↦ w.byte-is ∙ sym (ap {B = ℕ} (λ (b : Bool). cond b (get_or a.bytes.now turn.at 0) result_mark) (le-ltb turn.at (length a.bytes.now) w.if-at-bytes.false))
+    ] in
+    (omega (arith, c.loop-at-test.true), below_more (λ i. get_or a.res.now i 0 ≡ cond (ltb i (length a.bytes.now)) (get_or a.bytes.now i 0) result_mark) turn.at turn.invariant.1 (c.if-res-at.false ∙ joined))
 
 pub returns : goal.returns
 returns c z =
     let a = c.args in
     let turn = c.loop-at in
-    let all : turn.at ≡ length a.result.now = omega (arith, turn.invariant.0, c.loop-at-test.false) in
+    let all : turn.at ≡ length a.res.now = omega (arith, turn.invariant.0, c.loop-at-test.false) in
     (omega (arith, all, leb-true (length a.bytes.now) turn.at z), λ i b. turn.invariant.1 i (omega (arith, all, b)))

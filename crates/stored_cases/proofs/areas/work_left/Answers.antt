@@ -1,15 +1,14 @@
-use borrow.Author.Rules.{rules}
 use mathlib.Core.Path.{◌≡◌, sym, ap, ◌∙◌, subst}
-use mathlib.Core.Logic.{⊎_elim}
 use native.Mathlib.Omega.{arith}
 use borrow.Author.Count.{below_more}
 use borrow.Author.Tests.{lt-ltb, le-ltb, leb-true}
 use mathlib.Core.Bool.{Bool, cond}
-use Prim.Native.Nat.{ℕ, ◌-◌, ◌≤◌, ◌<◌}
+use Prim.Native.Nat.{ℕ}
 use lib.Dec.{T, ltb}
 use lib.ListN.{length, get_or}
 use Rattle.stored_cases.specs.Left.{work_mark}
 use Rattle.stored_cases.proofs.areas.work_left.Goals as goal
+use Rattle.stored_cases.proofs.areas.work_left.Goals.{then-at-zeros, else-at-zeros}
 
 pub returns-then-work-at : goal.returns-then-work-at
 returns-then-work-at c z = absurd (subst T (sym z) tt)
@@ -19,8 +18,10 @@ loop-at-preserved c =
     let a = c.args in
     let turn = c.loop-at in
     let joined : c.if-at-zeros.word ≡ cond {A = ℕ} (ltb turn.at a.zeros) 0 work_mark =
-    ⊎_elim (λ w. w.1 ∙ sym (ap {B = ℕ} (λ (b : Bool). cond b 0 work_mark) (lt-ltb turn.at a.zeros w.0.taken)))
-    (λ w. w.1 ∙ sym (ap {B = ℕ} (λ (b : Bool). cond b 0 work_mark) (le-ltb turn.at a.zeros w.0.left))) c.if-at-zeros.branch in
+    elim c.if-at-zeros.branch [
+      | then-at-zeros w ↦ w.word-is ∙ sym (ap {B = ℕ} (λ (b : Bool). cond b 0 work_mark) (lt-ltb turn.at a.zeros w.if-at-zeros.true))
+      | else-at-zeros w ↦ w.word-is ∙ sym (ap {B = ℕ} (λ (b : Bool). cond b 0 work_mark) (le-ltb turn.at a.zeros w.if-at-zeros.false))
+    ] in
     (omega (arith, c.loop-at-test.true), below_more (λ i. get_or a.work.now i 0 ≡ cond (ltb i a.zeros) 0 work_mark) turn.at turn.invariant.1 (c.if-work-at.false ∙ joined))
 
 pub returns : goal.returns

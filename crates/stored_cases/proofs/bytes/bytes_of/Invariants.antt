@@ -1,8 +1,6 @@
-use borrow.Author.Rules.{rules}
-use mathlib.Core.Path.{◌≡◌, sym}
+use mathlib.Core.Path.{◌≡◌}
 use Prim.Native.Nat.{◌-◌, ◌≤◌}
 use lib.ListN.{length}
-use lib.Seq.{length-take-le}
 use Rattle.stored_cases.proofs.bytes.bytes_of.Given as goal
 
 abbrev pub invariant-loop-at : goal.invariant-loop-at

@@ -1,6 +1,5 @@
 use Prim.Native.Nat.{◌-◌, ◌≤◌}
 use lib.ListN.{length}
-use borrow.Author.Rules.{rules}
 use Rattle.stored_cases.proofs.lines.field.Given as goal
 
 abbrev pub invariant-loop-at : goal.invariant-loop-at
