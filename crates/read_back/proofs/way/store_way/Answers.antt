@@ -32,10 +32,10 @@ put_number-count-requires c =
     let a = r.args in
     let turn = c.loop-q in
     let g = way-goes a.res.now a.s.nodes a.s.links a.s.before a.s.last turn.q _ c.loop-q-test.true turn.invariant.1 in
-    let number = c.number_of_lem.ensures ∙ ap (number_at a.res.now a.s.nodes a.s.links) c.only_link-only.ensures in
+    let number = c.number_of.ensures ∙ ap (number_at a.res.now a.s.nodes a.s.links) c.only_link-only.ensures in
     let rest = run_in (way_in a.res.now a.s (next_at a.res.now (only_link a.res.now a.s.nodes a.s.links a.s.before a.s.last turn.q))) in
     let is = g.is ∙ ap (λ (k : ℕ). told k ++ rest) (sym number) in
-    omega (arith, turn.invariant.0, turn.invariant.2, ap length is, length-append (told c.number_of_lem.result) rest, r.requires.2)
+    omega (arith, turn.invariant.0, turn.invariant.2, ap length is, length-append (told c.number_of.result) rest, r.requires.2)
 
 pub overflow_mul-only : goal.overflow_mul-only
 overflow_mul-only c =
@@ -78,12 +78,12 @@ loop-q-preserved c =
     let put = c.put_number-count in
     let way = way_in a.res.now a.s in
     let next = c.word-q.ensures ∙ ap (next_at a.res.now) c.only_link-only.ensures in
-    let number = c.number_of_lem.ensures ∙ ap (number_at a.res.now a.s.nodes a.s.links) c.only_link-only.ensures in
-    let is : run_in (way turn.q) ≡ told c.number_of_lem.result ++ run_in (way c.word-q.result) = g.is ∙ λ i. told (sym number i) ++ run_in (way (sym next i)) in (
+    let number = c.number_of.ensures ∙ ap (number_at a.res.now a.s.nodes a.s.links) c.only_link-only.ensures in
+    let is : run_in (way turn.q) ≡ told c.number_of.result ++ run_in (way c.word-q.result) = g.is ∙ λ i. told (sym number i) ++ run_in (way (sym next i)) in (
       put.auto.run ∙ turn.invariant.0,
       subst (λ (k : ℕ). way k ≡ some (run_in (way k))) (sym next) g.from,
-      omega (arith, ap length is, length-append (told c.number_of_lem.result) (run_in (way c.word-q.result)), put.ensures.0, turn.invariant.2),
-      stored-all turn.run _ _ turn.count _ (told c.number_of_lem.result) _ _ is put.ensures.1 put.ensures.0 turn.invariant.3,
+      omega (arith, ap length is, length-append (told c.number_of.result) (run_in (way c.word-q.result)), put.ensures.0, turn.invariant.2),
+      stored-all turn.run _ _ turn.count _ (told c.number_of.result) _ _ is put.ensures.1 put.ensures.0 turn.invariant.3,
     )
 
 pub returns : goal.returns

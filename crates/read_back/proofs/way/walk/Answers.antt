@@ -46,7 +46,7 @@ returns-then-not-w c =
     let a = r.args in
     let turn = c.loop-q in
     let number = c.number_of.ensures ∙ ap (number_at a.res.now a.s.nodes a.s.links) c.only_link-only.ensures in
-    stops-there a.sheet.now a.res.now a.s turn.w _ turn.q turn.invariant.2 c.loop-q-test.true (sym c.falls_from.ensures ∙ c.if-not-falls_from.false) turn.invariant.0 turn.invariant.1 _ number c.goes_on-w.result c.goes_on-w.ensures c.if-not-w.true
+    stops-there a.sheet.now a.res.now a.s turn.w _ turn.q turn.invariant.2 c.loop-q-test.true (sym c.falls_from.ensures ∙ c.if-not-falls_from.false) turn.invariant.0 turn.invariant.1 _ number c.goes_on-w.result c.goes_on-w.ensures (not-true _ c.if-not-w.true)
 
 pub overflow_mul-only : goal.overflow_mul-only
 overflow_mul-only c =
@@ -84,7 +84,7 @@ loop-q-preserved c =
     let turn = c.loop-q in
     let next = c.word-q.ensures ∙ ap (next_at a.res.now) c.only_link-only.ensures in
     let number = c.number_of.ensures ∙ ap (number_at a.res.now a.s.nodes a.s.links) c.only_link-only.ensures in
-    let good = c.if-not-w.false in
+    let good = (not-false _ c.if-not-w.false) in
     let on = goes_on a.sheet.now a.res.now a.s turn.w _ turn.q turn.invariant.2 c.loop-q-test.true (sym c.falls_from.ensures ∙ c.if-not-falls_from.false) turn.invariant.0 turn.invariant.1 _ number c.goes_on-w.result c.goes_on-w.ensures good c.word-q.result next in
     (on.0, good, on.1)
 
