@@ -39,7 +39,7 @@ all: shared command
 # rt tells by itself what has to be proved again
 static:
 ifndef YELDMUR_LIB_DIR
-	rt staticlib yeldmur
+	tools/library
 endif
 
 shared: static

@@ -3,7 +3,7 @@ use mathlib.Core.Path.{◌≡◌, refl, sym, ap, ◌∙◌}
 use mathlib.Core.Bool.{Bool, true, false, ◌&&◌, cond}
 use mathlib.Core.Option.{Option, none, some}
 use mathlib.Core.List.{List, [], ◌∷◌}
-use Prim.Native.Nat.{ℕ, suc, ◌+◌, ◌-◌, ◌^◌, ◌≤◌, ◌<◌}
+use Prim.Native.Nat.{ℕ, suc, ◌+◌, ◌^◌, ◌≤◌, ◌<◌}
 use native.Mathlib.Omega.{arith}
 use lib.Dec.{leb, ltb}
 use lib.ListN.{length, get_or, drop}
@@ -12,7 +12,6 @@ use borrow.Author.Tests.{leb-true}
 use Rattle.decimals.specs.Decimal.{is_digit, with_digit, digits_onto, digits_of}
 use Rattle.decimals.specs.Held.{held, digits_held}
 use Rattle.decimals.specs.declared.read.Digits.{Digits}
-use Rattle.decimals.specs.declared.read.Digits.TheVariants as Digits
 
 -- ---- a digit
 pub digit_low : (c : ℕ) → is_digit c ≡ true → 48 ≤ c

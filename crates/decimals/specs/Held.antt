@@ -2,7 +2,6 @@
 use Rattle.std.specs.Prelude.{ℕ, ◌^◌, min}
 use Rattle.std.proofs.Math.Option.{Option, none, some}
 use Rattle.decimals.specs.declared.read.Digits.{Digits}
-use Rattle.decimals.specs.declared.read.Digits.TheVariants as Digits
 
 abbrev pub held : ℕ → ℕ
 held n = min n (2 ^ 32)

@@ -1,4 +1,5 @@
 // Numbers in decimal, read from bytes and written to them.
 #![tactic(auto)]
+
 pub mod read;
 pub mod write;

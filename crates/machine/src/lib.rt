@@ -1,5 +1,6 @@
 // Machines: runs of links, readings, distances and parents, as definitions and laws; the tests
 // that every call on a machine makes of its sheet, and the count of its final nodes.
 #![tactic(auto)]
+
 pub mod finals;
 pub mod input;

@@ -3,7 +3,6 @@ use Rattle.std.specs.Prelude.{◌≡◌, ℕ, Bool, true, false, cond, List, ◌
 use Rattle.sheet.specs.declared.read.Tested.{Tested}
 use Rattle.sheet.specs.declared.read.Tested.TheVariants.{Accepted, Refused}
 use Rattle.sheet.specs.declared.write.Written.{Written}
-use Rattle.sheet.specs.declared.write.Written.TheVariants as Written
 use Rattle.sheet.specs.Sheet.{Parts, read_number, write_number, sheet_of, sheet_length}
 use Rattle.sheet.specs.Machine.{machine_of, machine}
 use Rattle.sheet.specs.Records.{trailer_at}

@@ -1,6 +1,7 @@
 // Sheets: what a service laptop hands over, damaged or not. Links first, then nodes, then a trailer
 // that points back; every field is 32-bit and little-endian.
 #![tactic(auto)]
+
 pub mod read;
 pub mod reader;
 pub mod refusal;

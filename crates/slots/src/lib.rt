@@ -1,5 +1,6 @@
 // The work area: slots of eight words, and the word that stands for nothing.
 #![tactic(auto)]
+
 ghost use Rattle.std.specs.Prelude.{◌≡◌, ◌*◌, ◌≤◌, length};
 ghost use Rattle.slots.specs.Slots.{cleared};
 

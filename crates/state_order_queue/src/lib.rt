@@ -7,6 +7,7 @@
 // `dequeue` go through the same two. Back is matched where the record is at hand and handed on as a
 // number: an enum that is handed on is read whole, and a read of what was just stored in parts waits.
 #![tactic(auto)]
+
 ghost use Rattle.std.specs.Prelude.{◌≡◌, true, false, ◌-◌, ◌≤◌, ◌<◌};
 ghost use Rattle.tropical_weight.specs.Limits.{node_limit};
 ghost use Rattle.state_order_queue.specs.Queues.{first_set, next_front, holds, empty_from, is_empty, ends_fit, ends_set, is_inside, flags_inside, is_valid, emptied, front_with, back_with, enqueued, dequeued};

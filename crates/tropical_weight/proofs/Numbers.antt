@@ -1,6 +1,6 @@
 -- Patterns that are no NaN's. Assumes nothing.
 use Rattle.std.proofs.Common.{◌≡◌, ℕ, ◌%◌, ◌≤◌, Bool, true, false, cond, not, T, ltb, sym, refl, ap, ◌∙◌, subst, arith, ltb-false}
-use lib.Ieee.{Float, nan, inf, fin, binary32, is_nan, ne, fits, of_bits, to_bits}
+use lib.Ieee.{Float, nan, inf, fin, binary32, is_nan, ne, fits, to_bits}
 use lib.Ieee.Bits.{is_false, nan_bits_is, nan_bits_above, of_bits-to_bits}
 use lib.Ieee.Compare.{differs_from_itself, nan_differs}
 use Rattle.tropical_weight.specs.Limits.{finest, sum_limit}

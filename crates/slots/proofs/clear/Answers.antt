@@ -1,8 +1,8 @@
 use mathlib.Core.Path.{◌≡◌, ap, ◌∙◌}
 use mathlib.Core.List.{List, ◌++◌}
-use Prim.Native.Nat.{ℕ, ◌-◌, ◌*◌, ◌≤◌}
+use Prim.Native.Nat.{ℕ, ◌*◌}
 use native.Mathlib.Omega.{arith}
-use lib.ListN.{length, set, replicate, drop, length-set}
+use lib.ListN.{set, replicate, drop, length-set}
 use borrow.Author.Rules.{rules}
 use Rattle.slots.proofs.Clearing.{zero-next}
 use Rattle.slots.proofs.clear.Goals as goal

@@ -1,10 +1,7 @@
-use mathlib.Core.Path.{◌≡◌, ap, ◌∙◌}
-use mathlib.Core.List.{List, ◌++◌}
-use Prim.Native.Nat.{ℕ, ◌-◌, ◌*◌, ◌≤◌}
-use native.Mathlib.Omega.{arith}
-use lib.ListN.{length, set, replicate, drop, length-set}
-use borrow.Author.Rules.{rules}
-use Rattle.slots.proofs.Clearing.{zero-next}
+use mathlib.Core.Path.{◌≡◌}
+use mathlib.Core.List.{◌++◌}
+use Prim.Native.Nat.{◌-◌, ◌≤◌}
+use lib.ListN.{length, replicate, drop}
 use Rattle.slots.proofs.clear.Given as goal
 
 abbrev pub invariant-loop-i : goal.invariant-loop-i

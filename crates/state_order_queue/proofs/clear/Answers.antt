@@ -1,6 +1,4 @@
 use mathlib.Core.Path.{sym}
-use borrow.Author.Tests.{not-true, not-false}
-use borrow.Author.Rules.{rules}
 use Rattle.state_order_queue.proofs.clear.Goals as goal
 
 pub returns-then-not-is_valid : goal.returns-then-not-is_valid

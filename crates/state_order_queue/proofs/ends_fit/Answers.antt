@@ -1,5 +1,4 @@
 use borrow.Author.Tests.{le-leb, lt-leb}
-use borrow.Author.Rules.{rules}
 use Rattle.state_order_queue.proofs.ends_fit.Goals as goal
 
 pub returns-in-None : goal.returns-in-None

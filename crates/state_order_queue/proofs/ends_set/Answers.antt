@@ -3,7 +3,6 @@ use mathlib.Core.Bool.{Bool, false, ◌&&◌}
 use native.Mathlib.Omega.{arith}
 use lib.ListN.{get_or}
 use borrow.Author.Tests.{lt-ltb}
-use borrow.Author.Rules.{rules}
 use Rattle.state_order_queue.proofs.Records.{ends-bound, ends-flags}
 use Rattle.state_order_queue.proofs.ends_set.Goals as goal
 

@@ -1,5 +1,4 @@
 use mathlib.Core.Path.{refl}
-use borrow.Author.Rules.{rules}
 use Rattle.state_order_queue.specs.declared.Back.TheVariants.{None, At}
 use Rattle.state_order_queue.proofs.Records.{enqueued-flagged}
 use Rattle.state_order_queue.proofs.enqueue_flagged.Goals as goal

@@ -1,5 +1,4 @@
 use mathlib.Core.Path.{◌∙◌}
-use borrow.Author.Rules.{rules}
 use Rattle.state_order_queue.proofs.Records.{flagged-enqueued}
 use Rattle.state_order_queue.proofs.enqueue_untested.Goals as goal
 

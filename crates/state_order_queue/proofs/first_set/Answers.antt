@@ -1,7 +1,5 @@
-use mathlib.Core.Path.{◌≡◌, refl, sym, ◌∙◌}
-use Prim.Native.Nat.{◌-◌, ◌≤◌}
+use mathlib.Core.Path.{refl, sym, ◌∙◌}
 use borrow.Author.Rules.{rules}
-use Rattle.state_order_queue.specs.Queues.{first_set}
 use Rattle.state_order_queue.proofs.Flags.{first-here, first-turn, first-end}
 use Rattle.state_order_queue.proofs.first_set.Goals as goal
 

@@ -1,8 +1,6 @@
-use mathlib.Core.Path.{◌≡◌, refl, sym, ◌∙◌}
+use mathlib.Core.Path.{◌≡◌}
 use Prim.Native.Nat.{◌-◌, ◌≤◌}
-use borrow.Author.Rules.{rules}
 use Rattle.state_order_queue.specs.Queues.{first_set}
-use Rattle.state_order_queue.proofs.Flags.{first-here, first-turn, first-end}
 use Rattle.state_order_queue.proofs.first_set.Given as goal
 
 abbrev pub invariant-loop-v : goal.invariant-loop-v

@@ -1,12 +1,8 @@
-use mathlib.Core.Bool.{true, false, not, ◌||◌}
 use mathlib.Core.Path.{◌≡◌, refl, sym}
-use Prim.Native.Nat.{◌-◌, ◌≤◌}
 use native.Mathlib.Omega.{arith}
-use lib.ListN.{get_or}
-use borrow.Author.Tests.{not-true, not-false}
 use borrow.Author.Rules.{rules}
 use Rattle.tropical_weight.specs.Limits.{node_limit}
-use Rattle.state_order_queue.specs.Queues.{is_inside, flags_inside}
+use Rattle.state_order_queue.specs.Queues.{flags_inside}
 use Rattle.sheet.specs.Below.{all_below}
 use Rattle.sheet.proofs.Below.{all_below-fails, all_below-more}
 use Rattle.state_order_queue.proofs.flags_inside.Goals as goal
@@ -22,10 +18,13 @@ returns-then-not-is_inside c = sym (all_below-fails node_limit _ c.loop-v.v (sea
 
 pub loop-v-preserved : goal.loop-v-preserved
 loop-v-preserved c = let turn = c.loop-v in
-    let flags = c.args.flags.now in (search rules, all_below-more turn.v _ turn.invariant.1 (elim c.if-flags-v.branch [
-      then-flags-v+else-not-is_inside w ↦ simp (sym w.is_inside.ensures, w.if-not-is_inside.false, w.if-flags-v.true)
-      | else-flags-v w ↦ simp w.if-flags-v.false
-    ]))
+    let flags = c.args.flags.now in (
+      search rules,
+      all_below-more turn.v _ turn.invariant.1 (elim c.if-flags-v.branch [
+        | then-flags-v+else-not-is_inside w ↦ simp (sym w.is_inside.ensures, w.if-not-is_inside.false, w.if-flags-v.true)
+        | else-flags-v w ↦ simp w.if-flags-v.false
+      ]),
+    )
 
 pub returns : goal.returns
 unfolding flags_inside

@@ -1,15 +1,10 @@
-use mathlib.Core.Logic.{⊎_elim}
 use mathlib.Core.Bool.{true, false, not, ◌||◌}
-use mathlib.Core.Path.{◌≡◌, refl, sym}
+use mathlib.Core.Path.{◌≡◌}
 use Prim.Native.Nat.{◌-◌, ◌≤◌}
-use native.Mathlib.Omega.{arith}
 use lib.ListN.{get_or}
-use borrow.Author.Tests.{not-true, not-false}
-use borrow.Author.Rules.{rules}
 use Rattle.tropical_weight.specs.Limits.{node_limit}
-use Rattle.state_order_queue.specs.Queues.{is_inside, flags_inside}
+use Rattle.state_order_queue.specs.Queues.{is_inside}
 use Rattle.sheet.specs.Below.{all_below}
-use Rattle.sheet.proofs.Below.{all_below-fails, all_below-more}
 use Rattle.state_order_queue.proofs.flags_inside.Given as goal
 
 abbrev pub invariant-loop-v : goal.invariant-loop-v

@@ -1,4 +1,3 @@
-use borrow.Author.Rules.{rules}
 use Rattle.state_order_queue.proofs.holds_none.Goals as goal
 
 pub returns-in-At : goal.returns-in-At

@@ -1,5 +1,4 @@
 use borrow.Author.Tests.{le-leb, lt-leb}
-use borrow.Author.Rules.{rules}
 use Rattle.state_order_queue.proofs.is_inside.Goals as goal
 
 pub returns-then-front-v : goal.returns-then-front-v

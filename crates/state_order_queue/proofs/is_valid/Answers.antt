@@ -1,6 +1,4 @@
 use mathlib.Core.Path.{sym, ◌∙◌}
-use borrow.Author.Tests.{not-true, not-false}
-use borrow.Author.Rules.{rules}
 use Rattle.state_order_queue.specs.Queues.{is_valid}
 use Rattle.state_order_queue.proofs.is_valid.Goals as goal
 

@@ -1,4 +1,3 @@
-use borrow.Author.Rules.{rules}
 use Rattle.state_order_queue.proofs.next_front.Goals as goal
 
 pub returns : goal.returns

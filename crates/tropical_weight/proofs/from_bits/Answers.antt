@@ -1,4 +1,4 @@
-use Rattle.std.proofs.Common.{◌≡◌, Bool, true, not, T, sym, refl, ◌∙◌, subst, rules, le-ltb, lt-ltb}
+use Rattle.std.proofs.Common.{◌≡◌, Bool, true, not, T, sym, refl, ◌∙◌, subst, le-ltb, lt-ltb}
 use lib.Ieee.{Float, nan, inf, fin, binary32, is_nan, of_bits, div}
 use lib.Ieee.Bits.{nan_bits_is, nan_bits_above}
 use Rattle.tropical_weight.proofs.from_bits.Goals as goal

@@ -1,4 +1,4 @@
-use Rattle.std.proofs.Common.{Bool, not, T, sym, ◌∙◌, subst, rules, le-ltb}
+use Rattle.std.proofs.Common.{Bool, not, T, sym, ◌∙◌, subst, le-ltb}
 use lib.Ieee.{binary32}
 use lib.Ieee.Bits.{nan_bits_above}
 use Rattle.tropical_weight.proofs.from_number_bits.Goals as goal

@@ -1,4 +1,4 @@
-use Rattle.std.proofs.Common.{◌≡◌, get_or, arith, rules}
+use Rattle.std.proofs.Common.{◌≡◌, get_or, arith}
 use Rattle.tropical_weight.specs.Limits.{unit}
 use Rattle.tropical_weight.specs.Grid.{grid_shift}
 use Rattle.tropical_weight.proofs.Fields.{grid_shift-le}

@@ -1,4 +1,4 @@
-use Rattle.std.proofs.Common.{◌≡◌, ◌/◌, ◌%◌, ◌^◌, ◌<◌, not, ◌&&◌, eqb, leb, sym, ◌∙◌, arith, lit<, lit≤, rules, le-leb}
+use Rattle.std.proofs.Common.{◌≡◌, ◌/◌, ◌%◌, ◌^◌, ◌<◌, not, ◌&&◌, eqb, leb, sym, ◌∙◌, arith, lit<, lit≤, le-leb}
 use borrow.Author.Tests.{lt-leb}
 use Rattle.tropical_weight.specs.Limits.{unit, weight_limit}
 use Rattle.tropical_weight.specs.Grid.{grid_bits, exponent_field}

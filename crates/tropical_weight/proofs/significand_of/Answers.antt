@@ -1,4 +1,4 @@
-use Rattle.std.proofs.Common.{rules, eq-eqb, ne_eqb}
+use Rattle.std.proofs.Common.{eq-eqb, ne_eqb}
 use Rattle.tropical_weight.specs.Grid.{significand}
 use Rattle.tropical_weight.proofs.significand_of.Goals as goal
 

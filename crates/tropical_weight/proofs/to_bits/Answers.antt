@@ -1,4 +1,4 @@
-use Rattle.std.proofs.Common.{T, sym, ap, subst, rules}
+use Rattle.std.proofs.Common.{T, sym, ap, subst}
 use lib.Ieee.{binary32, to_bits}
 use lib.Ieee.Compare.{differs_from_itself}
 use Rattle.tropical_weight.proofs.Numbers.{no_nan}

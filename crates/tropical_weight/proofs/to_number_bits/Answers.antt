@@ -1,5 +1,4 @@
-use Rattle.std.proofs.Common.{T, sym, subst, rules}
-use lib.Ieee.{binary32, fits}
+use Rattle.std.proofs.Common.{T, sym, subst}
 use Rattle.tropical_weight.proofs.Numbers.{is-nan, no_nan, nan-no, number-nan, number-bits}
 use Rattle.tropical_weight.proofs.to_number_bits.Goals as goal
 

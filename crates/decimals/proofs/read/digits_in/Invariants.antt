@@ -1,13 +1,8 @@
-use mathlib.Core.Path.{◌≡◌, sym, ap, ◌∙◌}
-use Prim.Native.Nat.{ℕ, ◌+◌, ◌-◌, ◌^◌, ◌≤◌, min}
-use native.Mathlib.Omega.{arith}
-use lib.ListN.{length, get_or, drop, drop_of_length-le}
-use borrow.Author.Rules.{rules}
-use borrow.Author.Tests.{not-true, not-false}
-use Rattle.decimals.specs.Decimal.{with_digit, digits_onto, digits_of}
+use mathlib.Core.Path.{◌≡◌}
+use Prim.Native.Nat.{◌-◌, ◌^◌, ◌≤◌}
+use lib.ListN.{length, drop}
+use Rattle.decimals.specs.Decimal.{digits_onto, digits_of}
 use Rattle.decimals.specs.Held.{digits_held}
-use Rattle.decimals.specs.declared.read.Digits.TheVariants as Digits
-use Rattle.decimals.proofs.Holding.{onto-on, onto-stops, onto-ends, of-onto, of_none, held-onto}
 use Rattle.decimals.proofs.read.digits_in.Given as goal
 
 abbrev pub invariant-loop-p : goal.invariant-loop-p

@@ -1,11 +1,7 @@
-use mathlib.Core.Path.{◌≡◌, ap, ◌∙◌}
-use mathlib.Core.List.{List}
-use Prim.Native.Nat.{ℕ, ◌+◌, ◌-◌, ◌≤◌}
-use native.Mathlib.Omega.{arith}
-use lib.ListN.{length, take, get_or, set, length-set}
-use lib.Seq.{sets, take-length}
-use borrow.Author.Rules.{rules}
-use Rattle.decimals.proofs.Storing.{sets_more}
+use mathlib.Core.Path.{◌≡◌}
+use Prim.Native.Nat.{◌-◌, ◌≤◌}
+use lib.ListN.{length, take}
+use lib.Seq.{sets}
 use Rattle.decimals.proofs.write.put_text.Given as goal
 
 abbrev pub invariant-loop-i : goal.invariant-loop-i

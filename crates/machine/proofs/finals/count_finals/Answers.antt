@@ -1,5 +1,5 @@
 use mathlib.Core.Path.{◌≡◌, sym, ap, ◌∙◌}
-use Prim.Native.Nat.{suc, ◌+◌, ◌-◌, ◌≤◌}
+use Prim.Native.Nat.{suc, ◌+◌}
 use native.Mathlib.Omega.{arith}
 use borrow.Author.Rules.{rules}
 use Rattle.machine.specs.Finals.{final_count}
@@ -19,7 +19,7 @@ loop-v-preserved c =
       search rules,
       elim c.if-word-ne0.branch [ then-word-ne0 w ↦ omega arith | else-word-ne0 w ↦ omega arith ],
       elim c.if-word-ne0.branch [
-        then-word-ne0 w ↦ omega (arith, count-final args.sheet.now args.links turn.v (turn.v + 1) next (λ e. w.if-word-ne0.true (read ∙ e)))
+        | then-word-ne0 w ↦ omega (arith, count-final args.sheet.now args.links turn.v (turn.v + 1) next (λ e. w.if-word-ne0.true (read ∙ e)))
         | else-word-ne0 w ↦ omega (arith, count-plain args.sheet.now args.links turn.v (turn.v + 1) next (sym read ∙ w.if-word-ne0.false))
       ],
     )

@@ -1,10 +1,6 @@
-use mathlib.Core.Logic.{⊎_elim}
-use mathlib.Core.Path.{◌≡◌, sym, ap, ◌∙◌}
-use Prim.Native.Nat.{suc, ◌+◌, ◌-◌, ◌≤◌}
-use native.Mathlib.Omega.{arith}
-use borrow.Author.Rules.{rules}
+use mathlib.Core.Path.{◌≡◌}
+use Prim.Native.Nat.{◌-◌, ◌≤◌}
 use Rattle.machine.specs.Finals.{final_count}
-use Rattle.machine.proofs.FinalCount.{count_none, count-plain, count-final}
 use Rattle.machine.proofs.finals.count_finals.Given as goal
 
 abbrev pub invariant-loop-v : goal.invariant-loop-v

@@ -4,7 +4,7 @@ use Prim.Native.Nat.{◌+◌, ◌*◌, ◌≤◌, ◌<◌}
 use native.Mathlib.Nat.{le_of_eq}
 use lib.Dec.{leb}
 use lib.ListN.{length}
-use borrow.Author.Tests.{not-true, not-false, lt-leb, le-leb}
+use borrow.Author.Tests.{lt-leb, le-leb}
 use Rattle.tropical_weight.specs.Limits.{node_limit, link_limit}
 use Rattle.sheet.specs.declared.read.Tested.TheVariants.{Accepted}
 use Rattle.sheet.specs.declared.tr.Trailer.{Trailer}
@@ -15,7 +15,6 @@ use Rattle.sheet.specs.Records.{trailer_at}
 use Rattle.machine.specs.Input.{counts_fit, links_climb}
 use Rattle.machine.specs.Answers.{nodes_climb}
 use Rattle.machine.proofs.Testing.{refused-reading, accepted-number, input-5, input-6, input-passes, counts-are, counts-total, climb-same, in-sheet}
-use borrow.Author.Rules.{rules}
 use Rattle.machine.proofs.input.input.Goals as goal
 use Rattle.machine.proofs.input.input.Lts
 use Rattle.machine.proofs.input.input.Reads

@@ -1,16 +1,10 @@
-use mathlib.Core.Path.{◌≡◌, refl, sym, ap, ◌∙◌}
+use mathlib.Core.Path.{◌≡◌}
 use mathlib.Core.Bool.{Bool, true}
 use mathlib.Core.List.{List}
-use Prim.Native.Nat.{ℕ, suc, ◌+◌, ◌-◌, ◌*◌, ◌≤◌, ◌<◌}
-use native.Mathlib.Numerals.{add-one}
-use native.Mathlib.Omega.{arith}
+use Prim.Native.Nat.{ℕ, ◌+◌, ◌-◌, ◌*◌, ◌≤◌}
 use lib.Dec.{ltb}
-use borrow.Author.Tests.{not-true, not-false}
 use Rattle.sheet.specs.Below.{all_below, sum_below}
 use Rattle.sheet.specs.Words.{word}
-use Rattle.sheet.proofs.Below.{all_below-more, all_below-fails}
-use Rattle.sheet.proofs.Below.{sum_mono}
-use borrow.Author.Rules.{rules}
 use Rattle.machine.proofs.input.links_climb.Given as goal
 
 -- the link counts, and whether the links of node v climb

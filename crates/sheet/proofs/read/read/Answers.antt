@@ -5,12 +5,11 @@ use native.Mathlib.Omega.{arith}
 use lib.Dec.{T, eqb, eqb→eq}
 use lib.ListN.{length}
 use lib.Ieee.Fits.{and_r}
-use borrow.Author.Tests.{not-true, not-false, eq-eqb, ne_eqb}
+use borrow.Author.Tests.{eq-eqb, ne_eqb}
 use Rattle.sheet.specs.declared.read.Tested.TheVariants.{Accepted}
 use Rattle.sheet.specs.Sheet.{sizes_fit, read_number}
 use Rattle.sheet.specs.Answers.{tested_by}
 use Rattle.sheet.proofs.Fields.{read-judged, read-unfit, sizes-short, sizes-long}
-use borrow.Author.Rules.{rules}
 use Rattle.sheet.proofs.read.read.Goals as goal
 use Rattle.sheet.proofs.read.read.Lts
 use Rattle.sheet.proofs.read.read.Reads

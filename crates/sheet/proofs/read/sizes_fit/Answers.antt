@@ -3,7 +3,6 @@ use mathlib.Core.Bool.{◌&&◌}
 use Prim.Native.Nat.{◌+◌, ◌*◌}
 use lib.Dec.{eqb}
 use borrow.Author.Tests.{eq-eqb, ne_eqb}
-use borrow.Author.Rules.{rules}
 use Rattle.sheet.proofs.read.sizes_fit.Goals as goal
 
 pub returns-then-t-ne0 : goal.returns-then-t-ne0

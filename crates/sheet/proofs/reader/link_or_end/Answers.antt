@@ -1,6 +1,5 @@
 use mathlib.Core.Path.{sym, ap, ◌∙◌}
 use mathlib.Core.Bool.{Bool}
-use borrow.Author.Rules.{rules}
 use Rattle.sheet.specs.declared.reader.Step.TheVariants as Step
 use Rattle.sheet.specs.Reading.{next_by}
 use Rattle.sheet.proofs.Reading.{link-within}

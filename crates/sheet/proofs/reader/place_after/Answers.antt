@@ -1,7 +1,6 @@
 use mathlib.Core.Path.{sym, ap, ◌∙◌}
 use mathlib.Core.Bool.{Bool}
 use native.Mathlib.Omega.{arith}
-use borrow.Author.Rules.{rules}
 use Rattle.sheet.specs.Reading.{place_by}
 use Rattle.sheet.proofs.Reading.{link-within}
 use Rattle.sheet.proofs.reader.place_after.Goals as goal

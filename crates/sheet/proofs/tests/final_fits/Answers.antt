@@ -1,6 +1,5 @@
 use mathlib.Core.Path.{◌∙◌}
 use borrow.Author.Tests.{eq-eqb, ne_eqb}
-use borrow.Author.Rules.{rules}
 use Rattle.sheet.proofs.tests.final_fits.Goals as goal
 
 pub returns-then-mark-eq0 : goal.returns-then-mark-eq0

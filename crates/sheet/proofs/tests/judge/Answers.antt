@@ -4,7 +4,6 @@ use lib.Dec.{eqb}
 use borrow.Author.Tests.{not-true, not-false}
 use Rattle.sheet.specs.Sheet.{start_fits}
 use Rattle.sheet.proofs.Passes.{first-1, first-2, first-3, first-4, first-none}
-use borrow.Author.Rules.{rules}
 use Rattle.sheet.proofs.tests.judge.Goals as goal
 use Rattle.sheet.proofs.tests.judge.Lts
 use Rattle.sheet.proofs.tests.judge.Reads

@@ -1,10 +1,7 @@
-use mathlib.Core.Path.{◌≡◌, ap, ◌∙◌}
-use Prim.Native.Nat.{ℕ, ◌+◌, ◌-◌, ◌*◌, ◌≤◌}
-use native.Mathlib.Omega.{arith}
-use borrow.Author.Rules.{rules}
+use mathlib.Core.Path.{◌≡◌}
+use Prim.Native.Nat.{◌+◌, ◌-◌, ◌*◌, ◌≤◌}
 use Rattle.sheet.specs.Words.{word}
 use Rattle.sheet.specs.Tests.{link_tests}
-use Rattle.sheet.proofs.Passes.{link-turn, link_tests-none}
 use Rattle.sheet.proofs.tests.test_links.Given as goal
 
 abbrev pub invariant-loop-l : goal.invariant-loop-l

@@ -1,5 +1,5 @@
 use mathlib.Core.Path.{◌≡◌, refl, ap, ◌∙◌}
-use Prim.Native.Nat.{ℕ, ◌+◌, ◌-◌, ◌*◌, ◌≤◌}
+use Prim.Native.Nat.{ℕ, ◌+◌, ◌*◌}
 use native.Mathlib.Omega.{arith}
 use borrow.Author.Rules.{rules}
 use lib.ListN.{get_or}
@@ -12,9 +12,9 @@ loop-v-init c = let xs = c.args.words.now in (search rules, node_tests-none (λ 
 
 pub with_node-t-requires : goal.with_node-t-requires
 with_node-t-requires c = record {
-      shift_table = search rules;
-      count_bound = omega (arith, c.type_inv.words (3 * c.loop-v.v));
-    }
+  shift_table = search rules;
+  count_bound = omega (arith, c.type_inv.words (3 * c.loop-v.v));
+}
 
 pub loop-v-preserved : goal.loop-v-preserved
 loop-v-preserved c =

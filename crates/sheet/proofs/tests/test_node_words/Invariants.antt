@@ -1,10 +1,7 @@
-use mathlib.Core.Path.{◌≡◌, refl, ap, ◌∙◌}
-use Prim.Native.Nat.{ℕ, ◌+◌, ◌-◌, ◌*◌, ◌≤◌}
-use native.Mathlib.Omega.{arith}
-use borrow.Author.Rules.{rules}
+use mathlib.Core.Path.{◌≡◌}
+use Prim.Native.Nat.{◌+◌, ◌-◌, ◌*◌, ◌≤◌}
 use lib.ListN.{get_or}
 use Rattle.sheet.specs.Tests.{node_tests}
-use Rattle.sheet.proofs.Passes.{node-turn, node-bound, node_tests-none}
 use Rattle.sheet.proofs.tests.test_node_words.Given as goal
 
 abbrev pub invariant-loop-v : goal.invariant-loop-v

@@ -1,6 +1,5 @@
 use mathlib.Core.Path.{◌∙◌}
 use borrow.Author.Tests.{eq-eqb, ne_eqb}
-use borrow.Author.Rules.{rules}
 use Rattle.sheet.proofs.tests.weight_fits.Goals as goal
 
 pub returns-then-bits-eq-BARRED : goal.returns-then-bits-eq-BARRED

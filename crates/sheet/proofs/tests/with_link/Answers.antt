@@ -1,6 +1,5 @@
 use mathlib.Core.Path.{ap, ◌∙◌}
 use mathlib.Core.Bool.{Bool, ◌&&◌}
-use borrow.Author.Rules.{rules}
 use Rattle.sheet.proofs.tests.with_link.Goals as goal
 
 pub returns : goal.returns

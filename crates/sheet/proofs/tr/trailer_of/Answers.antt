@@ -3,7 +3,6 @@ use Prim.Native.Nat.{◌-◌}
 use native.Mathlib.Nat.{add-zero}
 use lib.ListN.{length}
 use Rattle.sheet.specs.Words.{word}
-use borrow.Author.Rules.{rules}
 use Rattle.sheet.proofs.tr.trailer_of.Goals as goal
 
 pub returns : goal.returns

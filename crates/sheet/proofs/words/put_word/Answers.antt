@@ -4,7 +4,6 @@ use native.Mathlib.Numerals.{add-one}
 use native.Mathlib.Omega.{arith}
 use lib.ListN.{set, length-set}
 use Rattle.sheet.specs.Words.{bytes_of}
-use borrow.Author.Rules.{rules}
 use Rattle.sheet.proofs.words.put_word.Goals as goal
 
 pub bounds-bytes-at-2 : goal.bounds-bytes-at-2

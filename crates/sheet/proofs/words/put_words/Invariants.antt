@@ -1,12 +1,8 @@
-use mathlib.Core.Path.{◌≡◌, ap, ◌∙◌}
-use mathlib.Core.List.{List}
-use Prim.Native.Nat.{ℕ, ◌+◌, ◌-◌, ◌*◌, ◌≤◌}
-use native.Mathlib.Omega.{arith}
-use lib.ListN.{length, take, get_or}
-use lib.Seq.{sets, take-length}
-use borrow.Author.Rules.{rules}
-use Rattle.sheet.specs.Words.{bytes_of, bytes_of_all}
-use Rattle.sheet.proofs.Bytes.{sets_word}
+use mathlib.Core.Path.{◌≡◌}
+use Prim.Native.Nat.{◌-◌, ◌≤◌}
+use lib.ListN.{length, take}
+use lib.Seq.{sets}
+use Rattle.sheet.specs.Words.{bytes_of_all}
 use Rattle.sheet.proofs.words.put_words.Given as goal
 
 abbrev pub invariant-loop-i : goal.invariant-loop-i

@@ -1,6 +1,5 @@
 use Prim.Native.Nat.{◌+◌, ◌*◌}
 use Rattle.sheet.specs.Words.{word}
-use borrow.Author.Rules.{rules}
 use Rattle.sheet.proofs.words.word.Goals as goal
 
 pub returns : goal.returns

@@ -7,7 +7,6 @@ use lib.Seq.{sets}
 use Rattle.sheet.specs.Words.{bytes_of_all}
 use Rattle.sheet.specs.Sheet.{sheet_of}
 use Rattle.sheet.proofs.Writing.{sheet-stores}
-use borrow.Author.Rules.{rules}
 use Rattle.sheet.proofs.write.put_sheet.Goals as goal
 
 pub returns : goal.returns

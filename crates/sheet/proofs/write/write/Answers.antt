@@ -4,12 +4,11 @@ use Prim.Native.Nat.{ℕ, ◌^◌}
 use native.Mathlib.Omega.{arith}
 use lib.Dec.{ltb, eqb}
 use lib.ListN.{length}
-use borrow.Author.Tests.{not-true, not-false, eq-eqb, ne_eqb, lt-ltb, le-ltb}
-use Rattle.sheet.specs.Sheet.{Parts, link_count, node_count, records_fit, write_number, sheet_length}
+use borrow.Author.Tests.{eq-eqb, ne_eqb, lt-ltb, le-ltb}
+use Rattle.sheet.specs.Sheet.{Parts, records_fit, write_number, sheet_length}
 use Rattle.sheet.specs.Answers.{parts}
 use Rattle.sheet.proofs.Writing.{records, write-unfit, write-judged, refused}
 use Rattle.sheet.proofs.Round.{Below, stored_back}
-use borrow.Author.Rules.{rules}
 use Rattle.sheet.proofs.write.write.Goals as goal
 use Rattle.sheet.proofs.write.write.Lts
 use Rattle.sheet.proofs.write.write.Reads
@@ -44,7 +43,7 @@ number c room =
 pub returns-then-not-records_fit : goal.returns-then-not-records_fit
 returns-then-not-records_fit c =
     let s = c.before.before.before.before.before.before in
-    let old = s.args.res.now in 
+    let old = s.args.res.now in
     let told = refused (given s) old 1 (λ e. omega arith) (write-unfit (given s) (length old) (sym c.records_fit.ensures ∙ c.if-not-records_fit.true)) in
     record { value = told.0; res_after = told.1.0; by_index = told.1.1 }
 
@@ -58,7 +57,7 @@ pub returns-then-number-ne0 : goal.returns-then-number-ne0
 returns-then-number-ne0 c =
     let s = c.before.before.before.before.before.before.before.before.before.before in
     let old = s.args.res.now in
-    let k = c.judge-number.result in 
+    let k = c.judge-number.result in
     let told = refused (given s) old k c.if-number-ne0.true (number c.before.before (length old) ∙ ap (λ (t : Bool). cond (not t) k (cond (ltb (length old) (sheet_length (given s))) 21 0)) (ne_eqb k 0 c.if-number-ne0.true)) in
     record { value = told.0; res_after = told.1.0; by_index = told.1.1 }
 
@@ -66,7 +65,7 @@ pub returns-then-res-size : goal.returns-then-res-size
 returns-then-res-size c =
     let s = c.before.before.before.before.before.before.before.before.before.before.before in
     let old = s.args.res.now in
-    let k = c.judge-number.result in 
+    let k = c.judge-number.result in
     let told = refused (given s) old 21 (λ e. omega arith)
     (number c.before.before.before (length old)
     ∙ ap (λ (t : Bool). cond (not t) k (cond (ltb (length old) (sheet_length (given s))) 21 0)) (eq-eqb k 0 c.if-number-ne0.false)
@@ -75,9 +74,9 @@ returns-then-res-size c =
 
 pub put_sheet-requires : goal.put_sheet-requires
 put_sheet-requires c = record {
-      links_len = records (given c.before.before.before.before.before.before.before.before.before.before.before.before) (fits c.before.before.before.before.before.before.before);
-      nodes_in_bounds = c.if-res-size.false;
-    }
+  links_len = records (given c.before.before.before.before.before.before.before.before.before.before.before.before) (fits c.before.before.before.before.before.before.before);
+  nodes_in_bounds = c.if-res-size.false;
+}
 
 -- the fields that are given are 32-bit
 links-below : (c : After-slice_known-1) → Below (2 ^ 32) (given c.before.before.before).links
@@ -96,6 +95,6 @@ returns c =
     let zero : write_number (given s) (length old) ≡ 0 =
     number c.before.before.before.before.before.before.before (length old)
     ∙ ap (λ (t : Bool). cond (not t) k (cond (ltb (length old) (sheet_length (given s))) 21 0)) (eq-eqb k 0 c.if-number-ne0.false)
-    ∙ ap (λ (t : Bool). cond t 21 0) (le-ltb (length old) (sheet_length (given s)) room) in 
+    ∙ ap (λ (t : Bool). cond t 21 0) (le-ltb (length old) (sheet_length (given s)) room) in
     let told = stored_back (given s) fit (links-below c.before.before.before.before.before.before.before.before.before.before.before.before) (nodes-below c.before.before.before.before.before.before.before.before.before.before.before.before) s.ranges.start.fits old _ room zero c.put_sheet.ensures in
     record { value = told.0; res_after = told.1.0; by_index = told.1.1 }

@@ -1,5 +1,4 @@
 use mathlib.Core.Path.{◌≡◌, refl, sym, ap, ◌∙◌}
-use mathlib.Core.Logic.{⊎_elim}
 use mathlib.Core.Bool.{Bool, true, false}
 use Prim.Native.Nat.{ℕ, ◌+◌, ◌-◌, ◌≤◌}
 use native.Mathlib.Omega.{arith}
@@ -9,6 +8,7 @@ use Rattle.single_path.specs.SingleWords.{Best, best_below}
 use Rattle.single_path.proofs.WayTurns.{next, best-next}
 use borrow.Author.Rules.{rules}
 use Rattle.single_path.proofs.single.best_end.Goals as goal
+use Rattle.single_path.proofs.single.best_end.Goals.{then-natural_less, else-natural_less}
 
 pub loop-v-init : goal.loop-v-init
 unfolding best_below
@@ -23,10 +23,10 @@ loop-v-preserved c =
     let tested : (b : Bool) → c.natural_less.result ≡ b → best_below bytes args.links area (turn.v + 1) ≡ next bytes args.links area turn.v b =
     λ b e. best-next bytes args.links area turn.v b ((λ i. lt (sym c.total_at-total.ensures i) (sym turn.invariant.2 i)) ∙ sym c.natural_less.ensures.same ∙ e) in
     let both : (c.if-natural_less.best ≡ (best_below bytes args.links area (turn.v + 1)).end) × (c.if-natural_less.least ≡ (best_below bytes args.links area (turn.v + 1)).least) =
-    ⊎_elim
-    (λ w. (w.1 ∙ sym (ap (λ (b : Best). b.end) (tested true w.0.taken)), w.2 ∙ c.total_at-total.ensures ∙ sym (ap (λ (b : Best). b.least) (tested true w.0.taken))))
-    (λ w. (w.1 ∙ turn.invariant.1 ∙ sym (ap (λ (b : Best). b.end) (tested false w.0.left)), w.2 ∙ turn.invariant.2 ∙ sym (ap (λ (b : Best). b.least) (tested false w.0.left))))
-    c.if-natural_less.branch in
+    elim c.if-natural_less.branch [
+      then-natural_less w ↦ (w.best-is ∙ sym (ap (λ (b : Best). b.end) (tested true w.if-natural_less.true)), w.least-is ∙ c.total_at-total.ensures ∙ sym (ap (λ (b : Best). b.least) (tested true w.if-natural_less.true)))
+      | else-natural_less w ↦ (w.best-is ∙ turn.invariant.1 ∙ sym (ap (λ (b : Best). b.end) (tested false w.if-natural_less.false)), w.least-is ∙ turn.invariant.2 ∙ sym (ap (λ (b : Best). b.least) (tested false w.if-natural_less.false)))
+    ] in
     (search rules, both.0, both.1)
 
 pub returns : goal.returns

@@ -16,15 +16,15 @@ use Rattle.single_path.proofs.single.put_links.Lts
 use Rattle.single_path.proofs.single.put_links.Reads
 use Rattle.single_path.proofs.single.put_links.Tie
 
-abbrev In-By-2 : Type 0
-In-By-2 = Lts.After-link Tie.the-claims Reads.Pre Reads.Post goal.the-invariant-loop-link goal.the-decreases-loop-link Tie.handed_clauses
+abbrev In-By : Type 0
+In-By = Lts.Past-After-known_told Tie.the-claims Reads.Pre Reads.Post goal.the-invariant-loop-link goal.the-decreases-loop-link Tie.handed_clauses
 
 -- the parent that the way goes on by
-on : (c : In-By-2) → parent_at c.args.work.now c.loop-link.v ≡ By c.in-By.link c.in-By.source
+on : (c : In-By) → parent_at c.args.work.now c.loop-link.v ≡ By c.in-By.link c.in-By.source
 on c = sym c.parent_at.ensures ∙ c.in-By.is
 
 -- the way from the node, and its source below it
-step : (c : In-By-2) → let way = way_back c.args.work.now in let v = c.loop-link.v in let u = c.in-By.source in
+step : (c : In-By) → let way = way_back c.args.work.now in let v = c.loop-link.v in let u = c.in-By.source in
     (way v v ≡ c.in-By.link ∷ way u u) × (u < v)
 step c =
     let root = c.before.before.before.before.before.before in
@@ -55,7 +55,7 @@ loop-link-preserved c =
       omega (arith, s.1, turn.invariant.0),
       size ∙ turn.invariant.1,
       omega (arith, size, ap length s.0, turn.invariant.2),
-      links-again args.sheet.now turn.result _ c.in-By.link turn.i _ _ _ s.0 call.ensures turn.invariant.3,
+      links-again args.sheet.now turn.res _ c.in-By.link turn.i _ _ _ s.0 call.ensures turn.invariant.3,
     )
 
 pub returns : goal.returns
@@ -63,4 +63,4 @@ returns c =
     let root = c.before.before.before.before.before.before.before in
     let turn = c.loop-link in
     let none = way_end root.args.work.now root.args.end root.requires.traced.falls turn.v (sym c.parent_at.ensures ∙ c.in_default.is) in
-    links_end turn.result root.args.sheet.now turn.i _ none ∙ turn.invariant.3
+    links_end turn.res root.args.sheet.now turn.i _ none ∙ turn.invariant.3

@@ -23,7 +23,7 @@ loop-i-preserved c =
     let turn = c.loop-i in (
       search rules,
       c.put_words-in-loop-i.auto.bytes ∙ turn.invariant.1,
-      states-again args.at args.count turn.result _ turn.i _ c.loop-i-test.true c.put_words-in-loop-i.ensures turn.invariant.2,
+      states-again args.at args.count turn.res _ turn.i _ c.loop-i-test.true c.put_words-in-loop-i.ensures turn.invariant.2,
     )
 
 pub returns : goal.returns
@@ -31,6 +31,6 @@ returns c =
     let args = c.args in
     let turn = c.loop-i in
     let done : args.count - turn.i ≡ 0 = omega arith in
-    states-end turn.result (args.at + 12 + 12 * turn.i) (args.count - turn.i) done ∙ turn.invariant.2
+    states-end turn.res (args.at + 12 + 12 * turn.i) (args.count - turn.i) done ∙ turn.invariant.2
     ∙ ap (λ (x : List ℕ). sets x (args.at + 12) (bytes_of_all (way_states args.count))) c.put_words.ensures
     ∙ sets-words args.res.now args.at (0 ∷ 1 ∷ args.bits ∷ []) (way_states args.count) (args.at + 12) (omega arith)

@@ -17,15 +17,15 @@ run c =
 
 pub best_end-requires : goal.best_end-requires
 best_end-requires c =
-    let r = run c.before.before.before.before in
+    let r = run c.before.before.before in
     (r.in-sheet, omega (arith, r.size, c.requires.nodes_in_bounds))
 
 pub returns-in_default : goal.returns-in_default
 returns-in_default c =
     let args = c.args in
-    let r = run c.before.before.before.before.before.before.before.before.before.before in
+    let r = run c.before.before.before.before.before.before.before.before.before in
     let found = c.best_end in
-    let listed = none-for args.sheet.now args.work.now _ args.t.links args.t.nodes r found.result found.ensures c.in_default.is args.res.now _ _ c.put_none.ensures in record {
+    let listed = none-for args.sheet.now args.work.now _ args.t.links args.t.nodes r found.result found.ensures c.in_default.is args.res.now _ _ (c.put_none.ensures.value, c.put_none.ensures.res_after) in record {
       value = listed.0;
       res_after = listed.1;
       work_len_unchanged = r.size;
@@ -36,8 +36,7 @@ pub single_shortest_path_backtrace-requires : goal.single_shortest_path_backtrac
 single_shortest_path_backtrace-requires c =
     let args = c.args in
     let found = c.best_end in
-    let end = c.end-1.given in
-    let r = traced-for args.sheet.now args.work.now _ args.t.links args.t.nodes (run c.before.before.before.before.before.before.before.before) found.result found.ensures end.0.0 end.1 in record {
+    let r = traced-for args.sheet.now args.work.now _ args.t.links args.t.nodes (run c.before.before.before.before.before.before) found.result found.ensures c.in-At.end c.in-At.is in record {
       traced = (r.0, r.1);
       end_lt_node_limit = r.2;
     }
@@ -45,11 +44,10 @@ single_shortest_path_backtrace-requires c =
 pub returns : goal.returns
 returns c =
     let args = c.args in
-    let r = run c.before.before.before.before.before.before.before.before.before.before.before in
+    let r = run c.before.before.before.before.before.before.before.before.before in
     let found = c.best_end in
-    let end = c.end-1.given in
     let whole = c.type_inv.sheet in
-    let listed = way-for args.sheet.now args.work.now _ args.t.links args.t.nodes r found.result found.ensures end.0.0 end.1 (λ i. omega (arith, whole i)) args.res.now _ _ c.single_shortest_path_backtrace.ensures in record {
+    let listed = way-for args.sheet.now args.work.now _ args.t.links args.t.nodes r found.result found.ensures c.in-At.end c.in-At.is (λ i. omega (arith, whole i)) args.res.now _ _ (c.single_shortest_path_backtrace.ensures.value, c.single_shortest_path_backtrace.ensures.res_after) in record {
       value = listed.0;
       res_after = listed.1;
       work_len_unchanged = r.size;

@@ -10,11 +10,11 @@ use Rattle.single_path.proofs.single.way_length.Lts
 use Rattle.single_path.proofs.single.way_length.Reads
 use Rattle.single_path.proofs.single.way_length.Tie
 
-abbrev In-By-2 : Type 0
-In-By-2 = Lts.After-source Tie.the-claims Reads.Pre Reads.Post goal.the-invariant-loop-source goal.the-decreases-loop-source Tie.handed_clauses
+abbrev In-By : Type 0
+In-By = Lts.Past-After-known_told Tie.the-claims Reads.Pre Reads.Post goal.the-invariant-loop-source goal.the-decreases-loop-source Tie.handed_clauses
 
 -- the parent's source is below the node
-fall : (c : In-By-2) → c.in-By.source < c.loop-source.v
+fall : (c : In-By) → c.in-By.source < c.loop-source.v
 fall c =
     let root = c.before.before.before.before in
     let turn = c.loop-source in
