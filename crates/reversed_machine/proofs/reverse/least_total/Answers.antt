@@ -1,5 +1,5 @@
 use mathlib.Core.Path.{◌≡◌, sym, ap, ◌∙◌}
-use Prim.Native.Nat.{ℕ, ◌-◌, ◌≤◌}
+use Prim.Native.Nat.{ℕ}
 use native.Mathlib.Omega.{arith}
 use lib.Ieee.{binary32, of_bits}
 use borrow.Author.Rules.{rules}
@@ -22,8 +22,8 @@ loop-v-preserved c =
     let read = c.word.ensures in (
       search rules,
       elim c.if-word-ne0.branch [
-        then-word-ne0 w ↦ w.least-is ∙ total-final bytes args.heads args.links turn.v area turn.least _ _ _ _ turn.invariant.1 (λ e. w.if-word-ne0.true (read ∙ e)) (w.as_weight.ensures ∙ ap weight_in w.distance_at-d.ensures) (w.from_bits-weight.ensures ∙ ap (of_bits binary32) w.word.ensures) w.times.ensures.same w.plus-least.ensures.same
-      | else-word-ne0 w ↦ w.least-is ∙ total-plain bytes args.heads args.links turn.v area turn.least turn.invariant.1 (sym read ∙ w.if-word-ne0.false)
+        | then-word-ne0 w ↦ w.least-is ∙ total-final bytes args.heads args.links turn.v area turn.least _ _ _ _ turn.invariant.1 (λ e. w.if-word-ne0.true (read ∙ e)) (w.as_weight.ensures ∙ ap weight_in w.distance_at-d.ensures) (w.from_bits-weight.ensures ∙ ap (of_bits binary32) w.word-then-word-ne0.ensures) w.times.ensures.same w.plus-least.ensures.same
+        | else-word-ne0 w ↦ w.least-is ∙ total-plain bytes args.heads args.links turn.v area turn.least turn.invariant.1 (sym read ∙ w.if-word-ne0.false)
       ],
     )
 
