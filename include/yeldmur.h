@@ -1,6 +1,5 @@
 /* Yeldmur: sheets read and written, text rows turned into sheets and back, distances, and lists of the
- * cheapest readings, with every promise proved. Link with libyeldmur.a, which `rt staticlib yeldmur`
- * writes.
+ * cheapest readings, with every promise proved. Link with libyeldmur.a, which `tools/library` writes.
  *
  * A slice is a pointer and a count of its elements, and not of bytes. No pointer is NULL, also where
  * the count is 0, as that of the work area may be for n = 0: malloc(0) may give NULL, so that a caller
