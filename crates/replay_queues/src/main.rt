@@ -14,7 +14,7 @@ use sheet::words::word;
 use state_order_queue::Queue;
 use std::io;
 use stored_cases::bytes::bytes_of;
-use stored_cases::input::read_full;
+use stored_cases::input::{read_full, zeros};
 use stored_cases::lines::{field, line_end};
 use stored_cases::tally;
 use tropical_weight::NODE_LIMIT;
@@ -84,7 +84,7 @@ fn replay(rt: &impl Print, text: &[u8]) -> io::Result<()> {
 }
 
 fn main(rt: HostRuntime) -> io::Result<()> {
-    let mut text = [0u8; 262144];
+    let mut text = zeros::<262144>();
     let n = read_full(&mut rt.stdin(), &mut text)?;
     replay(&rt, &text[..n])
 }
