@@ -13,7 +13,6 @@ use Rattle.sheet.specs.Machine.{Machine}
 use Rattle.machine.specs.Distance as Named
 use Rattle.machine.specs.Distance.{as_weight, distance_of, nearer, onward, dist, distance}
 use Rattle.machine.proofs.Named.{weight-of, of-weight}
-use Rattle.distance.specs.declared.Distance.{Distance}
 use Rattle.distance.specs.declared.Distance.TheVariants.{Reached, Unreached}
 use Rattle.distance.specs.Held.{held, weight_in, distance_from, reached_in}
 use Rattle.distance.specs.Offer.{improves, relaxed_by, reaches}

@@ -1,6 +1,7 @@
 // Distances: reached, with a cost, or unreached; and the two words that hold one, in the work area
 // and as it is written.
 #![tactic(auto)]
+
 ghost use Rattle.std.specs.Prelude.{◌≡◌, ◌+◌, ◌≤◌, ◌<◌, length};
 ghost use Rattle.std.proofs.lemmas.List.Edits.{sets};
 ghost use Rattle.sheet.specs.Words.{bytes_of_all};

@@ -4,7 +4,6 @@ use Rattle.sheet.specs.Machine.{Machine}
 use Rattle.machine.specs.Readings.{marked}
 use Rattle.search.specs.ListMachine.{Result, result_bytes}
 use Rattle.list_answer.specs.declared.Listed.{Listed}
-use Rattle.list_answer.specs.declared.Listed.TheVariants as Listed
 
 -- by whether the area is too short for so many nodes and links, and entries taken
 abbrev pub listed_by : Bool → ℕ → ℕ → ℕ → Listed

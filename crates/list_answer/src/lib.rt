@@ -1,5 +1,6 @@
 // What a call for a list answers, the slots that it needs, and the empty answer.
 #![tactic(auto)]
+
 ghost use Rattle.std.specs.Prelude.{◌≡◌, ◌≤◌, length};
 ghost use Rattle.tropical_weight.specs.Limits.{node_limit, link_limit, list_limit};
 ghost use Rattle.search.specs.ListMachine.{empty};

@@ -1,3 +1,4 @@
 // The list machine, trimmed and written to the result area.
 #![tactic(auto)]
+
 pub mod trim;

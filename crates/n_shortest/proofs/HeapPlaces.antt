@@ -1,15 +1,15 @@
 -- The moves of the heap on words are those of crate `search`, and keep the other words. Assumes nothing.
-use mathlib.Core.Path.{◌≡◌, refl, sym, ap, ◌∙◌, subst}
+use mathlib.Core.Path.{◌≡◌, refl, sym, ap, ◌∙◌}
 use mathlib.Core.Bool.{Bool, true, false, not, cond, ◌&&◌, ◌||◌}
 use mathlib.Core.List.{List, [], ◌∷◌, ◌++◌}
 use Prim.Native.Nat.{ℕ, zero, suc, ◌+◌, ◌-◌, ◌*◌, ◌%◌, ◌≤◌, ◌<◌}
 use native.Mathlib.Decide.{ℕ_discrete}
 use native.Mathlib.Omega.{arith}
-use lib.Dec.{ltb, leb, eqb, lit≤}
+use lib.Dec.{ltb, leb, eqb}
 use lib.Ieee.{binary32, lt, of_bits}
 use lib.ListN.{length, get_or, set, take, length-set}
 use lib.Seq.{get_or-set_same, get_or-set_other, take_at, ext_get_or}
-use borrow.Author.Tests.{leb-false, ltb-true, eq-eqb, ne_eqb}
+use borrow.Author.Tests.{leb-false, ltb-true}
 use Rattle.tropical_weight.specs.Limits.{unit, sum_limit}
 use Rattle.tropical_weight.specs.Tropical.{Tropical, le_t, lt_t, eq_t, Within}
 use Rattle.tropical_weight.proofs.Semiring.{lt_t-not}

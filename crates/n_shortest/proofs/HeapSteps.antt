@@ -11,7 +11,7 @@ use lib.ListN.{length, length-set}
 use lib.Seq.{get_or-set_same, get_or-set_other}
 use borrow.Author.Tests.{eq-eqb, ne_eqb, le-leb, lt-leb}
 use Rattle.tropical_weight.specs.Single.{Number}
-use Rattle.search_slots.specs.Slots.{rank_word, heap_word}
+use Rattle.search_slots.specs.Slots.{heap_word}
 use Rattle.n_shortest.specs.EntryWords.{entry_w, rank_of}
 use Rattle.n_shortest.specs.HeapWords.{Comparable, HeapFits, half_first, less_w, store_w, swap_w, place_less, parent_of, sift_up_w, child_w, sift_down_w, pop_w}
 

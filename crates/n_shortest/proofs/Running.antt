@@ -19,7 +19,7 @@ use Rattle.search.specs.Search.{first, Search, put, step, stopped, after, begun,
 use Rattle.search.proofs.Backwards.{consistent, leads-in}
 use Rattle.search.proofs.Steps.{Holds, each, holds-step}
 use Rattle.search.proofs.Within.{holds_after, put-room, entry-node, entry-within}
-use Rattle.search.proofs.Tallies.{visits-few, listed-few, step-listed, after-step, after-stopped}
+use Rattle.search.proofs.Tallies.{visits-few, listed-few, step-listed}
 use Rattle.search.proofs.Ran.{stopped-not}
 use Rattle.n_shortest.specs.declared.n_best.Places.{Places}
 use Rattle.n_shortest.specs.declared.entry.Entry.TheVariants.{Half}

@@ -28,7 +28,6 @@ use Rattle.search.specs.Search as S
 use Rattle.search.specs.Search.{half, finished, Put, first, Search, before, put, put_all, expansion, taken_by, step}
 use Rattle.search.proofs.Contents.{popped-keeps}
 use Rattle.n_shortest.specs.declared.n_best.Places.{Places}
-use Rattle.n_shortest.specs.declared.entry.Entry.{Entry}
 use Rattle.n_shortest.specs.declared.entry.Entry.TheVariants.{Half, Finished}
 use Rattle.search_slots.specs.Slots.{node_word, cost_word, heap_word, listed_word, heap_of, listed_of, head_word, visits_word, next_word, weight_word, chain_word, node_field, input_field}
 use Rattle.n_shortest.specs.EntryWords.{entry_w}

@@ -17,9 +17,7 @@ use Rattle.row_reader.specs.RowReading.{row_at}
 use Rattle.row_reader.specs.Surveying.{end_of}
 use Rattle.row_reader.specs.FinalRows.{once_in, most, falling, has, inserted, Going, twice, on, with_new, with_less, with_final, with_read, go_on, pass_rows, pass_from}
 use Rattle.row_reader.specs.declared.row.Read.{Read}
-use Rattle.row_reader.specs.declared.row.Read.TheVariants as Read
 use Rattle.row_reader.specs.declared.finals.Seen.{Seen}
-use Rattle.row_reader.specs.declared.finals.Seen.TheVariants as Seen
 use Rattle.row_reader.proofs.Steps.{step-none, step-link, step-final}
 use Rattle.row_reader.proofs.Kept.{falling-long, Falls, among, among-inserted, none_above, none_below, has-among, inserted-falls, inserted-long}
 use Rattle.text_rows.proofs.RowFits.{AllFit}

@@ -2,7 +2,7 @@
 use mathlib.Core.Path.{◌≡◌, refl, sym, ap, ◌∙◌}
 use mathlib.Core.Bool.{Bool, true, false, ◌&&◌, cond}
 use mathlib.Core.Option.{Option, none, some}
-use Prim.Native.Nat.{ℕ, zero, suc, ◌+◌, ◌-◌, ◌*◌, ◌/◌, ◌%◌, ◌^◌, ◌≤◌, ◌<◌}
+use Prim.Native.Nat.{ℕ, zero, suc, ◌+◌, ◌*◌, ◌/◌, ◌%◌, ◌^◌, ◌≤◌, ◌<◌}
 use native.Mathlib.Omega.{arith}
 use lib.Dec.{leb, eqb}
 use lib.IntN.{pos, negsuc, neg_ℤ}
@@ -13,9 +13,7 @@ use Rattle.text_rows.specs.Rows.{on_grid, units_of}
 use Rattle.decimals.specs.Held.{held}
 use Rattle.row_reader.specs.Reading.{magnitude_read, decimal_read, units_in, signed_read}
 use Rattle.row_reader.specs.declared.values.Magnitude.{Magnitude}
-use Rattle.row_reader.specs.declared.values.Magnitude.TheVariants as Magnitude
 use Rattle.row_reader.specs.declared.values.Weight.{Weight}
-use Rattle.row_reader.specs.declared.values.Weight.TheVariants as Weight
 
 and-false : (b : Bool) → (b && false) ≡ false
 and-false true = refl

@@ -8,7 +8,6 @@ use Rattle.tropical_weight.specs.Limits.{weight_limit}
 use Rattle.text_rows.specs.Fields.{weight_of}
 use Rattle.row_reader.specs.Reading.{weight_read}
 use Rattle.row_reader.specs.declared.values.Weight.{Weight}
-use Rattle.row_reader.specs.declared.values.Weight.TheVariants as Weight
 
 abbrev nines : List ℕ
 nines = 57 ∷ 57 ∷ 57 ∷ 57 ∷ 57 ∷ 57 ∷ 57 ∷ 57 ∷ 57 ∷ 57 ∷ 57 ∷ 57 ∷ 57 ∷ 57 ∷ 57 ∷ 57 ∷ 57 ∷ 57 ∷ 57 ∷ 57 ∷ 57 ∷ 57 ∷ 57 ∷ 57 ∷ 57 ∷ 57 ∷ 57 ∷ 57 ∷ 57 ∷ 57 ∷ 57 ∷ 57 ∷ 57 ∷ 57 ∷ 57 ∷ 57 ∷ 57 ∷ 57 ∷ 57 ∷ 57 ∷ []

@@ -15,11 +15,8 @@ use Rattle.row_reader.specs.Places.{line_end, row_fields, Spans}
 use Rattle.row_reader.specs.Reading.{number_read, weight_read, is_readable}
 use Rattle.row_reader.specs.RowReading.{final_read, link_read, final_at, link_at, first_tail, row_read, row_at}
 use Rattle.row_reader.specs.declared.values.Number.{Number}
-use Rattle.row_reader.specs.declared.values.Number.TheVariants as Number
 use Rattle.row_reader.specs.declared.values.Weight.{Weight}
-use Rattle.row_reader.specs.declared.values.Weight.TheVariants as Weight
 use Rattle.row_reader.specs.declared.row.Read.{Read}
-use Rattle.row_reader.specs.declared.row.Read.TheVariants as Read
 use Rattle.row_reader.proofs.Places.{none_left, one_more}
 
 either : (b : Bool) (r : Read) → r ≡ Read.Unreadable → cond b r Read.Unreadable ≡ Read.Unreadable

@@ -16,7 +16,6 @@ use Rattle.row_reader.specs.Reading.{weight_read}
 use Rattle.row_reader.specs.RowReading.{row_read, row_at}
 use Rattle.row_reader.specs.declared.values.Weight.{Weight}
 use Rattle.row_reader.specs.declared.row.Read.{Read}
-use Rattle.row_reader.specs.declared.row.Read.TheVariants as Read
 use Rattle.row_reader.proofs.Places.{rows_step}
 
 abbrev before : Row → Option (List Row) → Option (List Row)

@@ -16,12 +16,9 @@ use Rattle.row_reader.specs.Reading.{weight_read}
 use Rattle.row_reader.specs.RowReading.{row_at}
 use Rattle.row_reader.specs.Surveying.{passes, is_read, end_of, survey_read, survey_row, survey_onto, survey_from, survey_rows, surveyed, node_of}
 use Rattle.row_reader.specs.declared.values.Weight.{Weight}
-use Rattle.row_reader.specs.declared.values.Weight.TheVariants as Weight
 use Rattle.row_reader.specs.declared.row.Read.{Read}
-use Rattle.row_reader.specs.declared.row.Read.TheVariants as Read
 use Rattle.row_reader.specs.declared.survey.Survey.{Survey}
 use Rattle.row_reader.specs.declared.survey.Surveyed.{Surveyed}
-use Rattle.row_reader.specs.declared.survey.Surveyed.TheVariants as Surveyed
 use Rattle.row_reader.proofs.Steps.{step-none, step-link, step-final}
 
 -- ---- the fold is what the definitions say

@@ -17,13 +17,9 @@ use Rattle.row_reader.specs.Runs.{run_of, not_point}
 use Rattle.decimals.specs.Held.{held, digits_held}
 use Rattle.row_reader.specs.Reading.{digits_read, number_read, magnitude_read, weight_read, decimal_read, signed_read}
 use Rattle.decimals.specs.declared.read.Digits.{Digits}
-use Rattle.decimals.specs.declared.read.Digits.TheVariants as Digits
 use Rattle.row_reader.specs.declared.values.Number.{Number}
-use Rattle.row_reader.specs.declared.values.Number.TheVariants as Number
 use Rattle.row_reader.specs.declared.values.Magnitude.{Magnitude}
-use Rattle.row_reader.specs.declared.values.Magnitude.TheVariants as Magnitude
 use Rattle.row_reader.specs.declared.values.Weight.{Weight}
-use Rattle.row_reader.specs.declared.values.Weight.TheVariants as Weight
 use Rattle.row_reader.proofs.Grids.{held-parts, plus-read, minus-read}
 
 -- a part of a slice to its end, as the code takes it

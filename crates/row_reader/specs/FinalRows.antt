@@ -4,11 +4,8 @@ use Rattle.std.proofs.Math.Option.{Option, none, some}
 use Rattle.tropical_weight.specs.Limits.{node_limit}
 use Rattle.text_rows.specs.Rows.{Row, link, final, finals_once}
 use Rattle.row_reader.specs.declared.row.Read.{Read}
-use Rattle.row_reader.specs.declared.row.Read.TheVariants as Read
 use Rattle.row_reader.specs.declared.finals.Pass.{Pass}
-use Rattle.row_reader.specs.declared.finals.Pass.TheVariants as Pass
 use Rattle.row_reader.specs.declared.finals.Seen.{Seen}
-use Rattle.row_reader.specs.declared.finals.Seen.TheVariants as Seen
 
 -- rows that are read have no node with two final rows
 abbrev pub once_in : Option (List Row) → Bool

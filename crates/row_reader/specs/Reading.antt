@@ -5,13 +5,9 @@ use Rattle.text_rows.specs.Fields as Fields
 use Rattle.text_rows.specs.Fields.{million, and_then, finite, barred}
 use Rattle.text_rows.specs.Rows.{units_in_one, on_grid, units_of}
 use Rattle.decimals.specs.declared.read.Digits.{Digits}
-use Rattle.decimals.specs.declared.read.Digits.TheVariants as Digits
 use Rattle.row_reader.specs.declared.values.Number.{Number}
-use Rattle.row_reader.specs.declared.values.Number.TheVariants as Number
 use Rattle.row_reader.specs.declared.values.Magnitude.{Magnitude}
-use Rattle.row_reader.specs.declared.values.Magnitude.TheVariants as Magnitude
 use Rattle.row_reader.specs.declared.values.Weight.{Weight}
-use Rattle.row_reader.specs.declared.values.Weight.TheVariants as Weight
 
 abbrev pub digits_read : Option ℕ → Digits
 digits_read none = Digits.Unreadable

@@ -6,11 +6,8 @@ use Rattle.text_rows.specs.Rows.{Row, link, final, row_by}
 use Rattle.row_reader.specs.Places.{line_end, row_fields}
 use Rattle.row_reader.specs.Reading.{number_read, weight_read, is_readable}
 use Rattle.row_reader.specs.declared.values.Number.{Number}
-use Rattle.row_reader.specs.declared.values.Number.TheVariants as Number
 use Rattle.row_reader.specs.declared.values.Weight.{Weight}
-use Rattle.row_reader.specs.declared.values.Weight.TheVariants as Weight
 use Rattle.row_reader.specs.declared.row.Read.{Read}
-use Rattle.row_reader.specs.declared.row.Read.TheVariants as Read
 
 -- ---- by what is read of the fields
 abbrev pub final_read : Number → Weight → ℕ → Read

@@ -5,12 +5,9 @@ use Rattle.text_rows.specs.Rows.{Row, highest, weights_pass, highest_in, weight_
 use Rattle.text_rows.specs.Convert.{links_in, is_link}
 use Rattle.row_reader.specs.Places.{rows_left}
 use Rattle.row_reader.specs.declared.values.Weight.{Weight}
-use Rattle.row_reader.specs.declared.values.Weight.TheVariants as Weight
 use Rattle.row_reader.specs.declared.row.Read.{Read}
-use Rattle.row_reader.specs.declared.row.Read.TheVariants as Read
 use Rattle.row_reader.specs.declared.survey.Survey.{Survey}
 use Rattle.row_reader.specs.declared.survey.Surveyed.{Surveyed}
-use Rattle.row_reader.specs.declared.survey.Surveyed.TheVariants as Surveyed
 
 abbrev pub passes : Weight → Bool
 passes (Weight.Units k) = true

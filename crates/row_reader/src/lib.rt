@@ -1,5 +1,6 @@
 // Rows read from a text, one by one, and passes over all of them.
 #![tactic(auto)]
+
 pub mod fields;
 pub mod finals;
 pub mod row;

@@ -84,6 +84,7 @@ node-mem v (d ∷ ds) h = go (Memᴰ.append_cases (node_by d.fate (site d.trail)
     new expanded (some u) p q k = (d.trail, Memᴰ.head (λ i. record { trail = d.trail; fate = sym p i }), q ∙ ap some (sym (Memᴰ.eq_of_singleton k)))
     new dropped s p q k = absurd (Memᴰ.not-nil k)
     new listed s p q k = absurd (Memᴰ.not-nil k)
+    new barred s p q k = elim k [ ]
 
     go : v ∈ node_by d.fate (site d.trail) ⊎ v ∈ nodes_of ds → (v ∈ nodes_of ds → (t : Trail) × (took t expanded ∈ ds) × (site t ≡ some v)) → (t : Trail) × (took t expanded ∈ (d ∷ ds)) × (site t ≡ some v)
     go (inl k) ih = new d.fate (site d.trail) refl refl k

@@ -65,7 +65,7 @@ module _ (m : Machine) (s : Search) (n : Numbered s) where
     where
       is : link whole k ≡ blank 0 one (suc (get_or s.listed k 0))
       is =
-          ListN.get_d_map (λ (c : Copy). c.link) (copies m s) k no_copy
+          ListN.get_or-map (λ (c : Copy). c.link) (copies m s) k no_copy
           ∙ ap (λ (c : Copy). c.link) (get_or-append (map start_copy s.listed) (entry_copies m s (length s.entries - 1)) no_copy k (omega (arith, length-map s.listed start_copy))
           ∙ get_d_map start_copy s.listed k 0 no_copy h)
 
@@ -79,7 +79,7 @@ module _ (m : Machine) (s : Search) (n : Numbered s) where
     where
       is : link whole (length s.listed + j) ≡ (entry_copy m s (suc j)).link
       is =
-          ListN.get_d_map (λ (c : Copy). c.link) (copies m s) (length s.listed + j) no_copy
+          ListN.get_or-map (λ (c : Copy). c.link) (copies m s) (length s.listed + j) no_copy
           ∙ ap (λ (c : Copy). c.link) (ap (λ (k : ℕ). get_or (copies m s) (k + j) no_copy) (sym (length-map s.listed start_copy))
           ∙ get_or-append-add (map start_copy s.listed) (entry_copies m s (length s.entries - 1)) j no_copy
           ∙ get_or-list_below (length s.entries - 1) (λ j. entry_copy m s (suc j)) j no_copy (omega arith))

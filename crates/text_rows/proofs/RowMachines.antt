@@ -13,12 +13,12 @@ use borrow.Author.Tests.{eqb-true, ne_eqb}
 use Rattle.tropical_weight.specs.Tropical.{one}
 use Rattle.tropical_weight.specs.Grid as Grid
 use Rattle.sheet.specs.Below.{list_below}
-use Rattle.sheet.specs.Sheet.{Parts, no_start, link_count, node_count, ilabel, olabel, next, mark, final_bits}
+use Rattle.sheet.specs.Sheet.{Parts, no_start, link_count, node_count, mark, final_bits}
 use Rattle.sheet.specs.Machine.{Link, weight_of, sources_below, start_of, final_of, link_of, machine_of}
 use Rattle.sheet.proofs.Below.{length-list_below, get_or-list_below, list_below-same, flat-snoc}
 use Rattle.sheet.proofs.Encoding.{Held, weight-back}
 use Rattle.text_rows.specs.Fields.{Weight, finite, barred}
-use Rattle.text_rows.specs.Rows.{Row, link, final, first_node, units_of, weight_passes, weights_pass, weighs}
+use Rattle.text_rows.specs.Rows.{Row, link, final, first_node, weight_passes, weights_pass, weighs}
 use Rattle.text_rows.specs.Convert.{field_of, link_from, count_from, mark_fields, nodes_in, parts_of_rows}
 use Rattle.text_rows.specs.RowMachine.{link_in, final_in, machine_of_rows}
 use Rattle.text_rows.proofs.Segments.{segments, length-links}

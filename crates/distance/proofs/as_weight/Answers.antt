@@ -2,7 +2,6 @@ use mathlib.Core.Path.{ap, sym, ◌∙◌}
 use Rattle.tropical_weight.specs.Limits.{unit}
 use Rattle.tropical_weight.proofs.Exact.{covered}
 use Rattle.distance.specs.Held.{weight_in}
-use borrow.Author.Rules.{rules}
 use Rattle.distance.proofs.as_weight.Goals as goal
 
 pub returns-in-Unreached : goal.returns-in-Unreached

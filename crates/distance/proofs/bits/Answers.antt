@@ -1,6 +1,5 @@
 use mathlib.Core.Path.{sym, ap, ◌∙◌}
 use Rattle.distance.specs.Held.{bits_in}
-use borrow.Author.Rules.{rules}
 use Rattle.distance.proofs.bits.Goals as goal
 
 pub returns-in-Reached : goal.returns-in-Reached

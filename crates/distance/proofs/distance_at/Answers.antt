@@ -1,7 +1,6 @@
 use mathlib.Core.Path.{ap, ◌∙◌}
 use Rattle.distance.specs.declared.Distance.TheVariants.{Reached}
 use Rattle.distance.proofs.Words.{read-unreached, read-reached}
-use borrow.Author.Rules.{rules}
 use Rattle.distance.proofs.distance_at.Goals as goal
 
 pub returns-then-work-at-eq0 : goal.returns-then-work-at-eq0

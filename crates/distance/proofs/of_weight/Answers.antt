@@ -4,7 +4,6 @@ use lib.Ieee.{lt}
 use Rattle.tropical_weight.specs.Limits.{unit}
 use Rattle.tropical_weight.proofs.Exact.{covered}
 use Rattle.distance.specs.declared.Distance.TheVariants.{Reached, Unreached}
-use borrow.Author.Rules.{rules}
 use Rattle.distance.proofs.of_weight.Goals as goal
 
 pub returns-then-natural_less : goal.returns-then-natural_less

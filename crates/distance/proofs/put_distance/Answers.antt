@@ -1,6 +1,5 @@
 use Prim.Native.Nat.{◌+◌}
 use lib.ListN.{set}
-use borrow.Author.Rules.{rules}
 use Rattle.distance.proofs.put_distance.Goals as goal
 
 pub returns : goal.returns

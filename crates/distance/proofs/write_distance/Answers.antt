@@ -2,7 +2,6 @@ use mathlib.Core.Path.{◌∙◌}
 use mathlib.Core.List.{[], ◌∷◌}
 use lib.Seq.{sets}
 use Rattle.sheet.specs.Words.{bytes_of_all}
-use borrow.Author.Rules.{rules}
 use Rattle.distance.proofs.write_distance.Goals as goal
 
 pub returns : goal.returns

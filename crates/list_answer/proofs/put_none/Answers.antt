@@ -1,5 +1,4 @@
 use Rattle.list_answer.proofs.NoneListed.{none-short, none-long}
-use borrow.Author.Rules.{rules}
 use Rattle.list_answer.proofs.put_none.Goals as goal
 
 pub returns-then-res-lt-TRAILER : goal.returns-then-res-lt-TRAILER

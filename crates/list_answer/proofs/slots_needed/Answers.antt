@@ -4,7 +4,6 @@ use native.Mathlib.Nat.{mul-le-mul_right}
 use native.Mathlib.Omega.{arith}
 use Rattle.tropical_weight.specs.Limits.{list_limit}
 use Rattle.list_answer.proofs.SlotsNeeded.{slots-many}
-use borrow.Author.Rules.{rules}
 use Rattle.list_answer.proofs.slots_needed.Goals as goal
 
 -- the product, at its largest

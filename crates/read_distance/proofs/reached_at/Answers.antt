@@ -26,7 +26,7 @@ cost-of c = to_z w32 (of_z w32 c.cost-units.result)
 is-cost : (c : After-cost-units) → Costs unit (of_bits binary32 c.args.bits) (cost-of c)
 is-cost c =
     subst (λ (x : Float). Costs unit x (to_z w32 (of_z w32 c.cost-units.result))) c.from_bits.ensures
-    (subst (λ (z : ℤ). Costs unit c.from_bits.result z) (sym (to_z-of_z w32 c.cost-units.result (sfits_of c.cost-units.type-inv))) c.cost-units.ensures)
+    (subst (λ (z : ℤ). Costs unit c.from_bits.result z) (sym (to_z-of_z w32 c.cost-units.result (sfits_of c.cost-units.type_inv))) c.cost-units.ensures)
 
 pub returns-then-magnitude-gt-SUM_LIMIT : goal.returns-then-magnitude-gt-SUM_LIMIT
 returns-then-magnitude-gt-SUM_LIMIT c =

@@ -19,7 +19,7 @@ returns-in-Refused c =
     let bytes = a.sheet.now in
     let k = c.in-Refused.k in
     let refused = refused-number bytes (input_number bytes) k (sym c.input.ensures ∙ c.in-Refused.is) in
-    let o = outcome-input bytes a.work.now a.result.now k refused.0 refused.1 (subst (λ (n : ℕ). n ≤ 6) refused.0 (input-most bytes)) in record {
+    let o = outcome-input bytes a.work.now a.res.now k refused.0 refused.1 (subst (λ (n : ℕ). n ≤ 6) refused.0 (input-most bytes)) in record {
       value = o.answer-is;
       work_new = o.work-is;
       res_after = o.result-is;
@@ -30,8 +30,8 @@ pub returns-in-Accepted : goal.returns-in-Accepted
 returns-in-Accepted c =
     let a = c.args in
     let e = c.distances_of.ensures in record {
-      value = e.0;
-      work_new = e.1.0;
-      res_after = e.1.1;
-      promised = promised-by a.sheet.now (length a.work.now) a.result.now _ _ e.0 e.1.1;
+      value = e.value;
+      work_new = e.work_new;
+      res_after = e.res_after;
+      promised = promised-by a.sheet.now (length a.work.now) a.res.now _ _ e.value e.res_after;
     }

@@ -22,7 +22,7 @@ returns-in-Refused c =
     let bytes = a.sheet.now in
     let k = c.in-Refused.k in
     let refused = refused-number bytes (input_number bytes) k (sym c.input.ensures ∙ c.in-Refused.is) in
-    let o = outcome-input bytes a.n a.work.now a.result.now k refused.0 refused.1 (subst (λ (n : ℕ). n ≤ 6) refused.0 (input-most bytes)) in record {
+    let o = outcome-input bytes a.n a.work.now a.res.now k refused.0 refused.1 (subst (λ (n : ℕ). n ≤ 6) refused.0 (input-most bytes)) in record {
       value = o.answer-is;
       work_new = o.work-is;
       res_after = o.result-is;
@@ -32,10 +32,10 @@ returns-in-Refused c =
 pub returns-in-Accepted : goal.returns-in-Accepted
 returns-in-Accepted c =
     let a = c.args in
-    let e = c.Lists-of.ensures in
-    let p = promised a.sheet.now (λ i. omega (arith, c.type_inv.sheet i)) a.n (length a.work.now) a.result.now in record {
-      value = e.0;
-      work_new = e.1.0;
-      res_after = e.1.1;
-      promised = subst (λ l. Promised a.sheet.now a.n c.Lists-of.result l) (sym e.1.1) (subst (λ r. Promised a.sheet.now a.n r (result_after a.sheet.now a.n (length a.work.now) a.result.now)) (sym e.0) p);
+    let e = c.lists_of.ensures in
+    let p = promised a.sheet.now (λ i. omega (arith, c.type_inv.sheet i)) a.n (length a.work.now) a.res.now in record {
+      value = e.value;
+      work_new = e.work_new;
+      res_after = e.res_after;
+      promised = subst (λ l. Promised a.sheet.now a.n c.lists_of.result l) (sym e.res_after) (subst (λ r. Promised a.sheet.now a.n r (result_after a.sheet.now a.n (length a.work.now) a.res.now)) (sym e.value) p);
     }

@@ -11,7 +11,7 @@ use Rattle.yeldmur.proofs.yeldmur_rows_to_sheet.Goals as goal
 pub returns : goal.returns
 returns c =
     let a = c.args in
-    let k = rows_number a.text.now (length a.result.now) in
+    let k = rows_number a.text.now (length a.res.now) in
     let size = length_of (rows_in a.text.now) in
     let call = c.rows_to_sheet-answer in
     let told = c.tell.ensures ∙ ap (λ (x : Converted). converted_told x a.size.now) call.ensures.value in

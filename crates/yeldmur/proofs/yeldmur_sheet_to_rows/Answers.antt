@@ -12,7 +12,7 @@ use Rattle.yeldmur.proofs.yeldmur_sheet_to_rows.Goals as goal
 pub returns : goal.returns
 returns c =
     let a = c.args in
-    let k = text_number a.sheet.now (length a.result.now) in
+    let k = text_number a.sheet.now (length a.res.now) in
     let size = length (text_of (parts_of a.sheet.now)) in
     let call = c.sheet_to_rows-answer in
     let told = c.tell.ensures ∙ ap (λ (x : Converted). converted_told x a.size.now) call.ensures.value in

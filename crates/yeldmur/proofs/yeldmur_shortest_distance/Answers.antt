@@ -12,7 +12,7 @@ use Rattle.yeldmur.proofs.yeldmur_shortest_distance.Goals as goal
 pub returns-in-Count : goal.returns-in-Count
 returns-in-Count c =
     let a = c.args in
-    let k = distance_number a.sheet.now (length a.work.now) (length a.result.now) in
+    let k = distance_number a.sheet.now (length a.work.now) (length a.res.now) in
     let e = c.shortest_distance.ensures in
     let q = c.in-Count.is in
     let t = told (λ d. distances_told d a.values.now) (λ x. x.0) k q e.0 (distances-number k (length (distances (machine a.sheet.now))) a.values.now) in record {
@@ -26,7 +26,7 @@ returns-in-Count c =
 pub returns-in-Refused : goal.returns-in-Refused
 returns-in-Refused c =
     let a = c.args in
-    let k = distance_number a.sheet.now (length a.work.now) (length a.result.now) in
+    let k = distance_number a.sheet.now (length a.work.now) (length a.res.now) in
     let e = c.shortest_distance.ensures in
     let q = c.in-Refused.is in
     let count = length (distances (machine a.sheet.now)) in

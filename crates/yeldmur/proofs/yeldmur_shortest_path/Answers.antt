@@ -10,7 +10,7 @@ use Rattle.yeldmur.proofs.yeldmur_shortest_path.Goals as goal
 pub returns-in-Made : goal.returns-in-Made
 returns-in-Made c =
     let a = c.args in
-    let k = list_number a.sheet.now a.n (length a.work.now) (length a.result.now) in
+    let k = list_number a.sheet.now a.n (length a.work.now) (length a.res.now) in
     let r = result_of a.sheet.now a.n in
     let e = c.shortest_path.ensures in
     let q = c.in-Made.is in
@@ -25,7 +25,7 @@ returns-in-Made c =
 pub returns-in-Refused : goal.returns-in-Refused
 returns-in-Refused c =
     let a = c.args in
-    let k = list_number a.sheet.now a.n (length a.work.now) (length a.result.now) in
+    let k = list_number a.sheet.now a.n (length a.work.now) (length a.res.now) in
     let r = result_of a.sheet.now a.n in
     let e = c.shortest_path.ensures in
     let q = c.in-Refused.is in

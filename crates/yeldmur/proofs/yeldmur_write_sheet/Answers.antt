@@ -11,7 +11,7 @@ pub returns-in-Length : goal.returns-in-Length
 returns-in-Length c =
     let a = c.args in
     let p = parts a.links.now a.nodes.now a.start in
-    let k = write_number p (length a.result.now) in
+    let k = write_number p (length a.res.now) in
     let w = c.write.ensures in
     let t = told (λ w. written_told w a.size.now) (λ x. x.0) k c.in-Length.is w.0 (written-number k p a.size.now) in record {
       value = t.0;
@@ -24,7 +24,7 @@ pub returns-in-Refused : goal.returns-in-Refused
 returns-in-Refused c =
     let a = c.args in
     let p = parts a.links.now a.nodes.now a.start in
-    let k = write_number p (length a.result.now) in
+    let k = write_number p (length a.res.now) in
     let w = c.write.ensures in
     let t = told (λ w. written_told w a.size.now) (λ x. x.0) k c.in-Refused.is w.0 (written-number k p a.size.now) in record {
       value = t.0;

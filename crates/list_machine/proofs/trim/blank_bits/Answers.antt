@@ -1,6 +1,5 @@
 use borrow.Author.Tests.{eq-eqb, ne_eqb}
 use native.Mathlib.Omega.{arith}
-use borrow.Author.Rules.{rules}
 use Rattle.list_machine.proofs.trim.blank_bits.Goals as goal
 
 pub returns-then-v-eq-NOTHING : goal.returns-then-v-eq-NOTHING

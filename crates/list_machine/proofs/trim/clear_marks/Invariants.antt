@@ -1,11 +1,7 @@
-use borrow.Author.Rules.{rules}
-use mathlib.Core.Path.{◌≡◌, sym, ap, ◌∙◌}
-use mathlib.Core.List.{List}
-use Prim.Native.Nat.{ℕ, ◌+◌, ◌-◌, ◌*◌, ◌≤◌}
-use native.Mathlib.Omega.{arith}
-use lib.ListN.{length, set, length-set}
+use mathlib.Core.Path.{◌≡◌}
+use Prim.Native.Nat.{◌-◌, ◌≤◌}
+use lib.ListN.{length}
 use Rattle.list_machine.specs.TrimWords.{unmarked}
-use Rattle.list_machine.proofs.Marks.{unmarked-next}
 use Rattle.list_machine.proofs.trim.clear_marks.Given as goal
 
 abbrev pub invariant-loop-i : goal.invariant-loop-i

@@ -2,7 +2,6 @@ use mathlib.Core.Path.{ap, ◌∙◌}
 use Prim.Native.Nat.{◌-◌}
 use Rattle.list_machine.specs.TrimWords.{mark_listed, mark_back}
 use Rattle.list_machine.proofs.Marks.{listed-ready, back-ready}
-use borrow.Author.Rules.{rules}
 use Rattle.list_machine.proofs.trim.mark.Goals as goal
 
 pub mark_listed-requires : goal.mark_listed-requires

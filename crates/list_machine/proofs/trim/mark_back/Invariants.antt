@@ -1,12 +1,8 @@
-use borrow.Author.Rules.{rules}
-use mathlib.Core.Path.{◌≡◌, sym, ap, ◌∙◌}
-use mathlib.Core.List.{List}
+use mathlib.Core.Path.{◌≡◌}
 use Prim.Native.Nat.{ℕ, ◌+◌, ◌-◌, ◌*◌, ◌≤◌, ◌<◌}
-use native.Mathlib.Omega.{arith}
 use lib.ListN.{length}
 use Rattle.search_slots.specs.Slots.{from_word}
 use Rattle.list_machine.specs.TrimWords.{mark_back}
-use Rattle.list_machine.proofs.Marks.{back_none, back-next, from-keeps, from-other}
 use Rattle.list_machine.proofs.trim.mark_back.Given as goal
 
 abbrev pub invariant-loop-i : goal.invariant-loop-i

@@ -1,5 +1,4 @@
 use borrow.Author.Tests.{eq-eqb, ne_eqb}
-use borrow.Author.Rules.{rules}
 use Rattle.list_machine.proofs.trim.mark_from.Goals as goal
 
 pub returns-then-part-i-eq0 : goal.returns-then-part-i-eq0

@@ -1,47 +1,38 @@
 use borrow.Author.Rules.{rules}
 use mathlib.Core.Path.{◌≡◌, sym, ap, ◌∙◌}
 use mathlib.Core.List.{List}
-use Prim.Native.Nat.{ℕ, ◌+◌, ◌-◌, ◌*◌, ◌≤◌}
+use Prim.Native.Nat.{ℕ, ◌+◌, ◌*◌, ◌≤◌, ◌<◌}
 use native.Mathlib.Omega.{arith}
 use lib.ListN.{length, set, length-set}
 use Rattle.search_slots.specs.Slots.{listed_word}
 use Rattle.list_machine.specs.TrimWords.{mark_listed}
 use Rattle.list_machine.proofs.Marks.{listed_next, listed-keeps, listed-other}
 use Rattle.list_machine.proofs.trim.mark_listed.Goals as goal
-use Rattle.list_machine.proofs.trim.mark_listed.Lts
-use Rattle.list_machine.proofs.trim.mark_listed.Reads
-use Rattle.list_machine.proofs.trim.mark_listed.Tie
-
-abbrev After-slice_known-1 : Type 0
-After-slice_known-1 = Lts.After-slice_known Tie.the-claims Reads.Pre Reads.Post goal.the-invariant-loop-k goal.the-decreases-loop-k
 
 -- the entry listed next has a slot, and no mark changes which it is
-inside : (c : After-slice_known-1) → 8 * listed_word c.loop-k.part c.loop-k.k + 8 ≤ length c.loop-k.part
-inside c =
-    let turn = c.loop-k in
-    let start = c.before.before.before in
-    let old = start.args.part.now in
-    let same : listed_word turn.part turn.k ≡ listed_word old turn.k = ap (λ (l : List ℕ). listed_word l turn.k) turn.invariant.2 ∙ listed-keeps (length old) turn.k old (λ j h. omega (arith, start.requires.1 j (omega arith))) (8 * turn.k + 6) (listed-other (length old) turn.k) in
-    omega (arith, same, turn.invariant.1, start.requires.1 turn.k (omega arith))
+inside : (old part : List ℕ) (listed k : ℕ) → ((j : ℕ) → j < listed → 8 * listed_word old j + 8 ≤ length old) → k < listed → length part ≡ length old → part ≡ mark_listed k old → 8 * listed_word part k + 8 ≤ length part
+inside old part listed k each lt long is =
+    let same : listed_word part k ≡ listed_word old k = ap (λ (l : List ℕ). listed_word l k) is ∙ listed-keeps (length old) k old (λ j h. omega (arith, each j (omega arith))) (8 * k + 6) (listed-other (length old) k) in
+    omega (arith, same, long, each k lt)
 
 pub loop-k-init : goal.loop-k-init
 unfolding mark_listed
 loop-k-init c = search rules
 
 pub overflow_cast-i : goal.overflow_cast-i
-overflow_cast-i c = omega (arith, inside c)
+overflow_cast-i c = omega (arith, inside c.args.part.now c.loop-k.part c.args.listed c.loop-k.k c.requires.1 c.loop-k-test.true c.loop-k.invariant.1 c.loop-k.invariant.2)
 
 pub overflow_mul-part : goal.overflow_mul-part
-overflow_mul-part c = omega (arith, inside c)
+overflow_mul-part c = omega (arith, inside c.args.part.now c.loop-k.part c.args.listed c.loop-k.k c.requires.1 c.loop-k-test.true c.loop-k.invariant.1 c.loop-k.invariant.2)
 
 pub overflow_add-part : goal.overflow_add-part
-overflow_add-part c = omega (arith, inside c)
+overflow_add-part c = omega (arith, inside c.args.part.now c.loop-k.part c.args.listed c.loop-k.k c.requires.1 c.loop-k-test.true c.loop-k.invariant.1 c.loop-k.invariant.2)
 
 pub offset_bounds-part-i : goal.offset_bounds-part-i
-offset_bounds-part-i c = omega (arith, inside c)
+offset_bounds-part-i c = omega (arith, inside c.args.part.now c.loop-k.part c.args.listed c.loop-k.k c.requires.1 c.loop-k-test.true c.loop-k.invariant.1 c.loop-k.invariant.2)
 
 pub bounds-part-i : goal.bounds-part-i
-bounds-part-i c = omega (arith, inside c)
+bounds-part-i c = omega (arith, inside c.args.part.now c.loop-k.part c.args.listed c.loop-k.k c.requires.1 c.loop-k-test.true c.loop-k.invariant.1 c.loop-k.invariant.2)
 
 pub loop-k-preserved : goal.loop-k-preserved
 loop-k-preserved c =

@@ -1,9 +1,9 @@
 use borrow.Author.Rules.{rules}
 use mathlib.Core.Path.{◌≡◌, sym, ap, ◌∙◌}
 use mathlib.Core.List.{List}
-use Prim.Native.Nat.{ℕ, ◌+◌, ◌-◌, ◌≤◌, ◌<◌}
+use Prim.Native.Nat.{ℕ, ◌+◌, ◌-◌, ◌<◌}
 use native.Mathlib.Omega.{arith}
-use lib.ListN.{length, set}
+use lib.ListN.{set}
 use Rattle.list_machine.specs.TrimWords.{mark_of, mark_count, number_one, numbered}
 use Rattle.list_machine.proofs.Marks.{numbered_next, count_next, mark-kept, count-le}
 use Rattle.list_machine.proofs.trim.number.Goals as goal

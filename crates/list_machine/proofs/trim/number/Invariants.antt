@@ -1,11 +1,7 @@
-use borrow.Author.Rules.{rules}
-use mathlib.Core.Path.{◌≡◌, sym, ap, ◌∙◌}
-use mathlib.Core.List.{List}
-use Prim.Native.Nat.{ℕ, ◌+◌, ◌-◌, ◌≤◌, ◌<◌}
-use native.Mathlib.Omega.{arith}
-use lib.ListN.{length, set}
-use Rattle.list_machine.specs.TrimWords.{mark_of, mark_count, number_one, numbered}
-use Rattle.list_machine.proofs.Marks.{numbered_next, count_next, mark-kept, count-le}
+use mathlib.Core.Path.{◌≡◌}
+use Prim.Native.Nat.{◌-◌, ◌≤◌, ◌<◌}
+use lib.ListN.{length}
+use Rattle.list_machine.specs.TrimWords.{mark_count, numbered}
 use Rattle.list_machine.proofs.trim.number.Given as goal
 
 abbrev pub invariant-loop-i : goal.invariant-loop-i

@@ -5,10 +5,14 @@ use Rattle.list_machine.proofs.trim.number_one.Goals as goal
 
 pub returns-then-part-at-eq0 : goal.returns-then-part-at-eq0
 returns-then-part-at-eq0 c =
-    let told = simp (eq-eqb _ _ c.if-part-at-eq0.true) (search rules) in
-    record { value = told.0; part_after = told.1 }
+    record {
+      value = simp (eq-eqb _ _ c.if-part-at-eq0.true) (search rules);
+      part_after = simp (eq-eqb _ _ c.if-part-at-eq0.true) (search rules);
+    }
 
 pub returns : goal.returns
 returns c =
-    let told = simp (ne_eqb _ _ c.if-part-at-eq0.false) (refl, refl) in
-    record { value = told.0; part_after = told.1 }
+    record {
+      value = simp (ne_eqb _ _ c.if-part-at-eq0.false) refl;
+      part_after = simp (ne_eqb _ _ c.if-part-at-eq0.false) refl;
+    }

@@ -1,14 +1,9 @@
-use Rattle.list_machine.proofs.Marks.{count_next}
-use borrow.Author.Rules.{rules}
-use mathlib.Core.Path.{◌≡◌, sym, ap, ◌∙◌}
-use mathlib.Core.List.{List}
-use Prim.Native.Nat.{ℕ, ◌+◌, ◌-◌, ◌*◌, ◌≤◌, ◌<◌}
-use native.Mathlib.Omega.{arith}
+use mathlib.Core.Path.{◌≡◌}
+use Prim.Native.Nat.{◌+◌, ◌-◌, ◌*◌, ◌≤◌, ◌<◌}
 use lib.ListN.{length}
 use lib.Seq.{sets}
 use Rattle.sheet.specs.Words.{bytes_of_all}
-use Rattle.list_machine.specs.TrimWords.{mark_count, stated_words, link_words}
-use Rattle.list_machine.proofs.Placing.{stored_next, links-next, length-links, count-mono}
+use Rattle.list_machine.specs.TrimWords.{mark_count, link_words}
 use Rattle.list_machine.proofs.trim.put_entry_links.Given as goal
 
 abbrev pub invariant-loop-i : goal.invariant-loop-i

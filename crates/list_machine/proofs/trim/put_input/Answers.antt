@@ -7,7 +7,6 @@ use Prim.Native.Nat.{ℕ}
 use native.Mathlib.Omega.{arith}
 use lib.Seq.{sets}
 use Rattle.sheet.specs.Words.{bytes_of_all}
-use borrow.Author.Rules.{rules}
 use Rattle.list_machine.proofs.trim.put_input.Goals as goal
 
 pub returns-then-part-i-eq0 : goal.returns-then-part-i-eq0

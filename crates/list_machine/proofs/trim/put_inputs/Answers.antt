@@ -2,9 +2,8 @@ use Rattle.list_machine.proofs.Marks.{count_next}
 use borrow.Author.Rules.{rules}
 use mathlib.Core.Path.{◌≡◌, sym, ap, ◌∙◌}
 use mathlib.Core.List.{List}
-use Prim.Native.Nat.{ℕ, ◌+◌, ◌-◌, ◌*◌, ◌≤◌, ◌<◌}
+use Prim.Native.Nat.{ℕ, ◌+◌, ◌-◌}
 use native.Mathlib.Omega.{arith}
-use lib.ListN.{length}
 use lib.Seq.{sets}
 use Rattle.sheet.specs.Words.{bytes_of_all}
 use Rattle.list_machine.specs.TrimWords.{mark_count, repeat_words, input_words}
@@ -34,7 +33,7 @@ loop-i-preserved c =
       omega arith,
       call.auto.res ∙ turn.invariant.2,
       omega (arith, call.ensures.value, turn.invariant.3, count, ap (mark_count part) back),
-      stored_next args.res.now turn.result call.new.res args.at (input_words args.part.now (turn.i - 1)) (repeat_words part turn.i) turn.next turn.invariant.4 call.ensures.res_after (omega (arith, turn.invariant.3, length-inputs part (turn.i - 1)))
+      stored_next args.res.now turn.res call.new.res args.at (input_words args.part.now (turn.i - 1)) (repeat_words part turn.i) turn.next turn.invariant.4 call.ensures.res_after (omega (arith, turn.invariant.3, length-inputs part (turn.i - 1)))
           ∙ ap (λ (l : List ℕ). sets args.res.now args.at (bytes_of_all l)) (sym (inputs-next part turn.i turn.invariant.0) ∙ ap (input_words args.part.now) back),
     )
 

@@ -6,11 +6,10 @@ use Prim.Native.Nat.{ℕ}
 use native.Mathlib.Omega.{arith}
 use lib.Seq.{sets}
 use Rattle.sheet.specs.Words.{bytes_of_all}
-use borrow.Author.Rules.{rules}
 use Rattle.list_machine.proofs.trim.put_link.Goals as goal
 
 pub blank_bits-requires : goal.blank_bits-requires
-blank_bits-requires c = λ h. c.requires.0.Node-in c.if-input.true h
+blank_bits-requires c = λ h. c.requires.0.node_in c.if-input.true h
 
 pub returns-then-input : goal.returns-then-input
 returns-then-input c =

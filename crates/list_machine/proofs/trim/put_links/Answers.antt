@@ -2,7 +2,6 @@ use Prim.Native.Nat.{◌-◌, ◌*◌}
 use native.Mathlib.Omega.{arith}
 use Rattle.list_machine.specs.TrimWords.{start_words, link_words}
 use Rattle.list_machine.proofs.Placing.{stored_next, length-start}
-use borrow.Author.Rules.{rules}
 use Rattle.list_machine.proofs.trim.put_links.Goals as goal
 
 pub put_start_links-requires : goal.put_start_links-requires

@@ -5,7 +5,6 @@ use lib.ListN.{length-append}
 use Rattle.list_machine.specs.TrimWords.{links_part, nodes_part, words_part}
 use Rattle.list_machine.proofs.Placing.{stored_next, length-links_part, length-nodes_part}
 use Rattle.list_machine.proofs.Marks.{count-le}
-use borrow.Author.Rules.{rules}
 use Rattle.list_machine.proofs.trim.put_list.Goals as goal
 
 pub put_states-requires : goal.put_states-requires

@@ -1,9 +1,8 @@
 use mathlib.Core.List.{[], ◌∷◌, List}
 use borrow.Author.Rules.{rules}
 use mathlib.Core.Path.{◌≡◌, sym, ap, ◌∙◌}
-use Prim.Native.Nat.{ℕ, ◌+◌, ◌-◌, ◌*◌, ◌≤◌}
+use Prim.Native.Nat.{ℕ, ◌+◌, ◌*◌}
 use native.Mathlib.Omega.{arith}
-use lib.ListN.{length}
 use lib.Seq.{sets}
 use Rattle.sheet.specs.Words.{bytes_of_all}
 use Rattle.list_machine.specs.TrimWords.{node_words}
@@ -21,7 +20,7 @@ loop-k-preserved c =
     let call = c.put_words in (
       omega arith,
       call.auto.bytes ∙ turn.invariant.1,
-      stored_next args.res.now turn.result call.new.bytes args.at (node_words turn.k) (1 ∷ 0 ∷ 0 ∷ []) (args.at + 12 * turn.k) turn.invariant.2 call.ensures (omega (arith, length-nodes turn.k))
+      stored_next args.res.now turn.res call.new.bytes args.at (node_words turn.k) (1 ∷ 0 ∷ 0 ∷ []) (args.at + 12 * turn.k) turn.invariant.2 call.ensures (omega (arith, length-nodes turn.k))
           ∙ ap (λ (l : List ℕ). sets args.res.now args.at (bytes_of_all l)) (sym (nodes-next turn.k)),
     )
 

@@ -1,13 +1,9 @@
-use mathlib.Core.List.{[], ◌∷◌, List}
-use borrow.Author.Rules.{rules}
-use mathlib.Core.Path.{◌≡◌, sym, ap, ◌∙◌}
-use Prim.Native.Nat.{ℕ, ◌+◌, ◌-◌, ◌*◌, ◌≤◌}
-use native.Mathlib.Omega.{arith}
+use mathlib.Core.Path.{◌≡◌}
+use Prim.Native.Nat.{◌-◌, ◌≤◌}
 use lib.ListN.{length}
 use lib.Seq.{sets}
 use Rattle.sheet.specs.Words.{bytes_of_all}
 use Rattle.list_machine.specs.TrimWords.{node_words}
-use Rattle.list_machine.proofs.Placing.{stored_next, nodes-next, length-nodes}
 use Rattle.list_machine.proofs.trim.put_nodes.Given as goal
 
 abbrev pub invariant-loop-k : goal.invariant-loop-k

@@ -1,8 +1,8 @@
 use borrow.Author.Rules.{rules}
 use mathlib.Core.Path.{◌≡◌, ap, ◌∙◌}
-use Prim.Native.Nat.{ℕ, ◌-◌, ◌≤◌}
+use Prim.Native.Nat.{ℕ}
 use native.Mathlib.Omega.{arith}
-use lib.ListN.{length, replicate}
+use lib.ListN.{replicate}
 use lib.Seq.{sets}
 use Rattle.sheet.specs.Words.{bytes_of_all}
 use Rattle.slots.specs.Slots.{nothing}
@@ -20,7 +20,7 @@ loop-k-preserved c =
     let call = c.put_word in (
       omega arith,
       call.auto.bytes ∙ turn.invariant.1,
-      nothings-next args.res.now turn.result call.new.bytes args.at turn.k turn.invariant.2 call.ensures,
+      nothings-next args.res.now turn.res call.new.bytes args.at turn.k turn.invariant.2 call.ensures,
     )
 
 pub returns : goal.returns

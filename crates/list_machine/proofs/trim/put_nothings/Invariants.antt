@@ -1,12 +1,9 @@
-use borrow.Author.Rules.{rules}
-use mathlib.Core.Path.{◌≡◌, ap, ◌∙◌}
-use Prim.Native.Nat.{ℕ, ◌-◌, ◌≤◌}
-use native.Mathlib.Omega.{arith}
+use mathlib.Core.Path.{◌≡◌}
+use Prim.Native.Nat.{◌-◌, ◌≤◌}
 use lib.ListN.{length, replicate}
 use lib.Seq.{sets}
 use Rattle.sheet.specs.Words.{bytes_of_all}
 use Rattle.slots.specs.Slots.{nothing}
-use Rattle.list_machine.proofs.Placing.{nothings-next}
 use Rattle.list_machine.proofs.trim.put_nothings.Given as goal
 
 abbrev pub invariant-loop-k : goal.invariant-loop-k

@@ -4,7 +4,6 @@ use lib.ListN.{replicate, length-replicate}
 use Rattle.slots.specs.Slots.{nothing}
 use Rattle.list_machine.specs.TrimWords.{input_words}
 use Rattle.list_machine.proofs.Placing.{stored_next}
-use borrow.Author.Rules.{rules}
 use Rattle.list_machine.proofs.trim.put_repeats.Goals as goal
 
 pub returns : goal.returns

@@ -2,7 +2,7 @@ use mathlib.Core.List.{[], ◌∷◌, List}
 use Rattle.search_slots.specs.Slots.{listed_word, state_word}
 use borrow.Author.Rules.{rules}
 use mathlib.Core.Path.{◌≡◌, sym, ap, ◌∙◌}
-use Prim.Native.Nat.{ℕ, ◌+◌, ◌-◌, ◌*◌, ◌≤◌}
+use Prim.Native.Nat.{ℕ, ◌+◌, ◌*◌, ◌≤◌}
 use native.Mathlib.Omega.{arith}
 use lib.ListN.{length}
 use lib.Seq.{sets}
@@ -49,7 +49,7 @@ loop-k-preserved c =
     let state = state_word part (listed_word part turn.k) in (
       omega arith,
       call.auto.bytes ∙ turn.invariant.1,
-      stored_next args.res.now turn.result call.new.bytes 0 (start_words part turn.k) (0 ∷ 0 ∷ 0 ∷ state ∷ []) (16 * turn.k) turn.invariant.2 call.ensures (omega (arith, length-start part turn.k))
+      stored_next args.res.now turn.res call.new.bytes 0 (start_words part turn.k) (0 ∷ 0 ∷ 0 ∷ state ∷ []) (16 * turn.k) turn.invariant.2 call.ensures (omega (arith, length-start part turn.k))
           ∙ ap (λ (l : List ℕ). sets args.res.now 0 (bytes_of_all l)) (sym (start-next part turn.k)),
     )
 

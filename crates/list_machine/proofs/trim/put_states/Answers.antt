@@ -3,7 +3,6 @@ use Prim.Native.Nat.{◌+◌, ◌*◌}
 use native.Mathlib.Omega.{arith}
 use Rattle.list_machine.specs.TrimWords.{head_words, node_words, trailer_words}
 use Rattle.list_machine.proofs.Placing.{stored_next, length-nodes}
-use borrow.Author.Rules.{rules}
 use Rattle.list_machine.proofs.trim.put_states.Goals as goal
 
 pub returns : goal.returns

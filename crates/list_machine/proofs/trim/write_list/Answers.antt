@@ -6,7 +6,6 @@ use lib.ListN.{length}
 use Rattle.list_machine.specs.TrimWords.{mark_count, states, stated, kept_count, Writable}
 use Rattle.list_machine.proofs.Marks.{kept-few, new-writable}
 use Rattle.list_machine.proofs.AnswerByRoom.{short-answer, made-answer}
-use borrow.Author.Rules.{rules}
 use Rattle.list_machine.proofs.trim.write_list.Goals as goal
 use Rattle.list_machine.proofs.trim.write_list.Lts
 use Rattle.list_machine.proofs.trim.write_list.Reads
@@ -39,22 +38,22 @@ pub put_list-requires : goal.put_list-requires
 put_list-requires c =
     let start = c.before.before.before.before.before.before.before.before.before.before.before.before.before.before.before in
     let args = start.args in
-    let n = c.before.before.before.before.before.before.before in
+    let n = c.before.before.before.before.before.before in
     let w : Writable args.sheet.now args.t.links (stated args.entries args.listed args.part.now) args.entries args.listed (kept_count args.entries args.listed args.part.now) (length args.res.now) = new-writable args.sheet.now args.t.links args.part.now args.entries args.listed start.requires (length args.res.now) (omega (arith, kept-is n)) in
     subst (λ (p : List ℕ). Writable args.sheet.now args.t.links p args.entries args.listed n.number-kept.result (length args.res.now)) (sym (part-is n))
     (subst (λ (k : ℕ). Writable args.sheet.now args.t.links (stated args.entries args.listed args.part.now) args.entries args.listed k (length args.res.now)) (sym (kept-is n)) w)
 
 pub overflow_cast-result : goal.overflow_cast-result
-overflow_cast-result c = omega (arith, few c.before.before.before.before.before.before.before.before.before.before)
+overflow_cast-result c = omega (arith, few c.before.before.before.before.before.before.before.before.before)
 
 pub overflow_cast-result-2 : goal.overflow_cast-result-2
-overflow_cast-result-2 c = omega (arith, few c.before.before.before.before.before.before.before.before.before.before)
+overflow_cast-result-2 c = omega (arith, few c.before.before.before.before.before.before.before.before.before)
 
 pub returns : goal.returns
 returns c =
     let start = c.before.before.before.before.before.before.before.before.before.before.before.before.before.before.before.before.before.before in
     let args = start.args in
-    let n = c.before.before.before.before.before.before.before.before.before.before in
+    let n = c.before.before.before.before.before.before.before.before.before in
     let r = made-answer args.sheet.now args.t.links args.part.now args.entries args.listed start.requires args.taken args.res.now n.number-kept.result n.number-kept.new.part (kept-is n) (part-is n) (omega arith) c.put_list.new.res c.put_list.ensures in record {
       value = r.0;
       part_after = part-is n;

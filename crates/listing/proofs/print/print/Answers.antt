@@ -18,8 +18,8 @@ counts n l h = (h, sym (length-take-le n l h))
 pub returns-then-read-eq0 : goal.returns-then-read-eq0
 returns-then-read-eq0 c =
     let a = c.args in record {
-      puts = puts-same (printed-none a.read.now c.if-read-eq0.true) c.Put-refused.ensures.0;
-      prefix_len = counts c.Put-refused.result c.Put-refused.new.0 (omega (arith, c.Put-refused.ensures.1, c.Put-refused.auto.0, c.requires));
+      puts = puts-same (printed-none a.read.now c.if-read-eq0.true) c.put_refused.ensures.puts;
+      prefix_len = counts c.put_refused.result c.put_refused.new.out (omega (arith, c.put_refused.ensures.upper_bound, c.put_refused.auto.out, c.requires));
     }
 
 pub overflow_cast-n : goal.overflow_cast-n

@@ -28,7 +28,7 @@ returns-in-Refused c =
     let a = root.args in
     let k = c.in-Refused.k in
     let refused = refused-input a.sheet.now (λ i. omega (arith, c.type_inv.sheet i)) a.n root.requires.1 root.requires.0 k (sym c.in-Refused.is ∙ c.shortest_path.ensures.value) in
-    (puts-same (sym (printed-refused a.n a.sheet.now root.requires.1 root.requires.0 k refused.1 refused.0)) c.Put-refused.ensures.0, omega (arith, c.Put-refused.ensures.1))
+    (puts-same (sym (printed-refused a.n a.sheet.now root.requires.1 root.requires.0 k refused.1 refused.0)) c.put_refused.ensures.puts, omega (arith, c.put_refused.ensures.upper_bound))
 
 pub returns-in-Made : goal.returns-in-Made
 returns-in-Made c =

@@ -2,7 +2,6 @@ use mathlib.Core.Path.{sym, ap, ◌∙◌}
 use Rattle.n_shortest.specs.declared.entry.Entry.TheVariants.{Half, Finished}
 use Rattle.search_slots.specs.Slots.{node_word}
 use Rattle.n_shortest.proofs.EntryWords.{entry-finished, entry-half}
-use borrow.Author.Rules.{rules}
 use Rattle.n_shortest.proofs.entry.entry_at.Goals as goal
 
 pub returns-then-node : goal.returns-then-node

@@ -1,10 +1,9 @@
 use native.Mathlib.Omega.{arith}
 use Rattle.n_shortest.proofs.EntryWords.{inside-half, rank-half}
-use borrow.Author.Rules.{rules}
 use Rattle.n_shortest.proofs.entry.rank.Goals as goal
 
 pub overflow_add-nodes : goal.overflow_add-nodes
-overflow_add-nodes c = let root = c.before.before.before in omega (arith, inside-half root.args.part.now root.args.nodes c.in-Half.is root.requires, root.well-formed.0.0, root.well-formed.0.1)
+overflow_add-nodes c = let root = c.before.before.before in omega (arith, inside-half root.args.part.now root.args.nodes c.in-Half.is root.requires, root.well_formed.0.0, root.well_formed.0.1)
 
 pub distance_at-d-requires : goal.distance_at-d-requires
 distance_at-d-requires c = let root = c.before.before.before in inside-half root.args.part.now root.args.nodes c.in-Half.is root.requires

@@ -1,7 +1,6 @@
 use mathlib.Core.Path.{sym, ◌∙◌}
 use Rattle.n_shortest.specs.HeapWords.{half_first}
 use Rattle.n_shortest.proofs.HeapSteps.{less-first, less-second, less-tie}
-use borrow.Author.Rules.{rules}
 use Rattle.n_shortest.proofs.heap.less.Goals as goal
 
 pub returns-then-natural_less : goal.returns-then-natural_less

@@ -3,7 +3,6 @@ use Prim.Native.Nat.{◌+◌, ◌*◌}
 use lib.ListN.{length-set}
 use Rattle.n_shortest.specs.HeapWords.{push_w}
 use Rattle.n_shortest.proofs.HeapSteps.{fits_more}
-use borrow.Author.Rules.{rules}
 use Rattle.n_shortest.proofs.heap.push.Goals as goal
 
 pub sift_up-requires : goal.sift_up-requires

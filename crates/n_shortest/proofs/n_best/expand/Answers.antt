@@ -8,7 +8,6 @@ use Rattle.slots.specs.Slots.{nothing}
 use Rattle.search_slots.specs.Slots.{head_word}
 use Rattle.n_shortest.specs.SearchWords.{Words, put_w, links_w}
 use Rattle.n_shortest.proofs.Linking.{Linked, linked, expand-end, expand-on}
-use borrow.Author.Rules.{rules}
 use Rattle.n_shortest.proofs.n_best.expand.Goals as goal
 use Rattle.n_shortest.proofs.n_best.expand.Lts
 use Rattle.n_shortest.proofs.n_best.expand.Reads

@@ -3,11 +3,9 @@ use mathlib.Core.Bool.{Bool, true, false}
 use lib.Dec.{lit≤}
 use lib.Ieee as Ieee
 use lib.Ieee.{Float, lt}
-use borrow.Author.Tests.{not-true, not-false}
 use Rattle.tropical_weight.specs.Limits.{unit}
 use Rattle.n_shortest.specs.SearchWords.{Words}
 use Rattle.n_shortest.proofs.Taking.{finished-listed, finished-barred}
-use borrow.Author.Rules.{rules}
 use Rattle.n_shortest.proofs.n_best.finish.Goals as goal
 
 -- the test is whether the cost is below infinity

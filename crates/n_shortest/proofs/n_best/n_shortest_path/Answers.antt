@@ -2,8 +2,7 @@ use mathlib.Core.Path.{◌≡◌, refl, sym, ap, ◌∙◌, subst}
 use Prim.Native.Nat.{◌-◌}
 use native.Mathlib.Omega.{arith}
 use Rattle.n_shortest.specs.SearchWords.{Words, stopped_w, after_w, begun_w, Ready}
-use Rattle.n_shortest.proofs.Taking.{after_none, after-stopped, Turns, turns-on, stopped-heap, stopped-list, stopped-not}
-use borrow.Author.Rules.{rules}
+use Rattle.n_shortest.proofs.Taking.{after_none, after-stopped, turns-on, stopped-heap, stopped-list, stopped-not}
 use Rattle.n_shortest.proofs.n_best.n_shortest_path.Goals as goal
 use Rattle.n_shortest.proofs.n_best.n_shortest_path.Lts
 use Rattle.n_shortest.proofs.n_best.n_shortest_path.Reads
@@ -76,7 +75,7 @@ loop-turn-preserved c =
     let s : Words = record { part = turn.part; counts = turn.c } in
     let on = stopped-not args.n s c.if-c-eq0.false c.if-n-c.false in
     let step = c.step-c.ensures in
-    turns-on args.p args.n args.most args.allowed _ turn.turn s _ turn.invariant c.loop-turn-test.true on (λ i. record { part = step.1 i; counts = step.0 i }) c.step-c.auto.part
+    turns-on args.p args.n args.most args.allowed _ turn.turn s _ turn.invariant c.loop-turn-test.true on (λ i. record { part = step.part_after i; counts = step.value i }) c.step-c.auto.part
 
 pub shape_of-part : goal.shape_of-part
 shape_of-part c = c.loop-turn.invariant.long ∙ c.put-c.auto.part

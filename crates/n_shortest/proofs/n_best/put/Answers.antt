@@ -4,7 +4,6 @@ use lib.ListN.{length}
 use Rattle.n_shortest.specs.HeapWords.{Comparable, HeapFits, push_w}
 use Rattle.n_shortest.specs.SearchWords.{Words, put_w}
 use Rattle.n_shortest.proofs.Putting.{length-stored, stored-compares, stored-fits}
-use borrow.Author.Rules.{rules}
 use Rattle.n_shortest.proofs.n_best.put.Goals as goal
 
 pub push-requires : goal.push-requires

@@ -6,8 +6,7 @@ use lib.ListN.{length}
 use Rattle.n_shortest.specs.declared.entry.Entry.TheVariants.{Half}
 use Rattle.search_slots.specs.Slots.{next_word}
 use Rattle.n_shortest.specs.SearchWords.{Words, put_w, links_w}
-use Rattle.n_shortest.proofs.Linking.{Going, Next, next, links_end, links-none, going_on}
-use borrow.Author.Rules.{rules}
+use Rattle.n_shortest.proofs.Linking.{Next, next, links_end, links-none, going_on}
 use Rattle.n_shortest.proofs.n_best.put_links.Goals as goal
 use Rattle.n_shortest.proofs.n_best.put_links.Lts
 use Rattle.n_shortest.proofs.n_best.put_links.Reads
@@ -24,7 +23,7 @@ ahead c =
     next args.p args.x args.cost turn.k (record { part = turn.part; counts = turn.counts }) turn.invariant.fan turn.invariant.chain c.if-k.false
 
 room : (c : Else-k) → let turn = c.loop-turn in (c.args.p.links + 8 * turn.k + 2 < length turn.part) × (length turn.part * 4 < 2 ^ 63)
-room c = ((ahead c).slot, omega (arith, c.loop-turn.invariant.long, c.well-formed.0.1))
+room c = ((ahead c).slot, omega (arith, c.loop-turn.invariant.long, c.well_formed.0.1))
 
 pub loop-turn-init : goal.loop-turn-init
 loop-turn-init c =
@@ -101,9 +100,9 @@ loop-turn-preserved c =
     let made : Float → ℕ → Words = λ f u. put_w args.p.nodes (Half (next_word turn.part args.p.links turn.k) f) args.x u s in
     let sum = c.times.ensures.same ∙ ap (add binary32 args.cost) c.from_bits-weight.ensures in
     let put = c.put-counts.ensures in
-    let whole : ◌≡◌ {A = Words} (record { part = c.put-counts.new.part; counts = c.put-counts.result }) (made c.times.result c.Input-of.result) = λ i. record { part = put.1 i; counts = put.0 i } in
+    let whole : ◌≡◌ {A = Words} (record { part = c.put-counts.new.part; counts = c.put-counts.result }) (made c.times.result c.input_of.result) = λ i. record { part = put.part_after i; counts = put.value i } in
     going_on args.p args.x args.cost args.most args.head (record { part = args.part.now; counts = args.c }) turn.turn turn.k s turn.invariant c.loop-turn-test.true c.if-k.false _
-    (whole ∙ (λ i. made (sum i) (c.Input-of.ensures i)))
+    (whole ∙ (λ i. made (sum i) (c.input_of.ensures i)))
 
 pub shape_of-part : goal.shape_of-part
 shape_of-part c = c.loop-turn.invariant.long

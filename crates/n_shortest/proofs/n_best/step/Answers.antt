@@ -6,7 +6,6 @@ use Rattle.n_shortest.specs.EntryWords.{entry_w}
 use Rattle.n_shortest.specs.SearchWords.{Words, taken_w, without, Sized, Takes}
 use Rattle.n_shortest.proofs.Putting.{sized-fits}
 use Rattle.n_shortest.proofs.Taking.{sized-without, takes-without, step_is}
-use borrow.Author.Rules.{rules}
 use Rattle.n_shortest.proofs.n_best.step.Goals as goal
 use Rattle.n_shortest.proofs.n_best.step.Lts
 use Rattle.n_shortest.proofs.n_best.step.Reads

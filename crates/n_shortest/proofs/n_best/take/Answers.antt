@@ -1,48 +1,38 @@
-use mathlib.Core.Path.{sym, ap, ◌∙◌, subst}
-use Prim.Native.Nat.{◌+◌, ◌*◌, ◌≤◌, ◌<◌}
+use mathlib.Core.Path.{◌≡◌, sym, ap, ◌∙◌, subst}
+use lib.Ieee.{Float}
+use Rattle.n_shortest.specs.declared.n_best.Places.{Places}
+use Rattle.n_shortest.specs.declared.entry.Entry.{Entry}
+use Rattle.n_shortest.specs.declared.entry.Entry.TheVariants.{Half, Finished}
+use Prim.Native.Nat.{ℕ, ◌+◌, ◌*◌, ◌≤◌, ◌<◌}
 use native.Mathlib.Omega.{arith}
 use lib.ListN.{get_or, length-set}
 use Rattle.search_slots.specs.Slots.{visits_word}
 use Rattle.n_shortest.specs.SearchWords.{Words, Expands, Takes}
 use Rattle.n_shortest.proofs.Taking.{sized-visited, expands-visited, taken-over, taken-expanded, taken-finished}
-use borrow.Author.Rules.{rules}
 use Rattle.n_shortest.proofs.n_best.take.Goals as goal
-use Rattle.n_shortest.proofs.n_best.take.Lts
-use Rattle.n_shortest.proofs.n_best.take.Reads
-use Rattle.n_shortest.proofs.n_best.take.Tie
-
-abbrev In-Finished-2 : Type 0
-In-Finished-2 = Lts.After-e Tie.the-claims Reads.Pre Reads.Post Tie.handed_clauses
-
-abbrev In-Half-2 : Type 0
-In-Half-2 = Lts.After-e2 Tie.the-claims Reads.Pre Reads.Post Tie.handed_clauses
 
 -- what taking a finished one, and a half-built one, asks
-finished : (c : In-Finished-2) → (8 * c.args.c.listed + 6 < c.args.p.nodes) × (c.args.c.listed + 1 < 4294967296)
-finished c =
-    let root = c.before.before in
-    subst (Takes root.args.p root.args.n (record { part = root.args.part.now; counts = root.args.c })) c.in-Finished.is root.requires.1
+finished : (p : Places) (n : ℕ) (s : Words) {e : Entry} {cost : Float} → e ≡ Finished cost → Takes p n s e → (8 * s.counts.listed + 6 < p.nodes) × (s.counts.listed + 1 < 4294967296)
+finished p n s q t = subst (Takes p n s) q t
 
-half : (c : In-Half-2) → let root = c.before.before in let v = c.in-Half.v in let visits = visits_word root.args.part.now root.args.p.nodes v + 1 in
-    (root.args.p.nodes + 8 * v + 3 < root.args.p.links) × (visits < 4294967296) × (visits ≤ root.args.n → Expands root.args.p (record { part = root.args.part.now; counts = root.args.c }) v)
-half c =
-    let root = c.before.before in
-    subst (Takes root.args.p root.args.n (record { part = root.args.part.now; counts = root.args.c })) c.in-Half.is root.requires.1
+half : (p : Places) (n : ℕ) (s : Words) {e : Entry} {v : ℕ} {cost : Float} → e ≡ Half v cost → Takes p n s e
+    → (p.nodes + 8 * v + 3 < p.links) × (visits_word s.part p.nodes v + 1 < 4294967296) × (visits_word s.part p.nodes v + 1 ≤ n → Expands p s v)
+half p n s q t = subst (Takes p n s) q t
 
 pub finish-requires : goal.finish-requires
 finish-requires c =
-    let f = finished c.before in
-    let root = c.before.before.before in
-    (omega (arith, f.0, root.requires.0.after, root.requires.0.inside), f.1)
+    let s : Words = record { part = c.args.part.now; counts = c.args.c } in
+    let f = finished c.args.p c.args.n s c.in-Finished.is c.requires.1 in
+    (omega (arith, f.0, c.requires.0.after, c.requires.0.inside), f.1)
 
 pub bounds-part-at : goal.bounds-part-at
-bounds-part-at c = omega (arith, (half c.before.before).0, c.requires.0.inside)
+bounds-part-at c = omega (arith, (half c.args.p c.args.n (record { part = c.args.part.now; counts = c.args.c }) c.in-Half.is c.requires.1).0, c.requires.0.inside)
 
 pub overflow_add-visits : goal.overflow_add-visits
-overflow_add-visits c = omega (arith, (half c.before).1)
+overflow_add-visits c = omega (arith, (half c.args.p c.args.n (record { part = c.args.part.now; counts = c.args.c }) c.in-Half.is c.requires.1).1)
 
 pub bounds-part-at-in-Half : goal.bounds-part-at-in-Half
-bounds-part-at-in-Half c = omega (arith, (half c.before).0, c.requires.0.inside)
+bounds-part-at-in-Half c = omega (arith, (half c.args.p c.args.n (record { part = c.args.part.now; counts = c.args.c }) c.in-Half.is c.requires.1).0, c.requires.0.inside)
 
 pub returns-then-n-visits : goal.returns-then-n-visits
 returns-then-n-visits c =
@@ -55,11 +45,10 @@ returns-then-n-visits c =
 
 pub expand-requires : goal.expand-requires
 expand-requires c =
-    let root = c.before.before.before.before.before in
-    let s : Words = record { part = root.args.part.now; counts = root.args.c } in
+    let s : Words = record { part = c.args.part.now; counts = c.args.c } in
     let v = c.in-Half.v in
-    let e = (half c.before.before.before).2 c.if-n-visits.false in
-    (sized-visited root.args.p s v root.requires.0, expands-visited root.args.p s v root.requires.0 e)
+    let e = (half c.args.p c.args.n (record { part = c.args.part.now; counts = c.args.c }) c.in-Half.is c.requires.1).2 c.if-n-visits.false in
+    (sized-visited c.args.p s v c.requires.0, expands-visited c.args.p s v c.requires.0 e)
 
 pub returns-in-Finished : goal.returns-in-Finished
 returns-in-Finished c =

@@ -30,5 +30,5 @@ returns c =
     let r = c.before.before.before.before.before.before.before in
     let bytes = r.args.sheet.now in
     let front = take r.args.count r.args.run.now in
-    let weight = ap (λ (k : Node). k.weight) c.Node-at.ensures ∙ λ i. of_bits binary32 (word bytes (16 * r.requires.sheet_value.1 i + 12 * r.requires.end_value i + 8)) in
-    ap fin (to_z-of_z w32 c.cost.result (sfits_of c.cost.type-inv)) ∙ cost-answers bytes (λ i. omega (arith, c.type_inv.sheet i)) r.requires.sheet_value.0 front r.requires.reading _ _ _ _ c.run_sum-sum.ensures weight c.times.ensures c.cost.ensures
+    let weight = ap (λ (k : Node). k.weight) c.node_at-node.ensures ∙ λ i. of_bits binary32 (word bytes (16 * r.requires.sheet_value.1 i + 12 * r.requires.end_value i + 8)) in
+    ap fin (to_z-of_z w32 c.cost.result (sfits_of c.cost.type_inv)) ∙ cost-answers bytes (λ i. omega (arith, c.type_inv.sheet i)) r.requires.sheet_value.0 front r.requires.reading _ _ _ _ c.run_sum-sum.ensures weight c.times.ensures c.cost.ensures

@@ -25,7 +25,7 @@ returns-then-t-eq-NOTHING c =
     let r = c.before.before.before.before.before.before in
     let a = r.args in
     let m = machine a.sheet.now in 
-    let told = held_none m _ a.run.now (none-held m (start_none a.sheet.now r.requires.0 a.t r.requires.1 c.if-t-eq-NOTHING.true) (way_of a.result.now a.nodes a.links a.n a.k)) in
+    let told = held_none m _ a.run.now (none-held m (start_none a.sheet.now r.requires.0 a.t r.requires.1 c.if-t-eq-NOTHING.true) (way_of a.res.now a.nodes a.links a.n a.k)) in
     record { value = told.0; run_new = told.1 }
 
 pub first_of-first-requires : goal.first_of-first-requires
@@ -48,10 +48,10 @@ returns-then-not-w c =
     let a = r.args in
     let m = machine a.sheet.now in
     let w = c.walk-w.result in
-    let o = way_in a.result.now c.shape_of-shape.result c.first_state-from.result in
-    let way : o ≡ way_of a.result.now a.nodes a.links a.n a.k = way_same a.result.now a.n a.nodes a.links a.k _ _ c.shape_of-shape.ensures c.first_state-from.ensures in
+    let o = way_in a.res.now c.shape_of-shape.result c.first_state-from.result in
+    let way : o ≡ way_of a.res.now a.nodes a.links a.n a.k = way_same a.res.now a.n a.nodes a.links a.k _ _ c.shape_of-shape.ensures c.first_state-from.ensures in
     let starts = start-some a.sheet.now r.requires.0 a.t r.requires.1 c.if-t-eq-NOTHING.false in 
-    let told = held_none m _ a.run.now (ap (if_reading m) (sym way) ∙ held-not m a.t.start starts w o c.walk-w.ensures c.if-not-w.true) in
+    let told = held_none m _ a.run.now (ap (if_reading m) (sym way) ∙ held-not m a.t.start starts w o c.walk-w.ensures (not-true _ c.if-not-w.true)) in
     record { value = told.0; run_new = told.1 }
 
 pub returns-then-run-w : goal.returns-then-run-w
@@ -60,10 +60,10 @@ returns-then-run-w c =
     let a = r.args in
     let m = machine a.sheet.now in
     let w = c.walk-w.result in
-    let o = way_in a.result.now c.shape_of-shape.result c.first_state-from.result in
-    let way : o ≡ way_of a.result.now a.nodes a.links a.n a.k = way_same a.result.now a.n a.nodes a.links a.k _ _ c.shape_of-shape.ensures c.first_state-from.ensures in
+    let o = way_in a.res.now c.shape_of-shape.result c.first_state-from.result in
+    let way : o ≡ way_of a.res.now a.nodes a.links a.n a.k = way_same a.res.now a.n a.nodes a.links a.k _ _ c.shape_of-shape.ensures c.first_state-from.ensures in
     let starts = start-some a.sheet.now r.requires.0 a.t r.requires.1 c.if-t-eq-NOTHING.false in
-    let h = held_by m a.t.start starts w o c.walk-w.ensures c.if-not-w.false in 
+    let h = held_by m a.t.start starts w o c.walk-w.ensures (not-false _ c.if-not-w.false) in 
     let told = held-short m _ h.way a.run.now (ap (if_reading m) (sym way) ∙ h.held) (omega (arith, h.counts, c.if-run-w.true)) in
     record { value = told.0; run_new = told.1 }
 
@@ -73,10 +73,10 @@ store_way-requires c =
     let a = r.args in
     let m = machine a.sheet.now in
     let w = c.walk-w.result in
-    let o = way_in a.result.now c.shape_of-shape.result c.first_state-from.result in
-    let way : o ≡ way_of a.result.now a.nodes a.links a.n a.k = way_same a.result.now a.n a.nodes a.links a.k _ _ c.shape_of-shape.ensures c.first_state-from.ensures in
+    let o = way_in a.res.now c.shape_of-shape.result c.first_state-from.result in
+    let way : o ≡ way_of a.res.now a.nodes a.links a.n a.k = way_same a.res.now a.n a.nodes a.links a.k _ _ c.shape_of-shape.ensures c.first_state-from.ensures in
     let starts = start-some a.sheet.now r.requires.0 a.t r.requires.1 c.if-t-eq-NOTHING.false in
-    let h = held_by m a.t.start starts w o c.walk-w.ensures c.if-not-w.false in
+    let h = held_by m a.t.start starts w o c.walk-w.ensures (not-false _ c.if-not-w.false) in
     let s = c.shape_of-shape.ensures in
     let run : o ≡ some (run_in o) = h.is ∙ ap some (sym (ap run_in h.is)) in
     (omega (arith, r.requires.2, ap (λ (s : Shape). s.nodes) s, ap (λ (s : Shape). s.links) s), run, omega (arith, ap (λ (p : Option (List ℕ)). length (run_in p)) h.is, h.counts, c.if-run-w.false))
@@ -87,10 +87,10 @@ cost_of-requires c =
     let a = r.args in
     let m = machine a.sheet.now in
     let w = c.walk-w.result in
-    let o = way_in a.result.now c.shape_of-shape.result c.first_state-from.result in
-    let way : o ≡ way_of a.result.now a.nodes a.links a.n a.k = way_same a.result.now a.n a.nodes a.links a.k _ _ c.shape_of-shape.ensures c.first_state-from.ensures in
+    let o = way_in a.res.now c.shape_of-shape.result c.first_state-from.result in
+    let way : o ≡ way_of a.res.now a.nodes a.links a.n a.k = way_same a.res.now a.n a.nodes a.links a.k _ _ c.shape_of-shape.ensures c.first_state-from.ensures in
     let starts = start-some a.sheet.now r.requires.0 a.t r.requires.1 c.if-t-eq-NOTHING.false in
-    let h = held_by m a.t.start starts w o c.walk-w.ensures c.if-not-w.false in
+    let h = held_by m a.t.start starts w o c.walk-w.ensures (not-false _ c.if-not-w.false) in
     let asked = cost-asked m o w h a.run.now c.if-run-w.false _ c.store_way.ensures in record {
       sheet_value = (r.requires.0, links-at a.sheet.now r.requires.0 a.t r.requires.1, asked.0);
       reading = asked.1;
@@ -103,12 +103,12 @@ returns c =
     let a = r.args in
     let m = machine a.sheet.now in
     let w = c.walk-w.result in
-    let o = way_in a.result.now c.shape_of-shape.result c.first_state-from.result in
-    let way : o ≡ way_of a.result.now a.nodes a.links a.n a.k = way_same a.result.now a.n a.nodes a.links a.k _ _ c.shape_of-shape.ensures c.first_state-from.ensures in
+    let o = way_in a.res.now c.shape_of-shape.result c.first_state-from.result in
+    let way : o ≡ way_of a.res.now a.nodes a.links a.n a.k = way_same a.res.now a.n a.nodes a.links a.k _ _ c.shape_of-shape.ensures c.first_state-from.ensures in
     let starts = start-some a.sheet.now r.requires.0 a.t r.requires.1 c.if-t-eq-NOTHING.false in
-    let h = held_by m a.t.start starts w o c.walk-w.ensures c.if-not-w.false in
+    let h = held_by m a.t.start starts w o c.walk-w.ensures (not-false _ c.if-not-w.false) in
     let room = c.if-run-w.false in
     let s = held-some m _ h.way a.run.now (ap (if_reading m) (sym way) ∙ h.held) (omega (arith, room, h.counts)) in record {
-      value = ap (λ (z : ℤ). Told.Reading w.count z w.at) (to_z-of_z w32 c.cost_of.result (sfits_of c.cost_of.type-inv)) ∙ told_is m o w h a.run.now room _ c.store_way.ensures c.cost_of.result c.cost_of.ensures ∙ s.0;
+      value = ap (λ (z : ℤ). Told.Reading w.count z w.at) (to_z-of_z w32 c.cost_of.result (sfits_of c.cost_of.type_inv)) ∙ told_is m o w h a.run.now room _ c.store_way.ensures c.cost_of.result c.cost_of.ensures ∙ s.0;
       run_new = stored_is m o w h a.run.now room _ c.store_way.ensures ∙ s.1;
     }

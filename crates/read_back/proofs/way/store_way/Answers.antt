@@ -23,7 +23,7 @@ number_of-requires c =
     let r = c.before.before.before.before.before.before in
     let a = r.args in
     let turn = c.loop-q in
-    let g = way-goes a.result.now a.s.nodes a.s.links a.s.before a.s.last turn.q _ c.loop-q-test.true turn.invariant.1 in
+    let g = way-goes a.res.now a.s.nodes a.s.links a.s.before a.s.last turn.q _ c.loop-q-test.true turn.invariant.1 in
     (r.requires.0, omega (arith, c.only_link-only.ensures, g.lower.1))
 
 pub put_number-count-requires : goal.put_number-count-requires
@@ -31,18 +31,18 @@ put_number-count-requires c =
     let r = c.before.before.before.before.before.before.before.before in
     let a = r.args in
     let turn = c.loop-q in
-    let g = way-goes a.result.now a.s.nodes a.s.links a.s.before a.s.last turn.q _ c.loop-q-test.true turn.invariant.1 in
-    let number = c.number_of_lem.ensures ∙ ap (number_at a.result.now a.s.nodes a.s.links) c.only_link-only.ensures in
-    let rest = run_in (way_in a.result.now a.s (next_at a.result.now (only_link a.result.now a.s.nodes a.s.links a.s.before a.s.last turn.q))) in
+    let g = way-goes a.res.now a.s.nodes a.s.links a.s.before a.s.last turn.q _ c.loop-q-test.true turn.invariant.1 in
+    let number = c.number_of.ensures ∙ ap (number_at a.res.now a.s.nodes a.s.links) c.only_link-only.ensures in
+    let rest = run_in (way_in a.res.now a.s (next_at a.res.now (only_link a.res.now a.s.nodes a.s.links a.s.before a.s.last turn.q))) in
     let is = g.is ∙ ap (λ (k : ℕ). told k ++ rest) (sym number) in
-    omega (arith, turn.invariant.0, turn.invariant.2, ap length is, length-append (told c.number_of_lem.result) rest, r.requires.2)
+    omega (arith, turn.invariant.0, turn.invariant.2, ap length is, length-append (told c.number_of.result) rest, r.requires.2)
 
 pub overflow_mul-only : goal.overflow_mul-only
 overflow_mul-only c =
     let r = c.before.before.before.before.before.before.before.before.before.before.before in
     let a = r.args in
     let turn = c.loop-q in
-    let g = way-goes a.result.now a.s.nodes a.s.links a.s.before a.s.last turn.q _ c.loop-q-test.true turn.invariant.1 in
+    let g = way-goes a.res.now a.s.nodes a.s.links a.s.before a.s.last turn.q _ c.loop-q-test.true turn.invariant.1 in
     omega (arith, c.only_link-only.ensures, g.lower.1)
 
 pub overflow_add-only : goal.overflow_add-only
@@ -50,7 +50,7 @@ overflow_add-only c =
     let r = c.before.before.before.before.before.before.before.before.before.before.before in
     let a = r.args in
     let turn = c.loop-q in
-    let g = way-goes a.result.now a.s.nodes a.s.links a.s.before a.s.last turn.q _ c.loop-q-test.true turn.invariant.1 in
+    let g = way-goes a.res.now a.s.nodes a.s.links a.s.before a.s.last turn.q _ c.loop-q-test.true turn.invariant.1 in
     omega (arith, c.only_link-only.ensures, g.lower.1)
 
 pub word-q-requires : goal.word-q-requires
@@ -58,7 +58,7 @@ word-q-requires c =
     let r = c.before.before.before.before.before.before.before.before.before.before.before in
     let a = r.args in
     let turn = c.loop-q in
-    let g = way-goes a.result.now a.s.nodes a.s.links a.s.before a.s.last turn.q _ c.loop-q-test.true turn.invariant.1 in
+    let g = way-goes a.res.now a.s.nodes a.s.links a.s.before a.s.last turn.q _ c.loop-q-test.true turn.invariant.1 in
     omega (arith, r.requires.0, c.only_link-only.ensures, g.lower.1)
 
 pub loop-q-smaller : goal.loop-q-smaller
@@ -66,24 +66,24 @@ loop-q-smaller c =
     let r = c.before.before.before.before.before.before.before.before.before.before.before.before in
     let a = r.args in
     let turn = c.loop-q in
-    let g = way-goes a.result.now a.s.nodes a.s.links a.s.before a.s.last turn.q _ c.loop-q-test.true turn.invariant.1 in
-    omega (arith, c.word-q.ensures ∙ ap (next_at a.result.now) c.only_link-only.ensures, g.lower.2)
+    let g = way-goes a.res.now a.s.nodes a.s.links a.s.before a.s.last turn.q _ c.loop-q-test.true turn.invariant.1 in
+    omega (arith, c.word-q.ensures ∙ ap (next_at a.res.now) c.only_link-only.ensures, g.lower.2)
 
 pub loop-q-preserved : goal.loop-q-preserved
 loop-q-preserved c =
     let r = c.before.before.before.before.before.before.before.before.before.before.before.before in
     let a = r.args in
     let turn = c.loop-q in
-    let g = way-goes a.result.now a.s.nodes a.s.links a.s.before a.s.last turn.q _ c.loop-q-test.true turn.invariant.1 in
+    let g = way-goes a.res.now a.s.nodes a.s.links a.s.before a.s.last turn.q _ c.loop-q-test.true turn.invariant.1 in
     let put = c.put_number-count in
-    let way = way_in a.result.now a.s in
-    let next = c.word-q.ensures ∙ ap (next_at a.result.now) c.only_link-only.ensures in
-    let number = c.number_of_lem.ensures ∙ ap (number_at a.result.now a.s.nodes a.s.links) c.only_link-only.ensures in
-    let is : run_in (way turn.q) ≡ told c.number_of_lem.result ++ run_in (way c.word-q.result) = g.is ∙ λ i. told (sym number i) ++ run_in (way (sym next i)) in (
+    let way = way_in a.res.now a.s in
+    let next = c.word-q.ensures ∙ ap (next_at a.res.now) c.only_link-only.ensures in
+    let number = c.number_of.ensures ∙ ap (number_at a.res.now a.s.nodes a.s.links) c.only_link-only.ensures in
+    let is : run_in (way turn.q) ≡ told c.number_of.result ++ run_in (way c.word-q.result) = g.is ∙ λ i. told (sym number i) ++ run_in (way (sym next i)) in (
       put.auto.run ∙ turn.invariant.0,
       subst (λ (k : ℕ). way k ≡ some (run_in (way k))) (sym next) g.from,
-      omega (arith, ap length is, length-append (told c.number_of_lem.result) (run_in (way c.word-q.result)), put.ensures.0, turn.invariant.2),
-      stored-all turn.run _ _ turn.count _ (told c.number_of_lem.result) _ _ is put.ensures.1 put.ensures.0 turn.invariant.3,
+      omega (arith, ap length is, length-append (told c.number_of.result) (run_in (way c.word-q.result)), put.ensures.0, turn.invariant.2),
+      stored-all turn.run _ _ turn.count _ (told c.number_of.result) _ _ is put.ensures.1 put.ensures.0 turn.invariant.3,
     )
 
 pub returns : goal.returns
@@ -91,5 +91,5 @@ returns c =
     let r = c.before.before.before.before.before in
     let a = r.args in
     let turn = c.loop-q in
-    let none = way-over a.result.now a.s.nodes a.s.links a.s.before a.s.last turn.q _ c.loop-q-test.false turn.invariant.1 in
+    let none = way-over a.res.now a.s.nodes a.s.links a.s.before a.s.last turn.q _ c.loop-q-test.false turn.invariant.1 in
     sym (ap (sets turn.run turn.count) none) ∙ turn.invariant.3

@@ -21,7 +21,7 @@ returns-then-not-falls_from c =
     let r = c.before.before.before.before.before.before.before.before in
     let a = r.args in
     let turn = c.loop-q in
-    stops-here a.sheet.now a.result.now a.s turn.w _ turn.q turn.invariant.2 c.loop-q-test.true c.lost.result (sym c.falls_from.ensures ∙ c.if-not-falls_from.true) c.lost.ensures
+    stops-here a.sheet.now a.res.now a.s turn.w _ turn.q turn.invariant.2 c.loop-q-test.true c.lost.result (sym c.falls_from.ensures ∙ c.if-not-falls_from.true) c.lost.ensures
 
 pub only_link-only-requires : goal.only_link-only-requires
 only_link-only-requires c = c.loop-q-test.true
@@ -31,7 +31,7 @@ number_of-requires c =
     let r = c.before.before.before.before.before.before.before.before in
     let a = r.args in
     let turn = c.loop-q in
-    (r.requires.links_in_bounds, omega (arith, c.only_link-only.ensures, (falls-lower a.result.now a.s.nodes a.s.links a.s.before a.s.last turn.q (sym c.falls_from.ensures ∙ c.if-not-falls_from.false)).1))
+    (r.requires.links_in_bounds, omega (arith, c.only_link-only.ensures, (falls-lower a.res.now a.s.nodes a.s.links a.s.before a.s.last turn.q (sym c.falls_from.ensures ∙ c.if-not-falls_from.false)).1))
 
 pub goes_on-w-requires : goal.goes_on-w-requires
 goes_on-w-requires c =
@@ -45,47 +45,47 @@ returns-then-not-w c =
     let r = c.before.before.before.before.before.before.before.before.before.before.before.before in
     let a = r.args in
     let turn = c.loop-q in
-    let number = c.number_of_lem.ensures ∙ ap (number_at a.result.now a.s.nodes a.s.links) c.only_link-only.ensures in
-    stops-there a.sheet.now a.result.now a.s turn.w _ turn.q turn.invariant.2 c.loop-q-test.true (sym c.falls_from.ensures ∙ c.if-not-falls_from.false) turn.invariant.0 turn.invariant.1 _ number c.goes_on-w.result c.goes_on-w.ensures c.if-not-w.true
+    let number = c.number_of.ensures ∙ ap (number_at a.res.now a.s.nodes a.s.links) c.only_link-only.ensures in
+    stops-there a.sheet.now a.res.now a.s turn.w _ turn.q turn.invariant.2 c.loop-q-test.true (sym c.falls_from.ensures ∙ c.if-not-falls_from.false) turn.invariant.0 turn.invariant.1 _ number c.goes_on-w.result c.goes_on-w.ensures (not-true _ c.if-not-w.true)
 
 pub overflow_mul-only : goal.overflow_mul-only
 overflow_mul-only c =
     let r = c.before.before.before.before.before.before.before.before.before.before.before.before in
     let a = r.args in
     let turn = c.loop-q in
-    omega (arith, c.only_link-only.ensures, (falls-lower a.result.now a.s.nodes a.s.links a.s.before a.s.last turn.q (sym c.falls_from.ensures ∙ c.if-not-falls_from.false)).1)
+    omega (arith, c.only_link-only.ensures, (falls-lower a.res.now a.s.nodes a.s.links a.s.before a.s.last turn.q (sym c.falls_from.ensures ∙ c.if-not-falls_from.false)).1)
 
 pub overflow_add-only : goal.overflow_add-only
 overflow_add-only c =
     let r = c.before.before.before.before.before.before.before.before.before.before.before.before in
     let a = r.args in
     let turn = c.loop-q in
-    omega (arith, c.only_link-only.ensures, (falls-lower a.result.now a.s.nodes a.s.links a.s.before a.s.last turn.q (sym c.falls_from.ensures ∙ c.if-not-falls_from.false)).1)
+    omega (arith, c.only_link-only.ensures, (falls-lower a.res.now a.s.nodes a.s.links a.s.before a.s.last turn.q (sym c.falls_from.ensures ∙ c.if-not-falls_from.false)).1)
 
 pub word-q-requires : goal.word-q-requires
 word-q-requires c =
     let r = c.before.before.before.before.before.before.before.before.before.before.before.before in
     let a = r.args in
     let turn = c.loop-q in
-    omega (arith, r.requires.links_in_bounds, c.only_link-only.ensures, (falls-lower a.result.now a.s.nodes a.s.links a.s.before a.s.last turn.q (sym c.falls_from.ensures ∙ c.if-not-falls_from.false)).1)
+    omega (arith, r.requires.links_in_bounds, c.only_link-only.ensures, (falls-lower a.res.now a.s.nodes a.s.links a.s.before a.s.last turn.q (sym c.falls_from.ensures ∙ c.if-not-falls_from.false)).1)
 
 pub loop-q-smaller : goal.loop-q-smaller
 loop-q-smaller c =
     let r = c.before.before.before.before.before.before.before.before.before.before.before.before.before in
     let a = r.args in
     let turn = c.loop-q in
-    let next = c.word-q.ensures ∙ ap (next_at a.result.now) c.only_link-only.ensures in
-    omega (arith, next, (falls-lower a.result.now a.s.nodes a.s.links a.s.before a.s.last turn.q (sym c.falls_from.ensures ∙ c.if-not-falls_from.false)).2)
+    let next = c.word-q.ensures ∙ ap (next_at a.res.now) c.only_link-only.ensures in
+    omega (arith, next, (falls-lower a.res.now a.s.nodes a.s.links a.s.before a.s.last turn.q (sym c.falls_from.ensures ∙ c.if-not-falls_from.false)).2)
 
 pub loop-q-preserved : goal.loop-q-preserved
 loop-q-preserved c =
     let r = c.before.before.before.before.before.before.before.before.before.before.before.before.before in
     let a = r.args in
     let turn = c.loop-q in
-    let next = c.word-q.ensures ∙ ap (next_at a.result.now) c.only_link-only.ensures in
-    let number = c.number_of_lem.ensures ∙ ap (number_at a.result.now a.s.nodes a.s.links) c.only_link-only.ensures in
-    let good = c.if-not-w.false in
-    let on = goes_on a.sheet.now a.result.now a.s turn.w _ turn.q turn.invariant.2 c.loop-q-test.true (sym c.falls_from.ensures ∙ c.if-not-falls_from.false) turn.invariant.0 turn.invariant.1 _ number c.goes_on-w.result c.goes_on-w.ensures good c.word-q.result next in
+    let next = c.word-q.ensures ∙ ap (next_at a.res.now) c.only_link-only.ensures in
+    let number = c.number_of.ensures ∙ ap (number_at a.res.now a.s.nodes a.s.links) c.only_link-only.ensures in
+    let good = (not-false _ c.if-not-w.false) in
+    let on = goes_on a.sheet.now a.res.now a.s turn.w _ turn.q turn.invariant.2 c.loop-q-test.true (sym c.falls_from.ensures ∙ c.if-not-falls_from.false) turn.invariant.0 turn.invariant.1 _ number c.goes_on-w.result c.goes_on-w.ensures good c.word-q.result next in
     (on.0, good, on.1)
 
 pub returns-then-q-last : goal.returns-then-q-last
@@ -93,7 +93,7 @@ returns-then-q-last c =
     let r = c.before.before.before.before.before.before.before in
     let a = r.args in
     let turn = c.loop-q in
-    stops-below a.sheet.now a.result.now a.s turn.w _ turn.q turn.invariant.2 c.lost-then-q-last.result c.if-q-last.true c.lost-then-q-last.ensures
+    stops-below a.sheet.now a.res.now a.s turn.w _ turn.q turn.invariant.2 c.lost-then-q-last.result c.if-q-last.true c.lost-then-q-last.ensures
 
 pub ended-requires : goal.ended-requires
 ended-requires c =
@@ -107,4 +107,4 @@ returns c =
     let r = c.before.before.before.before.before.before.before in
     let a = r.args in
     let turn = c.loop-q in
-    ends_there a.sheet.now a.result.now a.s turn.w _ turn.q turn.invariant.2 c.ended.result (omega (arith, c.loop-q-test.false, c.if-q-last.false)) c.ended.ensures
+    ends_there a.sheet.now a.res.now a.s turn.w _ turn.q turn.invariant.2 c.ended.result (omega (arith, c.loop-q-test.false, c.if-q-last.false)) c.ended.ensures

@@ -1,9 +1,6 @@
-use mathlib.Core.Path.{◌≡◌, refl, sym, ◌∙◌}
-use Prim.Native.Nat.{◌+◌, ◌-◌, ◌≤◌}
-use lib.ListN.{length, drop}
+use mathlib.Core.Path.{refl, sym, ◌∙◌}
 use borrow.Author.Rules.{rules}
-use borrow.Author.Tests.{not-true, not-false}
-use Rattle.row_reader.specs.Runs.{run_of, in_field}
+use Rattle.row_reader.specs.Runs.{in_field}
 use Rattle.row_reader.proofs.Runs.{run_on, run-stops, run_ends}
 use Rattle.row_reader.proofs.fields.field_end.Goals as goal
 

@@ -1,10 +1,7 @@
-use mathlib.Core.Path.{◌≡◌, refl, sym, ◌∙◌}
+use mathlib.Core.Path.{◌≡◌}
 use Prim.Native.Nat.{◌+◌, ◌-◌, ◌≤◌}
 use lib.ListN.{length, drop}
-use borrow.Author.Rules.{rules}
-use borrow.Author.Tests.{not-true, not-false}
 use Rattle.row_reader.specs.Runs.{run_of, in_field}
-use Rattle.row_reader.proofs.Runs.{run_on, run-stops, run_ends}
 use Rattle.row_reader.proofs.fields.field_end.Given as goal
 
 -- what is left of the run is that of the whole

@@ -1,5 +1,4 @@
 use mathlib.Core.Path.{sym, ◌∙◌}
-use borrow.Author.Rules.{rules}
 use Rattle.row_reader.proofs.fields.in_field.Goals as goal
 
 pub returns-then-is_blank : goal.returns-then-is_blank

@@ -1,11 +1,8 @@
-use mathlib.Core.Path.{◌≡◌, refl, sym, ◌∙◌}
+use mathlib.Core.Path.{◌≡◌}
 use Prim.Native.Nat.{◌+◌, ◌-◌, ◌≤◌}
 use lib.ListN.{length, drop}
-use borrow.Author.Rules.{rules}
-use borrow.Author.Tests.{not-true, not-false}
 use Rattle.text_rows.specs.Fields.{is_blank}
 use Rattle.row_reader.specs.Runs.{run_of}
-use Rattle.row_reader.proofs.Runs.{run_on, run-stops, run_ends}
 use Rattle.row_reader.proofs.fields.past_blanks.Given as goal
 
 -- what is left of the run is that of the whole

@@ -1,11 +1,8 @@
-use mathlib.Core.Path.{◌≡◌, sym, ◌∙◌}
-use mathlib.Core.Bool.{true}
-use Prim.Native.Nat.{◌-◌, ◌^◌, ◌≤◌}
+use mathlib.Core.Path.{sym, ◌∙◌}
 use native.Mathlib.Omega.{arith}
 use borrow.Author.Rules.{rules}
 use Rattle.row_reader.specs.Places.{rows_left}
-use Rattle.row_reader.specs.FinalRows.{once_in}
-use Rattle.row_reader.proofs.FinalRows.{once_from_in, from-begin, once-twice, once-next}
+use Rattle.row_reader.proofs.FinalRows.{from-begin, once-twice, once-next}
 use Rattle.row_reader.proofs.finals.finals_once.Goals as goal
 
 pub loop-first-init : goal.loop-first-init
@@ -21,16 +18,16 @@ pub loop-first-smaller : goal.loop-first-smaller
 loop-first-smaller c =
     let text = c.args.text.now in
     let turn = c.loop-first in
-    let next = c.n-1.given in
-    let goes = once-next turn.first (search rules) text next.0.0 (sym c.pass_from.ensures ∙ next.1) in
+    let next = c.in-Next in
+    let goes = once-next turn.first (search rules) text next.n (sym c.pass_from.ensures ∙ next.is) in
     omega (arith, goes.later, c.loop-first-test)
 
 pub loop-first-preserved : goal.loop-first-preserved
 loop-first-preserved c =
     let text = c.args.text.now in
     let turn = c.loop-first in
-    let next = c.n-1.given in
-    let goes = once-next turn.first (search rules) text next.0.0 (sym c.pass_from.ensures ∙ next.1) in
+    let next = c.in-Next in
+    let goes = once-next turn.first (search rules) text next.n (sym c.pass_from.ensures ∙ next.is) in
     (sym goes.same ∙ turn.invariant.0, goes.ends)
 
 pub returns : goal.returns

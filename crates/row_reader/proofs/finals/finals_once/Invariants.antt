@@ -1,11 +1,9 @@
-use mathlib.Core.Path.{◌≡◌, sym, ◌∙◌}
+use mathlib.Core.Path.{◌≡◌}
 use mathlib.Core.Bool.{true}
 use Prim.Native.Nat.{◌-◌, ◌^◌, ◌≤◌}
-use native.Mathlib.Omega.{arith}
-use borrow.Author.Rules.{rules}
 use Rattle.row_reader.specs.Places.{rows_left}
 use Rattle.row_reader.specs.FinalRows.{once_in}
-use Rattle.row_reader.proofs.FinalRows.{once_from_in, from-begin, once-twice, once-next}
+use Rattle.row_reader.proofs.FinalRows.{once_from_in}
 use Rattle.row_reader.proofs.finals.finals_once.Given as goal
 
 abbrev pub invariant-loop-first : goal.invariant-loop-first

@@ -1,14 +1,9 @@
-use mathlib.Core.Path.{◌≡◌, sym, ap, ◌∙◌}
+use mathlib.Core.Path.{◌≡◌}
 use mathlib.Core.List.{[]}
-use Prim.Native.Nat.{ℕ, ◌-◌, ◌^◌, ◌≤◌}
-use native.Mathlib.Omega.{arith}
+use Prim.Native.Nat.{◌-◌, ◌^◌, ◌≤◌}
 use lib.ListN.{length}
-use borrow.Author.Rules.{rules}
-use Rattle.row_reader.specs.declared.finals.Pass.{Pass}
 use Rattle.row_reader.specs.Places.{rows_left}
-use Rattle.row_reader.specs.FinalRows.{most, falling, told, pass_from}
-use Rattle.row_reader.proofs.Places.{rows_end}
-use Rattle.row_reader.proofs.FinalRows.{count_most, pass-none, pass_step, pass-twice, pass-end}
+use Rattle.row_reader.specs.FinalRows.{most, falling, pass_from}
 use Rattle.row_reader.proofs.finals.pass_from.Given as goal
 
 abbrev pub invariant-loop-at : goal.invariant-loop-at

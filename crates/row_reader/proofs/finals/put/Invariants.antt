@@ -1,8 +1,6 @@
-use mathlib.Core.Path.{◌≡◌, refl, sym, ap, ◌∙◌}
-use Prim.Native.Nat.{ℕ, suc, ◌-◌, ◌≤◌}
-use borrow.Author.Rules.{rules}
+use mathlib.Core.Path.{◌≡◌}
+use Prim.Native.Nat.{◌≤◌}
 use Rattle.row_reader.specs.FinalRows.{falling, has, put_in}
-use Rattle.row_reader.proofs.Kept.{has_on, has_here, has-none, put_on, put-here, put_first}
 use Rattle.row_reader.proofs.finals.put.Given as goal
 
 abbrev pub invariant-loop-i : goal.invariant-loop-i

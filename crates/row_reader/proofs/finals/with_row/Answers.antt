@@ -1,5 +1,4 @@
 use mathlib.Core.Path.{sym, ap, ◌∙◌}
-use borrow.Author.Rules.{rules}
 use Rattle.row_reader.specs.FinalRows.{falling, with_read}
 use Rattle.row_reader.proofs.finals.with_row.Goals as goal
 

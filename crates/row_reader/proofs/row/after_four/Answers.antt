@@ -6,7 +6,6 @@ use Rattle.row_reader.specs.RowReading.{link_at, link_tail}
 use Rattle.row_reader.specs.declared.values.Weight.{Weight}
 use Rattle.row_reader.specs.declared.row.Read.{Read}
 use Rattle.row_reader.proofs.Rowing.{by-none, by_field, by_read}
-use borrow.Author.Rules.{rules}
 use Rattle.row_reader.proofs.row.after_four.Goals as goal
 
 pub returns-then-from-to : goal.returns-then-from-to

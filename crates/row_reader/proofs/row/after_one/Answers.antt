@@ -4,7 +4,6 @@ use lib.ListN.{length, take, drop}
 use Rattle.row_reader.specs.Places.{line_end, row_fields}
 use Rattle.row_reader.specs.RowReading.{final_at, third_tail, first_tail}
 use Rattle.row_reader.proofs.Rowing.{by-none, by_field, by_read, by_two}
-use borrow.Author.Rules.{rules}
 use Rattle.row_reader.proofs.row.after_one.Goals as goal
 
 pub returns-then-from-to : goal.returns-then-from-to

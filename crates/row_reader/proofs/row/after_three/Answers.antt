@@ -1,10 +1,8 @@
 use mathlib.Core.Path.{refl}
-use Prim.Native.Nat.{◌-◌}
 use lib.ListN.{length}
 use Rattle.row_reader.specs.Places.{line_end, row_fields}
 use Rattle.row_reader.specs.RowReading.{link_tail, third_tail}
 use Rattle.row_reader.proofs.Rowing.{by-none, by_field, by_read}
-use borrow.Author.Rules.{rules}
 use Rattle.row_reader.proofs.row.after_three.Goals as goal
 
 pub returns-then-from-to : goal.returns-then-from-to

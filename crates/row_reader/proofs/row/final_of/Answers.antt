@@ -1,9 +1,7 @@
 use mathlib.Core.Path.{sym, ap, ◌∙◌}
-use borrow.Author.Tests.{not-true, not-false}
 use Rattle.row_reader.specs.RowReading.{final_at}
 use Rattle.row_reader.specs.declared.values.Number.{Number}
 use Rattle.row_reader.proofs.Rowing.{final-short, final-number, final-weight, final-is}
-use borrow.Author.Rules.{rules}
 use Rattle.row_reader.proofs.row.final_of.Goals as goal
 
 pub returns-then-bytes-end : goal.returns-then-bytes-end
@@ -17,15 +15,15 @@ returns-in_default c =
 pub returns-then-not-readable : goal.returns-then-not-readable
 returns-then-not-readable c =
     let args = c.args in
-    let v = c.v-1.given in
+    let v = c.in-Value in
     sym
-    (ap (λ (v : Number). final_at v args.w args.bytes args.end) v.1
-    ∙ final-weight args.w args.bytes args.end v.0.0 (sym c.readable.ensures ∙ c.if-not-readable.true))
+    (ap (λ (v : Number). final_at v args.w args.bytes args.end) v.is
+    ∙ final-weight args.w args.bytes args.end v.node (sym c.readable.ensures ∙ c.if-not-readable.true))
 
 pub returns : goal.returns
 returns c =
     let args = c.args in
-    let v = c.v-1.given in
+    let v = c.in-Value in
     sym
-    (ap (λ (v : Number). final_at v args.w args.bytes args.end) v.1
-    ∙ final-is args.w args.bytes args.end v.0.0 c.if-bytes-end.false (sym c.readable.ensures ∙ c.if-not-readable.false))
+    (ap (λ (v : Number). final_at v args.w args.bytes args.end) v.is
+    ∙ final-is args.w args.bytes args.end v.node c.if-bytes-end.false (sym c.readable.ensures ∙ c.if-not-readable.false))

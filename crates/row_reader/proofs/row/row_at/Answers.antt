@@ -2,7 +2,6 @@ use lib.ListN.{length}
 use Rattle.row_reader.specs.Places.{line_end, row_fields}
 use Rattle.row_reader.specs.RowReading.{first_tail}
 use Rattle.row_reader.proofs.Rowing.{by_read, row-none, row_first}
-use borrow.Author.Rules.{rules}
 use Rattle.row_reader.proofs.row.row_at.Goals as goal
 
 pub returns-then-from-to : goal.returns-then-from-to

@@ -1,7 +1,6 @@
 use mathlib.Core.Path.{sym, ap}
 use Rattle.row_reader.specs.Surveying.{end_of}
 use Rattle.row_reader.specs.declared.row.Read.{Read}
-use borrow.Author.Rules.{rules}
 use Rattle.row_reader.proofs.survey.end_of.Goals as goal
 
 pub returns-in-Link : goal.returns-in-Link

@@ -1,6 +1,5 @@
 use mathlib.Core.Path.{sym, ap, ◌∙◌}
 use Rattle.row_reader.specs.Surveying.{node_of}
-use borrow.Author.Rules.{rules}
 use Rattle.row_reader.proofs.survey.start_of.Goals as goal
 
 pub returns-in-Link : goal.returns-in-Link

@@ -1,14 +1,11 @@
-use mathlib.Core.Path.{◌≡◌, refl, sym, ap, ◌∙◌}
-use Prim.Native.Nat.{◌-◌, ◌≤◌}
+use mathlib.Core.Path.{refl, sym, ap, ◌∙◌}
 use native.Mathlib.Omega.{arith}
-use lib.ListN.{length}
 use borrow.Author.Rules.{rules}
-use borrow.Author.Tests.{not-true, not-false}
 use Rattle.row_reader.specs.Places.{rows_left}
 use Rattle.row_reader.specs.Surveying.{survey_from}
 use Rattle.row_reader.specs.declared.survey.Survey.{Survey}
 use Rattle.row_reader.proofs.Places.{rows_end}
-use Rattle.row_reader.proofs.Surveys.{nothing, links-most, survey-none, survey-step, survey-end, surveyed-none, surveyed-some}
+use Rattle.row_reader.proofs.Surveys.{links-most, survey-none, survey-step, survey-end, surveyed-none, surveyed-some}
 use Rattle.row_reader.proofs.survey.survey_of.Goals as goal
 
 pub returns-then-text-eq0 : goal.returns-then-text-eq0
@@ -32,7 +29,7 @@ loop-at-smaller c =
     let turn = c.loop-at in
     let row = c.row_at-r in
     let goes = survey-step text turn.at (search rules) turn.s row.result row.ensures (sym c.is_read.ensures ∙ c.if-not-is_read.false) in
-    omega (arith, goes.later, goes.within, c.end_of_lem.ensures)
+    omega (arith, goes.later, goes.within, c.end_of-at.ensures)
 
 pub loop-at-preserved : goal.loop-at-preserved
 loop-at-preserved c =
@@ -41,7 +38,7 @@ loop-at-preserved c =
     let row = c.row_at-r in
     let goes = survey-step text turn.at (search rules) turn.s row.result row.ensures (sym c.is_read.ensures ∙ c.if-not-is_read.false) in
     let made = c.with_row-s.ensures in
-    let end = c.end_of_lem.ensures in
+    let end = c.end_of-at.ensures in
     let links = ap (λ (s : Survey). s.links) made in (
       omega (arith, goes.within, end),
       omega (arith, goes.later, end, links, links-most turn.s row.result, turn.invariant.1),

@@ -1,14 +1,9 @@
-use mathlib.Core.Path.{◌≡◌, refl, sym, ap, ◌∙◌}
+use mathlib.Core.Path.{◌≡◌}
 use Prim.Native.Nat.{◌-◌, ◌≤◌}
-use native.Mathlib.Omega.{arith}
 use lib.ListN.{length}
-use borrow.Author.Rules.{rules}
-use borrow.Author.Tests.{not-true, not-false}
 use Rattle.row_reader.specs.Places.{rows_left}
 use Rattle.row_reader.specs.Surveying.{survey_from}
-use Rattle.row_reader.specs.declared.survey.Survey.{Survey}
-use Rattle.row_reader.proofs.Places.{rows_end}
-use Rattle.row_reader.proofs.Surveys.{nothing, links-most, survey-none, survey-step, survey-end, surveyed-none, surveyed-some}
+use Rattle.row_reader.proofs.Surveys.{nothing}
 use Rattle.row_reader.proofs.survey.survey_of.Given as goal
 
 abbrev pub invariant-loop-at : goal.invariant-loop-at

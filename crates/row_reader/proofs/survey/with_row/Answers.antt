@@ -3,7 +3,6 @@ use mathlib.Core.Bool.{Bool, ◌&&◌}
 use Prim.Native.Nat.{ℕ, ◌+◌, max}
 use Rattle.row_reader.specs.Surveying.{survey_read}
 use Rattle.row_reader.proofs.Surveys.{survey-eq}
-use borrow.Author.Rules.{rules}
 use Rattle.row_reader.proofs.survey.with_row.Goals as goal
 
 pub returns-in-Link : goal.returns-in-Link

@@ -5,7 +5,6 @@ use mir.Syntax.{w32}
 use mir.Val.{SFits}
 use Rattle.row_reader.specs.Reading.{signed_by}
 use Rattle.row_reader.proofs.Signs.{read-units, minus-units, fits-minus, back}
-use borrow.Author.Rules.{rules}
 use Rattle.row_reader.proofs.values.by_sign.Goals as goal
 
 pub overflow_sub-result : goal.overflow_sub-result

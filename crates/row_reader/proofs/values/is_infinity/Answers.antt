@@ -1,8 +1,6 @@
-use mathlib.Core.Path.{◌≡◌, refl, sym, ◌∙◌}
-use Prim.Native.Nat.{◌-◌, ◌≤◌}
-use lib.ListN.{drop}
+use mathlib.Core.Path.{refl, sym, ◌∙◌}
 use borrow.Author.Rules.{rules}
-use Rattle.text_rows.specs.Fields.{infinity_text, same_text}
+use Rattle.text_rows.specs.Fields.{infinity_text}
 use Rattle.row_reader.proofs.Same.{other_length, same-on, same-stops, same_ends}
 use Rattle.row_reader.proofs.values.is_infinity.Goals as goal
 

@@ -1,9 +1,7 @@
-use mathlib.Core.Path.{◌≡◌, refl, sym, ◌∙◌}
+use mathlib.Core.Path.{◌≡◌}
 use Prim.Native.Nat.{◌-◌, ◌≤◌}
 use lib.ListN.{drop}
-use borrow.Author.Rules.{rules}
 use Rattle.text_rows.specs.Fields.{infinity_text, same_text}
-use Rattle.row_reader.proofs.Same.{other_length, same-on, same-stops, same_ends}
 use Rattle.row_reader.proofs.values.is_infinity.Given as goal
 
 abbrev pub invariant-loop-p : goal.invariant-loop-p

@@ -1,6 +1,5 @@
 use mathlib.Core.Path.{sym, ◌∙◌}
 use Rattle.row_reader.proofs.Weighing.{number-none, number-large, number_is}
-use borrow.Author.Rules.{rules}
 use Rattle.row_reader.proofs.values.number_in.Goals as goal
 
 pub returns-in_default : goal.returns-in_default

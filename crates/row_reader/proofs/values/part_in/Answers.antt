@@ -5,7 +5,6 @@ use lib.ListN.{length}
 use Rattle.decimals.specs.Decimal.{digits_of}
 use Rattle.decimals.proofs.Holding.{held-most}
 use Rattle.row_reader.proofs.Weighing.{part-long, part_none, part-is, scaled}
-use borrow.Author.Rules.{rules}
 use Rattle.row_reader.proofs.values.part_in.Goals as goal
 
 pub returns-then-n-gt-DECIMALS : goal.returns-then-n-gt-DECIMALS

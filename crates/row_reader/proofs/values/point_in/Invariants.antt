@@ -1,12 +1,7 @@
-use mathlib.Core.Path.{◌≡◌, sym, ap, ◌∙◌}
-use mathlib.Core.Bool.{not}
+use mathlib.Core.Path.{◌≡◌}
 use Prim.Native.Nat.{◌+◌, ◌-◌, ◌≤◌}
-use native.Mathlib.Omega.{arith}
 use lib.ListN.{length, drop}
-use borrow.Author.Rules.{rules}
-use borrow.Author.Tests.{eq-eqb, ne_eqb}
 use Rattle.row_reader.specs.Runs.{run_of, not_point}
-use Rattle.row_reader.proofs.Runs.{run_on, run-stops, run_ends}
 use Rattle.row_reader.proofs.values.point_in.Given as goal
 
 abbrev pub invariant-loop-p : goal.invariant-loop-p

@@ -1,6 +1,5 @@
 use mathlib.Core.Path.{sym, ◌∙◌}
 use Rattle.row_reader.proofs.Weighing.{weight-barred, weight-decimal}
-use borrow.Author.Rules.{rules}
 use Rattle.row_reader.proofs.values.weight_in.Goals as goal
 
 pub returns-then-is_infinity : goal.returns-then-is_infinity

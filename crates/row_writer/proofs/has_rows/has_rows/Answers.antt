@@ -3,8 +3,7 @@ use mathlib.Core.Bool.{Bool, true, false, ◌&&◌, ◌||◌}
 use mathlib.Core.List.{List}
 use Prim.Native.Nat.{ℕ, ◌-◌, ◌≤◌, ◌<◌}
 use native.Mathlib.Omega.{arith}
-use borrow.Author.Rules.{rules}
-use borrow.Author.Tests.{lt-ltb, le-ltb, not-true, not-false}
+use borrow.Author.Tests.{lt-ltb, le-ltb}
 use Rattle.sheet.specs.declared.tr.Trailer.{Trailer}
 use Rattle.sheet.specs.Sheet.{Parts, node_count, parts_of}
 use Rattle.sheet.specs.Records.{trailer_at}
@@ -32,55 +31,50 @@ module _ (bytes : List ℕ) (t : Trailer) (same : t ≡ trailer_at bytes) where
         ∙ ap (λ (b : Bool). b && (has_own p (t.nodes - 1) || is_led p (t.nodes - 1))) (sym e)
 
 pub returns-then-t : goal.returns-then-t
-returns-then-t c = let s = c.before.before.before.before in sym (past s.args.sheet.now s.args.t s.requires.t_value c.if-t.true)
+returns-then-t c = sym (past c.args.sheet.now c.args.t c.requires.t_value c.if-t.true)
 
 pub has_own-requires : goal.has_own-requires
 has_own-requires c =
-    let s = c.before.before.before.before in
-    let bytes = s.args.sheet.now in
-    let t = s.args.t in record {
-      sheet_value = s.requires.sheet_value;
-      links_value = links-are bytes t s.requires.t_value;
-      v_bound = omega (arith, c.if-t.false, nodes-are bytes t s.requires.t_value);
+    let bytes = c.args.sheet.now in
+    let t = c.args.t in record {
+      sheet_value = c.requires.sheet_value;
+      links_value = links-are bytes t c.requires.t_value;
+      v_bound = omega (arith, c.if-t.false, nodes-are bytes t c.requires.t_value);
     }
 
 pub returns-then-not-has_own : goal.returns-then-not-has_own
 returns-then-not-has_own c =
-    let s = c.before.before.before.before.before.before in
-    let bytes = s.args.sheet.now in
-    sym (tests bytes s.args.t s.requires.t_value c.if-t.false false (sym c.if-not-has_own.true ∙ c.has_own.ensures))
+    let bytes = c.args.sheet.now in
+    sym (tests bytes c.args.t c.requires.t_value c.if-t.false false (sym c.if-not-has_own.true ∙ c.has_own.ensures))
 
 pub has_own-requires-2 : goal.has_own-requires-2
 has_own-requires-2 c =
-    let s = c.before.before.before.before.before.before.before in
-    let bytes = s.args.sheet.now in
-    let t = s.args.t in record {
-      sheet_value = s.requires.sheet_value;
-      links_value = links-are bytes t s.requires.t_value;
-      v_bound = omega (arith, c.if-t.false, nodes-are bytes t s.requires.t_value);
+    let bytes = c.args.sheet.now in
+    let t = c.args.t in record {
+      sheet_value = c.requires.sheet_value;
+      links_value = links-are bytes t c.requires.t_value;
+      v_bound = omega (arith, c.if-t.false, nodes-are bytes t c.requires.t_value);
     }
 
 pub returns-then-has_own : goal.returns-then-has_own
 returns-then-has_own c =
-    let s = c.before.before.before.before.before.before.before.before.before in
-    let bytes = s.args.sheet.now in
-    let t = s.args.t in
+    let bytes = c.args.sheet.now in
+    let t = c.args.t in
     let own = sym c.if-not-has_own.false ∙ c.has_own.ensures in
     let last = sym c.if-has_own.true ∙ c.has_own-2.ensures in
-    sym (tests bytes t s.requires.t_value c.if-t.false true own ∙ ap (λ (b : Bool). b || is_led (parts_of bytes) (t.nodes - 1)) (sym last))
+    sym (tests bytes t c.requires.t_value c.if-t.false true own ∙ ap (λ (b : Bool). b || is_led (parts_of bytes) (t.nodes - 1)) (sym last))
 
 pub is_led-requires : goal.is_led-requires
 is_led-requires c =
-    let s = c.before.before.before.before.before.before.before.before.before in record {
-      sheet_value = s.requires.sheet_value;
-      links_value = links-are s.args.sheet.now s.args.t s.requires.t_value;
+    record {
+      sheet_value = c.requires.sheet_value;
+      links_value = links-are c.args.sheet.now c.args.t c.requires.t_value;
     }
 
 pub returns : goal.returns
 returns c =
-    let s = c.before.before.before.before.before.before.before.before.before.before in
-    let bytes = s.args.sheet.now in
-    let t = s.args.t in
+    let bytes = c.args.sheet.now in
+    let t = c.args.t in
     let own = sym c.if-not-has_own.false ∙ c.has_own.ensures in
     let last = sym c.if-has_own.false ∙ c.has_own-2.ensures in
-    c.is_led.ensures ∙ sym (tests bytes t s.requires.t_value c.if-t.false true own ∙ ap (λ (b : Bool). b || is_led (parts_of bytes) (t.nodes - 1)) (sym last))
+    c.is_led.ensures ∙ sym (tests bytes t c.requires.t_value c.if-t.false true own ∙ ap (λ (b : Bool). b || is_led (parts_of bytes) (t.nodes - 1)) (sym last))

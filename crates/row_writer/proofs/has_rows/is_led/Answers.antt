@@ -1,6 +1,6 @@
 use mathlib.Core.Path.{◌≡◌, refl, sym, ap, ◌∙◌}
-use mathlib.Core.Bool.{true, not}
-use Prim.Native.Nat.{ℕ, ◌-◌, ◌≤◌}
+use mathlib.Core.Bool.{not}
+use Prim.Native.Nat.{ℕ}
 use native.Mathlib.Omega.{arith}
 use lib.Dec.{eqb}
 use borrow.Author.Rules.{rules}
@@ -23,34 +23,31 @@ unfolding all_below
 loop-l-init c = (search rules, refl)
 
 pub word-requires : goal.word-requires
-word-requires c = let s = c.before.before.before.before in omega (arith, c.loop-l-test.true, s.requires.links_value, size_is s.args.sheet.now s.requires.sheet_value)
+word-requires c = omega (arith, c.loop-l-test.true, c.requires.links_value, size_is c.args.sheet.now c.requires.sheet_value)
 
 -- the next node that was read
 led : (c : After-word) → c.word.result ≡ next (parts_of c.args.sheet.now) c.loop-l.l
-led c = let s = c.before.before.before.before in c.word.ensures ∙ next-at s.args.sheet.now c.loop-l.l (omega (arith, c.loop-l-test.true, s.requires.links_value))
+led c = c.word.ensures ∙ next-at c.args.sheet.now c.loop-l.l (omega (arith, c.loop-l-test.true, c.requires.links_value))
 
 pub returns-then-word-v : goal.returns-then-word-v
 unfolding is_led
 returns-then-word-v c =
-    let s = c.before.before.before.before.before.before in
-    let p = parts_of s.args.sheet.now in
-    let v = s.args.v in
+    let p = parts_of c.args.sheet.now in
+    let v = c.args.v in
     let l = c.loop-l.l in
-    sym (ap not (all_below-fails (link_count p) (λ k. not (eqb (next p k) v)) l (omega (arith, c.loop-l-test.true, s.requires.links_value)) (ap not (eq-eqb (next p l) v (sym (led c.before.before) ∙ c.if-word-v.true)))))
+    sym (ap not (all_below-fails (link_count p) (λ k. not (eqb (next p k) v)) l (omega (arith, c.loop-l-test.true, c.requires.links_value)) (ap not (eq-eqb (next p l) v (sym (led c.before.before) ∙ c.if-word-v.true)))))
 
 pub loop-l-preserved : goal.loop-l-preserved
 loop-l-preserved c =
-    let s = c.before.before.before.before.before.before in
-    let p = parts_of s.args.sheet.now in
-    let v = s.args.v in
+    let p = parts_of c.args.sheet.now in
+    let v = c.args.v in
     let turn = c.loop-l in
     (search rules, all_below-more turn.l (λ k. not (eqb (next p k) v)) turn.invariant.1 (ap not (ne_eqb (next p turn.l) v (λ e. c.if-word-v.false (led c.before.before ∙ e)))))
 
 pub returns : goal.returns
 unfolding is_led
 returns c =
-    let s = c.before.before.before.before in
-    let p = parts_of s.args.sheet.now in
+    let p = parts_of c.args.sheet.now in
     let turn = c.loop-l in
-    let all : turn.l ≡ link_count p = omega (arith, turn.invariant.0, c.loop-l-test.false, s.requires.links_value) in
-    sym (ap not (ap (λ (k : ℕ). all_below k (λ l. not (eqb (next p l) s.args.v))) (sym all) ∙ turn.invariant.1))
+    let all : turn.l ≡ link_count p = omega (arith, turn.invariant.0, c.loop-l-test.false, c.requires.links_value) in
+    sym (ap not (ap (λ (k : ℕ). all_below k (λ l. not (eqb (next p l) c.args.v))) (sym all) ∙ turn.invariant.1))

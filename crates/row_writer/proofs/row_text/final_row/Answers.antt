@@ -18,16 +18,15 @@ word-requires c = omega (arith, node-within c.args.sheet.now c.requires.sheet_va
 
 pub returns-then-word-eq0 : goal.returns-then-word-eq0
 returns-then-word-eq0 c =
-    let start = c.before.before.before.before.before in
-    let bytes = start.args.sheet.now in
-    let links = start.args.links in
-    let v = start.args.v in
-    let read = start.requires.sheet_value in
-    let are = start.requires.links_value in
-    let within = start.requires.v_bound in
+    let bytes = c.args.sheet.now in
+    let links = c.args.links in
+    let v = c.args.v in
+    let read = c.requires.sheet_value in
+    let are = c.requires.links_value in
+    let within = c.requires.v_bound in
     let p = parts_of bytes in
     let none : mark p v ≡ 0 = sym (c.word.ensures ∙ mark-at bytes links are v within) ∙ c.if-word-eq0.true in record {
-      puts = puts-same (ap (λ (b : Bool). cond b [] (decimal v ++ and_weight (final_bits p v) ++ (10 ∷ []))) (sym (eq-eqb (mark p v) 0 none))) (puts_none start.args.row.now 0);
+      puts = puts-same (ap (λ (b : Bool). cond b [] (decimal v ++ and_weight (final_bits p v) ++ (10 ∷ []))) (sym (eq-eqb (mark p v) 0 none))) (puts_none c.args.row.now 0);
       upper_bound = search rules;
     }
 
@@ -36,13 +35,12 @@ word-requires-2 c = omega (arith, node-within c.args.sheet.now c.requires.sheet_
 
 pub put_weight-next-requires : goal.put_weight-next-requires
 put_weight-next-requires c =
-    let start = c.before.before.before.before.before.before.before.before.before.before.before in
-    let bytes = start.args.sheet.now in
-    let links = start.args.links in
-    let v = start.args.v in
-    let read = start.requires.sheet_value in
-    let are = start.requires.links_value in
-    let within = start.requires.v_bound in
+    let bytes = c.args.sheet.now in
+    let links = c.args.links in
+    let v = c.args.v in
+    let read = c.requires.sheet_value in
+    let are = c.requires.links_value in
+    let within = c.requires.v_bound in
     let some : mark (parts_of bytes) v ≡ 0 → ⊥ = λ z. c.if-word-eq0.false (c.word.ensures ∙ mark-at bytes links are v within ∙ z) in record {
       bits_value = ap weight_fits c.word-2.ensures ∙ final-on bytes read links are v within some;
       weight_most_in_bounds = search rules;
@@ -50,13 +48,12 @@ put_weight-next-requires c =
 
 pub returns : goal.returns
 returns c =
-    let start = c.before.before.before.before.before.before.before.before.before.before.before.before.before.before.before.before.before.before.before in
-    let bytes = start.args.sheet.now in
-    let links = start.args.links in
-    let v = start.args.v in
-    let read = start.requires.sheet_value in
-    let are = start.requires.links_value in
-    let within = start.requires.v_bound in
+    let bytes = c.args.sheet.now in
+    let links = c.args.links in
+    let v = c.args.v in
+    let read = c.requires.sheet_value in
+    let are = c.requires.links_value in
+    let within = c.requires.v_bound in
     let p = parts_of bytes in
     let some : mark p v ≡ 0 → ⊥ = λ z. c.if-word-eq0.false (c.word.ensures ∙ mark-at bytes links are v within ∙ z) in
     let b = puts_then c.put_decimal-next.ensures.puts (puts-same (ap and_weight (c.word-2.ensures ∙ final-at bytes read links are v within)) c.put_weight-next.ensures.puts) in record {

@@ -26,10 +26,9 @@ returns-then-bits-eq-BARRED c =
 
 pub put_units-requires : goal.put_units-requires
 put_units-requires c =
-    let start = c.before.before.before.before.before in
-    let bits = start.args.bits in
+    let bits = c.args.bits in
     let cost = c.cost-units in
-    let on = on-grid bits start.requires.bits_value c.if-bits-eq-BARRED.false in
+    let on = on-grid bits c.requires.bits_value c.if-bits-eq-BARRED.false in
     let held = units-held bits on c.from_bits.result cost.result c.from_bits.ensures cost.ensures in record {
       units_bound = held.1;
       units_most_in_bounds = search rules;
@@ -37,12 +36,11 @@ put_units-requires c =
 
 pub returns : goal.returns
 returns c =
-    let start = c.before.before.before.before.before.before.before.before.before in
-    let bits = start.args.bits in
+    let bits = c.args.bits in
     let cost = c.cost-units in
     let from = c.from_bits in
     let left = c.if-bits-eq-BARRED.false in
-    let held = units-held bits (on-grid bits start.requires.bits_value left) from.result cost.result from.ensures cost.ensures in
+    let held = units-held bits (on-grid bits c.requires.bits_value left) from.result cost.result from.ensures cost.ensures in
     let is = ap (λ (b : Bool). cond b infinity_text (weight_text (Grid.units_of unit (of_bits binary32 bits)))) (sym (ne_eqb bits barred_bits left)) in record {
       puts = puts-same (ap weight_text held.0 ∙ is) c.put_units.ensures.puts;
       upper_bound = omega arith;

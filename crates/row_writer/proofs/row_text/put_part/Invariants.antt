@@ -1,18 +1,8 @@
-use mathlib.Core.Path.{◌≡◌, refl, sym, ap, ◌∙◌}
-use mathlib.Core.Bool.{Bool, cond}
-use mathlib.Core.List.{[], ◌∷◌}
-use Prim.Native.Nat.{ℕ, suc, ◌+◌, ◌*◌, ◌/◌, ◌%◌, ◌<◌}
-use native.Mathlib.Numerals.{add-one}
-use native.Mathlib.Omega.{arith}
-use lib.ListN.{length, set, length-set}
+use mathlib.Core.Path.{◌≡◌}
+use Prim.Native.Nat.{◌+◌, ◌<◌}
+use lib.ListN.{length}
 use lib.Seq.{sets}
-use borrow.Author.Rules.{rules}
-use borrow.Author.Tests.{eq-eqb, ne_eqb}
-use Rattle.decimals.proofs.Storing.{puts-same}
-use Rattle.text_rows.specs.Written.{shortest, part_text}
-use Rattle.row_writer.proofs.Fronts.{shortest-first}
-use Rattle.row_writer.proofs.Stored.{puts_none}
-use Rattle.row_writer.proofs.Lengths.{shortest-most}
+use Rattle.text_rows.specs.Written.{shortest}
 use Rattle.row_writer.proofs.row_text.put_part.Given as goal
 
 abbrev pub invariant-loop-rest : goal.invariant-loop-rest

@@ -1,5 +1,5 @@
 use mathlib.Core.Path.{◌≡◌, refl, sym, ap, ◌∙◌}
-use Prim.Native.Nat.{◌+◌, ◌-◌, ◌≤◌}
+use Prim.Native.Nat.{◌+◌}
 use native.Mathlib.Omega.{arith}
 use borrow.Author.Rules.{rules}
 use Rattle.sheet.specs.Below.{sum_below}
@@ -19,11 +19,11 @@ unfolding sum_below
 loop-u-init c = (search rules, refl)
 
 pub link_count-first-requires : goal.link_count-first-requires
-link_count-first-requires c = let s = c.before.before.before.before in record {
-      sheet_value = s.requires.sheet_value;
-      links_value = s.requires.links_value;
-      v_bound = omega (arith, c.loop-u-test.true, s.requires.v_bound);
-    }
+link_count-first-requires c = record {
+  sheet_value = c.requires.sheet_value;
+  links_value = c.requires.links_value;
+  v_bound = omega (arith, c.loop-u-test.true, c.requires.v_bound);
+}
 
 -- the first link of the node after
 next : (c : After-link_count-first) → let turn = c.loop-u in turn.first + c.link_count-first.result ≡ first_of (parts_of c.args.sheet.now) (turn.u + 1)
@@ -33,8 +33,7 @@ next c =
 
 pub overflow_add-first : goal.overflow_add-first
 overflow_add-first c =
-    let s = c.before.before.before.before.before in
-    omega (arith, next c.before, first-most s.args.sheet.now s.requires.sheet_value (c.loop-u.u + 1) (omega (arith, c.loop-u-test.true, s.requires.v_bound)), s.requires.links_value)
+    omega (arith, next c.before, first-most c.args.sheet.now c.requires.sheet_value (c.loop-u.u + 1) (omega (arith, c.loop-u-test.true, c.requires.v_bound)), c.requires.links_value)
 
 pub loop-u-preserved : goal.loop-u-preserved
 loop-u-preserved c = (search rules, next c.before)
@@ -42,6 +41,5 @@ loop-u-preserved c = (search rules, next c.before)
 pub returns : goal.returns
 returns c =
     let turn = c.loop-u in
-    let s = c.before.before.before.before in
-    let all : turn.u ≡ s.args.v = omega (arith, turn.invariant.0, c.loop-u-test.false) in
-    turn.invariant.1 ∙ ap (first_of (parts_of s.args.sheet.now)) all
+    let all : turn.u ≡ c.args.v = omega (arith, turn.invariant.0, c.loop-u-test.false) in
+    turn.invariant.1 ∙ ap (first_of (parts_of c.args.sheet.now)) all

@@ -1,11 +1,7 @@
-use mathlib.Core.Path.{◌≡◌, refl, sym, ap, ◌∙◌}
-use Prim.Native.Nat.{◌+◌, ◌-◌, ◌≤◌}
-use native.Mathlib.Omega.{arith}
-use borrow.Author.Rules.{rules}
-use Rattle.sheet.specs.Below.{sum_below}
+use mathlib.Core.Path.{◌≡◌}
+use Prim.Native.Nat.{◌-◌, ◌≤◌}
 use Rattle.sheet.specs.Sheet.{parts_of}
 use Rattle.text_rows.specs.Written.{first_of}
-use Rattle.row_writer.proofs.Accepted.{first-most, first_next}
 use Rattle.row_writer.proofs.sheet_text.first_link.Given as goal
 
 abbrev pub invariant-loop-u : goal.invariant-loop-u

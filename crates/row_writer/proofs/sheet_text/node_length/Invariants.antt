@@ -1,12 +1,9 @@
-use mathlib.Core.Path.{◌≡◌, sym, ap, ◌∙◌}
-use Prim.Native.Nat.{◌+◌, ◌-◌, ◌*◌, ◌≤◌, ◌<◌}
-use native.Mathlib.Omega.{arith}
-use lib.ListN.{length, length-append}
-use borrow.Author.Rules.{rules}
-use Rattle.sheet.specs.Sheet.{link_count, count, parts_of}
+use mathlib.Core.Path.{◌≡◌}
+use Prim.Native.Nat.{◌-◌, ◌*◌, ◌≤◌}
+use lib.ListN.{length}
+use Rattle.sheet.specs.Sheet.{parts_of}
 use Rattle.row_writer.specs.Room.{row_most}
-use Rattle.row_writer.proofs.Accepted.{link-below}
-use Rattle.row_writer.proofs.Measured.{row_from, texts, texts-none, texts-more, length-node}
+use Rattle.row_writer.proofs.Measured.{row_from, texts}
 use Rattle.row_writer.proofs.sheet_text.node_length.Given as goal
 
 abbrev pub invariant-loop-i : goal.invariant-loop-i

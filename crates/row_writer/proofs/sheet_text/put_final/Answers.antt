@@ -1,7 +1,6 @@
 use mathlib.Core.Path.{◌≡◌, ap}
 use native.Mathlib.Omega.{arith}
 use lib.ListN.{length, take}
-use borrow.Author.Rules.{rules}
 use Rattle.sheet.specs.Sheet.{parts_of}
 use Rattle.decimals.proofs.Storing.{puts-same}
 use Rattle.text_rows.specs.Written.{final_row}

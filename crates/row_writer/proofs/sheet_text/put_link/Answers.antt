@@ -1,7 +1,6 @@
 use mathlib.Core.Path.{◌≡◌, ap}
 use native.Mathlib.Omega.{arith}
 use lib.ListN.{length, take}
-use borrow.Author.Rules.{rules}
 use Rattle.sheet.specs.Sheet.{parts_of}
 use Rattle.decimals.proofs.Storing.{puts-same}
 use Rattle.text_rows.specs.Written.{link_row}
@@ -15,11 +14,11 @@ abbrev After-link_row-k : Type 0
 After-link_row-k = Lts.After-link_row Tie.the-claims Reads.Pre Reads.Post Tie.handed_clauses
 
 -- what is copied
-made : (c : After-link_row-k) → let args = c.args in take c.link_row.result c.link_row.new.1.1.1.0 ≡ link_row (parts_of args.sheet.now) args.v args.l
-made c = text-taken c.link_row.ensures.0 (omega (arith, c.link_row.ensures.1))
+made : (c : After-link_row-k) → let args = c.args in take c.link_row-k.result c.link_row-k.new.row ≡ link_row (parts_of args.sheet.now) args.v args.l
+made c = text-taken c.link_row-k.ensures.puts (omega (arith, c.link_row-k.ensures.upper_bound))
 
 pub slice_bounds-put_text-end : goal.slice_bounds-put_text-end
-slice_bounds-put_text-end c = let row = c.before.before.before.before in omega (arith, ap length (made row), row.link_row_lem.ensures.0.ends)
+slice_bounds-put_text-end c = let row = c.before.before.before.before in omega (arith, ap length (made row), row.link_row-k.ensures.puts.ends)
 
 pub put_text-requires : goal.put_text-requires
 put_text-requires c = omega (arith, ap length (made c.before.before.before.before), c.requires.l_in_bounds)

@@ -1,14 +1,12 @@
 use mathlib.Core.Path.{◌≡◌, refl, sym, ◌∙◌}
-use Prim.Native.Nat.{◌+◌, ◌-◌, ◌≤◌, ◌<◌}
+use Prim.Native.Nat.{◌+◌, ◌<◌}
 use native.Mathlib.Omega.{arith}
-use lib.ListN.{length}
 use borrow.Author.Rules.{rules}
 use Rattle.sheet.specs.Sheet.{link_count, count, parts_of}
-use Rattle.decimals.specs.Stored.{Puts}
 use Rattle.decimals.proofs.Storing.{puts-same, puts_then}
 use Rattle.row_writer.proofs.Accepted.{link-below}
 use Rattle.row_writer.proofs.Stored.{puts_none}
-use Rattle.row_writer.proofs.Measured.{row_from, texts, texts-none, texts-more, next_fits, node-is, length-node}
+use Rattle.row_writer.proofs.Measured.{row_from, texts-none, texts-more, next_fits, node-is, length-node}
 use Rattle.row_writer.proofs.sheet_text.put_node.Goals as goal
 use Rattle.row_writer.proofs.sheet_text.put_node.Lts
 use Rattle.row_writer.proofs.sheet_text.put_node.Reads
@@ -21,11 +19,11 @@ abbrev In-loop-i : Type 0
 In-loop-i = Lts.In-loop Tie.the-claims Reads.Pre Reads.Post goal.the-invariant-loop-i goal.the-decreases-loop-i Tie.handed_clauses
 
 pub link_count-count-requires : goal.link_count-count-requires
-link_count-count-requires c = let s = c.before.before.before in record {
-      sheet_value = s.requires.sheet_value;
-      links_value = s.requires.links_value;
-      v_bound = s.requires.v_bound;
-    }
+link_count-count-requires c = record {
+  sheet_value = c.requires.sheet_value;
+  links_value = c.requires.links_value;
+  v_bound = c.requires.v_bound;
+}
 
 pub loop-i-init : goal.loop-i-init
 loop-i-init c =
@@ -33,10 +31,9 @@ loop-i-init c =
     (search rules, refl, puts-same (sym (texts-none (row_from (parts_of args.sheet.now) args.v args.first))) (puts_none args.res.now args.at))
 
 -- the link is the node's, so one of the sheet's
-below : (c : In-loop-i) → let s = c.before.before.before.before.before in s.args.first + c.loop-i.i < link_count (parts_of s.args.sheet.now)
+below : (c : In-loop-i) → c.args.first + c.loop-i.i < link_count (parts_of c.args.sheet.now)
 below c =
-    let s = c.before.before.before.before.before in
-    omega (arith, s.requires.first_value, link-below s.args.sheet.now s.requires.sheet_value s.args.v c.loop-i.i s.requires.v_bound (omega (arith, c.loop-i-test.true, c.link_count-count.ensures)))
+    omega (arith, c.requires.first_value, link-below c.args.sheet.now c.requires.sheet_value c.args.v c.loop-i.i c.requires.v_bound (omega (arith, c.loop-i-test.true, c.link_count-count.ensures)))
 
 pub overflow_add-l : goal.overflow_add-l
 overflow_add-l c = omega (arith, below c.before, c.requires.links_value)
@@ -46,15 +43,13 @@ overflow_cast-l c = omega (arith, below c.before, c.requires.links_value)
 
 pub put_link-next-requires : goal.put_link-next-requires
 put_link-next-requires c =
-    let inside = c.before.before in
-    let s = inside.before.before.before.before.before in
-    let turn = inside.loop-i in
-    let n = inside.link_count-count in
-    let p = parts_of s.args.sheet.now in
-    let row = row_from p s.args.v s.args.first in record {
-      sheet_value = s.requires.0;
-      l_bound = below inside;
-      l_in_bounds = omega (arith, turn.invariant.1, turn.invariant.2.ends, next_fits row turn.i n.result inside.loop-i-test.true, length-node p s.args.v s.args.first n.result s.requires.1.1.1.0 n.ensures, s.requires.1.1.1.1);
+    let turn = c.loop-i in
+    let n = c.link_count-count in
+    let p = parts_of c.args.sheet.now in
+    let row = row_from p c.args.v c.args.first in record {
+      sheet_value = c.requires.sheet_value;
+      l_bound = below c.before.before;
+      l_in_bounds = omega (arith, turn.invariant.1, turn.invariant.2.ends, next_fits row turn.i n.result c.loop-i-test.true, length-node p c.args.v c.args.first n.result c.requires.first_value n.ensures, c.requires.v_in_bounds);
     }
 
 pub loop-i-preserved : goal.loop-i-preserved
@@ -66,24 +61,20 @@ loop-i-preserved c =
     (search rules, put.auto.res ∙ turn.invariant.1, puts-same (sym (texts-more row turn.i)) (puts_then turn.invariant.2 put.ensures))
 
 -- all links are stored
-links-put : (c : After-loop-i) → let s = c.before.before.before.before.before in c.loop-i.i ≡ count (parts_of s.args.sheet.now) s.args.v
+links-put : (c : After-loop-i) → c.loop-i.i ≡ count (parts_of c.args.sheet.now) c.args.v
 links-put c = omega (arith, c.loop-i.invariant.0, c.loop-i-test.false, c.link_count-count.ensures)
 
 pub put_final-requires : goal.put_final-requires
 put_final-requires c =
-    let after = c.before.before in
-    let s = after.before.before.before.before.before in
-    let turn = after.loop-i in
-    let p = parts_of s.args.sheet.now in record {
-      sheet_value = s.requires.0;
-      links_value = s.requires.1.0;
-      v_bound = s.requires.1.1.0;
-      v_in_bounds = omega (arith, turn.invariant.1, turn.invariant.2.ends, length-node p s.args.v s.args.first turn.i s.requires.1.1.1.0 (links-put after), s.requires.1.1.1.1);
+    let turn = c.loop-i in
+    let p = parts_of c.args.sheet.now in record {
+      sheet_value = c.requires.sheet_value;
+      links_value = c.requires.links_value;
+      v_bound = c.requires.v_bound;
+      v_in_bounds = omega (arith, turn.invariant.1, turn.invariant.2.ends, length-node p c.args.v c.args.first turn.i c.requires.first_value (links-put c.before.before), c.requires.v_in_bounds);
     }
 
 pub returns : goal.returns
 returns c =
-    let after = c.before.before.before.before.before in
-    let s = after.before.before.before.before.before in
-    let turn = after.loop-i in
-    puts-same (sym (node-is (parts_of s.args.sheet.now) s.args.v s.args.first turn.i s.requires.1.1.1.0 (links-put after))) (puts_then turn.invariant.2 c.put_final.ensures)
+    let turn = c.loop-i in
+    puts-same (sym (node-is (parts_of c.args.sheet.now) c.args.v c.args.first turn.i c.requires.first_value (links-put c.before.before.before.before.before))) (puts_then turn.invariant.2 c.put_final.ensures)

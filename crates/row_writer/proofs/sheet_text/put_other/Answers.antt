@@ -3,7 +3,6 @@ use mathlib.Core.Bool.{Bool, cond}
 use mathlib.Core.List.{[]}
 use native.Mathlib.Omega.{arith}
 use lib.ListN.{length}
-use borrow.Author.Rules.{rules}
 use borrow.Author.Tests.{eq-eqb, ne_eqb}
 use Rattle.sheet.specs.Sheet.{parts_of}
 use Rattle.decimals.proofs.Storing.{puts-same}
@@ -20,27 +19,25 @@ Else-v-start = Lts.Else1 Tie.the-claims Reads.Pre Reads.Post Tie.handed_clauses
 
 pub returns-then-v-start : goal.returns-then-v-start
 returns-then-v-start c =
-    let s = c.before.before.before.before in
-    let p = parts_of s.args.sheet.now in
-    let v = s.args.v in
-    puts-same (sym (ap (λ (b : Bool). cond b [] (node_rows p v)) (eq-eqb v p.start (c.if-v-start.true ∙ s.requires.start_value)))) (puts_none s.args.res.now s.args.at)
+    let p = parts_of c.args.sheet.now in
+    let v = c.args.v in
+    puts-same (sym (ap (λ (b : Bool). cond b [] (node_rows p v)) (eq-eqb v p.start (c.if-v-start.true ∙ c.requires.start_value)))) (puts_none c.args.res.now c.args.at)
 
 -- a node's own rows, where it is not the start
 own : (c : Else-v-start) → let args = c.args in other_rows (parts_of args.sheet.now) args.v ≡ node_rows (parts_of args.sheet.now) args.v
 own c =
-    let s = c.before.before.before in
-    let p = parts_of s.args.sheet.now in
-    let v = s.args.v in
-    ap (λ (b : Bool). cond b [] (node_rows p v)) (ne_eqb v p.start (λ e. c.if-v-start.false (e ∙ sym s.requires.start_value)))
+    let p = parts_of c.args.sheet.now in
+    let v = c.args.v in
+    ap (λ (b : Bool). cond b [] (node_rows p v)) (ne_eqb v p.start (λ e. c.if-v-start.false (e ∙ sym c.requires.start_value)))
 
 pub put_node-requires : goal.put_node-requires
 put_node-requires c =
-    let s = c.before.before.before.before.before in record {
-      sheet_value = s.requires.sheet_value;
-      links_value = s.requires.links_value;
-      v_bound = s.requires.v_bound;
-      first_value = s.requires.first_value;
-      v_in_bounds = omega (arith, ap length (own c.before.before), s.requires.v_in_bounds);
+    record {
+      sheet_value = c.requires.sheet_value;
+      links_value = c.requires.links_value;
+      v_bound = c.requires.v_bound;
+      first_value = c.requires.first_value;
+      v_in_bounds = omega (arith, ap length (own c.before.before), c.requires.v_in_bounds);
     }
 
 pub returns : goal.returns

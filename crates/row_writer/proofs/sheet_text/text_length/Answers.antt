@@ -1,5 +1,5 @@
 use mathlib.Core.Path.{◌≡◌, refl, sym, ap, ◌∙◌}
-use Prim.Native.Nat.{ℕ, ◌+◌, ◌-◌, ◌*◌, ◌≤◌, ◌<◌}
+use Prim.Native.Nat.{ℕ, ◌+◌, ◌≤◌, ◌<◌}
 use native.Mathlib.Omega.{arith}
 use lib.ListN.{length}
 use borrow.Author.Rules.{rules}
@@ -7,7 +7,6 @@ use Rattle.sheet.specs.Below.{sum_below}
 use Rattle.sheet.specs.Sheet.{node_count, count, parts_of}
 use Rattle.text_rows.specs.Written.{first_of, node_rows}
 use Rattle.text_rows.proofs.HasRows.{start-below}
-use Rattle.row_writer.specs.Room.{row_most}
 use Rattle.row_writer.proofs.Accepted.{links-are, nodes-are, first_next, first-most}
 use Rattle.row_writer.proofs.Measured.{length-text, sum_more}
 use Rattle.row_writer.proofs.sheet_text.text_length.Goals as goal
@@ -27,34 +26,33 @@ loop-v-init c = (search rules, refl, refl, search rules)
 
 -- a node of the sheet
 node : (c : In-loop-v) → c.loop-v.v < node_count (parts_of c.args.sheet.now)
-node c = let s = c.before.before.before.before in omega (arith, c.loop-v-test.true, nodes-are s.args.sheet.now s.args.t s.requires.t_value)
+node c = omega (arith, c.loop-v-test.true, nodes-are c.args.sheet.now c.args.t c.requires.t_value)
 
 pub node_length-size-requires : goal.node_length-size-requires
 node_length-size-requires c =
-    let s = c.before.before.before.before.before in record {
-      sheet_value = s.requires.sheet_value;
-      links_value = links-are s.args.sheet.now s.args.t s.requires.t_value;
+    record {
+      sheet_value = c.requires.sheet_value;
+      links_value = links-are c.args.sheet.now c.args.t c.requires.t_value;
       v_bound = node c.before;
       first_value = c.loop-v.invariant.1;
     }
 
 -- the first link of the node after, and how long the rows up to it are
-first-most-of : (c : After-node_length-size) → let s = c.before.before.before.before.before in let v = c.loop-v.v in
-    first_of (parts_of s.args.sheet.now) v + count (parts_of s.args.sheet.now) v ≤ s.args.t.links
+first-most-of : (c : After-node_length-size) → let v = c.loop-v.v in
+    first_of (parts_of c.args.sheet.now) v + count (parts_of c.args.sheet.now) v ≤ c.args.t.links
 first-most-of c =
-    let s = c.before.before.before.before.before in
-    let bytes = s.args.sheet.now in
+    let bytes = c.args.sheet.now in
     let v = c.loop-v.v in
-    omega (arith, first_next bytes v, first-most bytes s.requires.sheet_value (v + 1) (omega (arith, node c.before)), links-are bytes s.args.t s.requires.t_value)
+    omega (arith, first_next bytes v, first-most bytes c.requires.sheet_value (v + 1) (omega (arith, node c.before)), links-are bytes c.args.t c.requires.t_value)
 
 pub overflow_add-size : goal.overflow_add-size
 overflow_add-size c = omega (arith, c.loop-v.invariant.3, c.node_length-size.ensures.upper_bound, first-most-of c.before)
 
 pub link_count-first-requires : goal.link_count-first-requires
 link_count-first-requires c =
-    let s = c.before.before.before.before.before.before in record {
-      sheet_value = s.requires.sheet_value;
-      links_value = links-are s.args.sheet.now s.args.t s.requires.t_value;
+    record {
+      sheet_value = c.requires.sheet_value;
+      links_value = links-are c.args.sheet.now c.args.t c.requires.t_value;
       v_bound = node c.before.before;
     }
 
@@ -69,14 +67,13 @@ loop-v-preserved c =
     let rows = c.node_length-size.ensures in (
       search rules,
       (λ i. turn.invariant.1 i + c.link_count-first.ensures i) ∙ sym next,
-      (λ i. turn.invariant.2 i + rows.0 i) ∙ sym (sum_more (λ u. length (node_rows (parts_of bytes) u)) turn.v),
-      omega (arith, next, turn.invariant.3, rows.1),
+      (λ i. turn.invariant.2 i + rows.value i) ∙ sym (sum_more (λ u. length (node_rows (parts_of bytes) u)) turn.v),
+      omega (arith, next, turn.invariant.3, rows.upper_bound),
     )
 
 pub returns : goal.returns
 returns c =
-    let s = c.before.before.before.before.before in
-    let p = parts_of s.args.sheet.now in
+    let p = parts_of c.args.sheet.now in
     let turn = c.loop-v in
-    let all : turn.v ≡ node_count p = omega (arith, turn.invariant.0, c.loop-v-test.false, nodes-are s.args.sheet.now s.args.t s.requires.t_value) in
-    turn.invariant.2 ∙ ap (λ (k : ℕ). sum_below k (λ u. length (node_rows p u))) all ∙ sym (length-text p (start-below (parts_of s.args.sheet.now) s.requires.sheet_value_2))
+    let all : turn.v ≡ node_count p = omega (arith, turn.invariant.0, c.loop-v-test.false, nodes-are c.args.sheet.now c.args.t c.requires.t_value) in
+    turn.invariant.2 ∙ ap (λ (k : ℕ). sum_below k (λ u. length (node_rows p u))) all ∙ sym (length-text p (start-below (parts_of c.args.sheet.now) c.requires.sheet_value_2))

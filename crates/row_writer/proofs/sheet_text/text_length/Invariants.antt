@@ -1,15 +1,10 @@
-use mathlib.Core.Path.{◌≡◌, refl, sym, ap, ◌∙◌}
-use Prim.Native.Nat.{ℕ, ◌+◌, ◌-◌, ◌*◌, ◌≤◌, ◌<◌}
-use native.Mathlib.Omega.{arith}
+use mathlib.Core.Path.{◌≡◌}
+use Prim.Native.Nat.{◌+◌, ◌-◌, ◌*◌, ◌≤◌}
 use lib.ListN.{length}
-use borrow.Author.Rules.{rules}
 use Rattle.sheet.specs.Below.{sum_below}
-use Rattle.sheet.specs.Sheet.{node_count, count, parts_of}
+use Rattle.sheet.specs.Sheet.{parts_of}
 use Rattle.text_rows.specs.Written.{first_of, node_rows}
-use Rattle.text_rows.proofs.HasRows.{start-below}
 use Rattle.row_writer.specs.Room.{row_most}
-use Rattle.row_writer.proofs.Accepted.{links-are, nodes-are, first_next, first-most}
-use Rattle.row_writer.proofs.Measured.{length-text, sum_more}
 use Rattle.row_writer.proofs.sheet_text.text_length.Given as goal
 
 abbrev pub invariant-loop-v : goal.invariant-loop-v

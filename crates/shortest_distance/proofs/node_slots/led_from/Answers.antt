@@ -1,5 +1,4 @@
 use mathlib.Core.Path.{◌≡◌, sym, ap, ◌∙◌}
-use mathlib.Core.Logic.{⊎_elim}
 use mathlib.Core.Bool.{Bool, cond}
 use Prim.Native.Nat.{ℕ, ◌+◌, ◌-◌, ◌≤◌, ◌<◌}
 use native.Mathlib.Omega.{arith}
@@ -11,6 +10,7 @@ use Rattle.machine.proofs.SheetFields.{sheet-fields}
 use Rattle.shortest_distance.specs.NodeSlots.{led_from}
 use Rattle.shortest_distance.proofs.Lengths.{led-from-next}
 use Rattle.shortest_distance.proofs.node_slots.led_from.Goals as goal
+use Rattle.shortest_distance.proofs.node_slots.led_from.Goals.{then-top-next, else-top-next}
 
 pub loop-i-init : goal.loop-i-init
 unfolding led_from
@@ -37,7 +37,7 @@ loop-i-preserved c =
     let turn = c.loop-i in
     let read = c.word-next in
     let kept : Bool → ℕ = λ b. cond b (read.result + 1) turn.top in
-    let top : c.if-top-next.top ≡ kept (leb turn.top read.result) = ⊎_elim (λ w. w.1 ∙ ap kept (sym (le-leb _ _ w.0.taken))) (λ w. w.1 ∙ ap kept (sym (lt-leb _ _ w.0.left))) c.if-top-next.branch in (
+    let top : c.if-top-next.top ≡ kept (leb turn.top read.result) = elim c.if-top-next.branch [ then-top-next w ↦ w.top-is ∙ ap kept (sym (le-leb _ _ w.if-top-next.true)) | else-top-next w ↦ w.top-is ∙ ap kept (sym (lt-leb _ _ w.if-top-next.false)) ] in (
       search rules,
       top ∙ (λ j. cond (leb (turn.invariant.1 j) (read.ensures j)) (read.ensures j + 1) (turn.invariant.1 j)) ∙ sym (led-from-next args.sheet.now args.first turn.i args.height),
     )

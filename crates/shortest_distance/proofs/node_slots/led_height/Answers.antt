@@ -1,5 +1,4 @@
 use mathlib.Core.Path.{◌≡◌, sym, ap, ◌∙◌}
-use mathlib.Core.Logic.{⊎_elim}
 use mathlib.Core.Bool.{Bool, cond}
 use Prim.Native.Nat.{ℕ, suc, ◌+◌, ◌-◌, ◌≤◌}
 use native.Mathlib.Numerals.{add-one}
@@ -13,6 +12,7 @@ use Rattle.distance.specs.Held.{reached_in}
 use Rattle.shortest_distance.specs.NodeSlots.{distance_at, led_from, led_height}
 use Rattle.shortest_distance.proofs.Lengths.{led-height-next}
 use Rattle.shortest_distance.proofs.node_slots.led_height.Goals as goal
+use Rattle.shortest_distance.proofs.node_slots.led_height.Goals.{then-is_reached, else-is_reached}
 use Rattle.shortest_distance.proofs.node_slots.led_height.Lts
 use Rattle.shortest_distance.proofs.node_slots.led_height.Reads
 use Rattle.shortest_distance.proofs.node_slots.led_height.Tie
@@ -51,7 +51,7 @@ loop-v-preserved c =
     let read = c.word-count in
     let told = c.is_reached.ensures ∙ ap reached_in c.distance_at-own.ensures in
     let kept : Bool → ℕ = λ b. cond b (led_from bytes turn.first read.result turn.top) turn.top in
-    let top : c.if-is_reached.top ≡ kept (reached_in (distance_at args.work.now turn.v)) = ⊎_elim (λ w. w.2 ∙ w.1.ensures ∙ ap kept (sym w.0.taken ∙ told)) (λ w. w.1 ∙ ap kept (sym w.0.left ∙ told)) c.if-is_reached.branch in (
+    let top : c.if-is_reached.top ≡ kept (reached_in (distance_at args.work.now turn.v)) = elim c.if-is_reached.branch [ then-is_reached w ↦ w.top-is ∙ w.led_from-top.ensures ∙ ap kept (sym w.if-is_reached.true ∙ told) | else-is_reached w ↦ w.top-is ∙ ap kept (sym w.if-is_reached.false ∙ told) ] in (
       search rules,
       omega (arith, turn.invariant.1, read.ensures, next-first bytes args.t.links turn.v, ap (first_link bytes args.t.links) (add-one turn.v)),
       top

@@ -1,5 +1,4 @@
 use mathlib.Core.Path.{◌≡◌, refl, sym, ap, ◌∙◌, subst}
-use mathlib.Core.Logic.{⊎_elim}
 use mathlib.Core.Bool.{Bool, true, false, cond}
 use Prim.Native.Nat.{ℕ, ◌+◌, ◌-◌, ◌≤◌, ◌<◌}
 use native.Mathlib.Omega.{arith}
@@ -19,6 +18,7 @@ use Rattle.shortest_distance.specs.Sound.{Sound}
 use Rattle.shortest_distance.proofs.Kept.{link-again, front_below, head-taken, head-links, head-made, heads-none, heads-end, heads-again}
 use borrow.Author.Rules.{rules}
 use Rattle.shortest_distance.proofs.relax.relax_heads.Goals as goal
+use Rattle.shortest_distance.proofs.relax.relax_heads.Goals.{then-relax_link, else-relax_link}
 use Rattle.shortest_distance.proofs.relax.relax_heads.Lts
 use Rattle.shortest_distance.proofs.relax.relax_heads.Reads
 use Rattle.shortest_distance.proofs.relax.relax_heads.Tie
@@ -56,11 +56,11 @@ among c =
     omega (arith, head-links args.sheet.now args.links args.nodes (record { work = turn.work; queue = turn.queue }) turn.invariant.2 (filled c.before.before), c.word-count.ensures)
 
 next : (c : After-link_at-k) → c.link_at-k.result.nextstate < c.args.nodes
-next c = subst (λ (k : Link). k.nextstate < c.args.nodes) (sym c.link_at-k.ensures) (c.loop-i.invariant.2.inside _ (omega (arith, among c.before.before.before.before.before.before.before.before.before.before)))
+next c = subst (λ (k : Link). k.nextstate < c.args.nodes) (sym c.link_at-k.ensures) (c.loop-i.invariant.2.inside _ (omega (arith, among c.before.before.before.before.before.before.before.before)))
 
 -- front's flag cleared and front moved: the queue without its head
 taken : (c : After-dequeue_cleared-queue) → c.dequeue_cleared-queue.result ≡ dequeued c.loop-turn.queue
-taken c = c.dequeue_cleared-queue.ensures ∙ cleared-dequeued c.loop-turn.queue (filled c.before.before.before.before.before.before.before.before)
+taken c = c.dequeue_cleared-queue.ensures ∙ cleared-dequeued c.loop-turn.queue (filled c.before.before.before.before.before.before.before)
 
 pub loop-turn-init : goal.loop-turn-init
 loop-turn-init c =
@@ -107,24 +107,24 @@ pub word-count-requires : goal.word-count-requires
 word-count-requires c = omega (arith, node c.before.before)
 
 pub overflow_mul-v-in-loop-turn : goal.overflow_mul-v-in-loop-turn
-overflow_mul-v-in-loop-turn c = omega (arith, node c.before.before.before.before)
+overflow_mul-v-in-loop-turn c = omega (arith, node c.before.before.before)
 
 pub distance_at-requires : goal.distance_at-requires
-distance_at-requires c = omega (arith, node c.before.before.before.before)
+distance_at-requires c = omega (arith, node c.before.before.before)
 
 pub bounds-queue-v : goal.bounds-queue-v
-bounds-queue-v c = omega (arith, node c.before.before.before.before.before.before, c.loop-turn.invariant.2.few)
+bounds-queue-v c = omega (arith, node c.before.before.before.before.before, c.loop-turn.invariant.2.few)
 
 pub next_front-next-requires : goal.next_front-next-requires
 next_front-next-requires c =
     let turn = c.loop-turn in
-    filled-bound turn.queue.front _ turn.queue.back c.in-At.is (valid-ends turn.queue turn.invariant.2.valid) (filled c.before.before.before.before.before.before.before)
+    filled-bound turn.queue.front _ turn.queue.back c.in-At.is (valid-ends turn.queue turn.invariant.2.valid) (filled c.before.before.before.before.before.before)
 
 pub dequeue_cleared-queue-requires : goal.dequeue_cleared-queue-requires
 dequeue_cleared-queue-requires c =
     let q = c.loop-turn.queue in
     let sound = c.loop-turn.invariant.2 in (
-      get_or-set_same q.flags q.front false false (omega (arith, node c.before.before.before.before.before.before.before.before, sound.few, sound.full)),
+      get_or-set_same q.flags q.front false false (omega (arith, node c.before.before.before.before.before.before.before, sound.few, sound.full)),
       c.next_front-next.ensures ∙ ap (λ (b : Back). next_front q.front b (set q.flags q.front false)) (sym c.in-At.is),
     )
 
@@ -134,17 +134,17 @@ loop-i-init c =
     let args = c.args in
     let turn = c.loop-turn in
     let bytes = args.sheet.now in
-    let sound = head-taken bytes args.links args.nodes (record { work = turn.work; queue = turn.queue }) turn.invariant.2 (filled c.before.before.before.before.before.before.before.before.before) in
+    let sound = head-taken bytes args.links args.nodes (record { work = turn.work; queue = turn.queue }) turn.invariant.2 (filled c.before.before.before.before.before.before.before.before) in
     (search rules, refl, subst (Sound bytes args.links args.nodes turn.work) (sym (taken c.before)) sound, refl)
 
 pub overflow_add-l : goal.overflow_add-l
-overflow_add-l c = omega (arith, among c.before.before.before.before.before.before.before.before.before.before)
+overflow_add-l c = omega (arith, among c.before.before.before.before.before.before.before.before)
 
 pub overflow_cast-l : goal.overflow_cast-l
-overflow_cast-l c = omega (arith, among c.before.before.before.before.before.before.before.before.before.before)
+overflow_cast-l c = omega (arith, among c.before.before.before.before.before.before.before.before)
 
 pub link_at-k-requires : goal.link_at-k-requires
-link_at-k-requires c = omega (arith, among c.before.before.before.before.before.before.before.before.before.before, c.loop-i.invariant.2.laid_out)
+link_at-k-requires c = omega (arith, among c.before.before.before.before.before.before.before.before, c.loop-i.invariant.2.laid_out)
 
 pub relax_link-requires : goal.relax_link-requires
 relax_link-requires c = omega (arith, next c.before.before, c.loop-i.invariant.2.slots)
@@ -164,8 +164,8 @@ loop-i-preserved c =
     let distance = c.as_weight-d.result in
     let old : State = record { work = turn.work; queue = turn.queue } in
     let kept : Bool → Queue = λ b. cond b (enqueued turn.queue read.result.nextstate) turn.queue in
-    let queue : c.if-relax_link.queue ≡ kept (reaches (distance_at turn.work read.result.nextstate) distance read.result.weight) = ⊎_elim (λ w. w.2 ∙ w.1.ensures ∙ flagged-enqueued turn.queue read.result.nextstate ∙ ap kept (sym w.0.taken ∙ offer.ensures.value)) (λ w. w.1 ∙ ap kept (sym w.0.left ∙ offer.ensures.value)) c.if-relax_link.branch in
-    let next = link-again args.sheet.now args.links args.nodes _ _ distance turn.i _ old (omega (arith, among c.before.before.before.before.before.before.before.before.before.before.before.before.before.before.before.before)) turn.invariant.2 turn.invariant.3 read.result read.ensures _ (λ j. record { work = offer.ensures.work_new j; queue = queue j }) in
+    let queue : c.if-relax_link.queue ≡ kept (reaches (distance_at turn.work read.result.nextstate) distance read.result.weight) = elim c.if-relax_link.branch [ then-relax_link w ↦ w.queue-is ∙ w.enqueue_flagged-queue.ensures ∙ flagged-enqueued turn.queue read.result.nextstate ∙ ap kept (sym w.if-relax_link.true ∙ offer.ensures.value) | else-relax_link w ↦ w.queue-is ∙ ap kept (sym w.if-relax_link.false ∙ offer.ensures.value) ] in
+    let next = link-again args.sheet.now args.links args.nodes _ _ distance turn.i _ old (omega (arith, among c.before.before.before.before.before.before.before.before.before.before.before.before.before.before)) turn.invariant.2 turn.invariant.3 read.result read.ensures _ (λ j. record { work = offer.ensures.work_new j; queue = queue j }) in
     (search rules, offer.auto.work ∙ turn.invariant.1, next.0, next.1)
 
 pub loop-turn-preserved : goal.loop-turn-preserved
@@ -178,7 +178,7 @@ loop-turn-preserved c =
     let last : State = record { work = inner.work; queue = inner.queue } in
     let all : inner.i ≡ c.word-count.result = omega arith in
     let made = head-made bytes args.links old _ _ _ (c.as_weight-d.ensures ∙ ap weight_in c.distance_at.ensures) (all ∙ c.word-count.ensures) (taken c.before.before.before) last inner.invariant.3 in
-    let next = heads-again bytes args.links old args.nodes turn.turn _ last c.loop-turn-test.true (filled c.before.before.before.before.before.before.before.before.before.before.before) turn.invariant.2 made turn.invariant.3 in
+    let next = heads-again bytes args.links old args.nodes turn.turn _ last c.loop-turn-test.true (filled c.before.before.before.before.before.before.before.before.before.before) turn.invariant.2 made turn.invariant.3 in
     (search rules, inner.invariant.1 ∙ turn.invariant.1, next.0, next.1)
 
 pub returns : goal.returns

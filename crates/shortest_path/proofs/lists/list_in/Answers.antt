@@ -36,6 +36,6 @@ returns-then-n-eq1 c =
     let m = machine_of (parts_of args.sheet.now) in
     let one : args.n ≡ 1 = c.if-n-eq1.true in
     let x = c.single_shortest_path.ensures in record {
-      value = x.0 ∙ ap (λ (k : ℕ). listed_in (result_for m k) (length args.res.now)) (sym one);
-      res_after = x.1.0 ∙ ap (λ (k : ℕ). listed_over (result_for m k) args.res.now) (sym one);
+      value = x.value ∙ ap (λ (k : ℕ). listed_in (result_for m k) (length args.res.now)) (sym one);
+      res_after = x.res_after ∙ ap (λ (k : ℕ). listed_over (result_for m k) args.res.now) (sym one);
     }

@@ -94,7 +94,7 @@ reverse-requires c = let root = c.before.before.before.before.before.before.befo
     }
 
 pub distance_at-requires : goal.distance_at-requires
-distance_at-requires c = let f = few c.before.before.before.before.before.before.before.before.before.before.before.before.before in omega (arith, f.0, f.1, f.2, f.3, f.4, c.reverse.auto.part, c.measure.auto.part)
+distance_at-requires c = let f = few c.before.before.before.before.before.before.before.before.before.before.before.before in omega (arith, f.0, f.1, f.2, f.3, f.4, c.reverse.auto.part, c.measure.auto.part)
 
 pub returns-then-not-is_reached : goal.returns-then-not-is_reached
 returns-then-not-is_reached c =
@@ -102,7 +102,7 @@ returns-then-not-is_reached c =
     let args = root.args in
     let old = c.measure.new.part in
     let part = c.reverse.new.part in
-    let e = none-there args.sheet.now (λ i. omega (arith, c.type_inv.sheet i)) root.requires.sheet_value.0 args.t root.requires.sheet_value.1 args.finals root.requires.sheet_value.2 args.n root.requires.le_n.0 root.requires.le_n.1 old part (omega (arith, root.requires.le_n.2, c.measure.auto.part)) (turned c.before.before.before.before.before.before.before.before.before.before.before) (unreached c.before.before.before.before.before) in record {
+    let e = none-there args.sheet.now (λ i. omega (arith, c.type_inv.sheet i)) root.requires.sheet_value.0 args.t root.requires.sheet_value.1 args.finals root.requires.sheet_value.2 args.n root.requires.le_n.0 root.requires.le_n.1 old part (omega (arith, root.requires.le_n.2, c.measure.auto.part)) (turned c.before.before.before.before.before.before.before.before.before.before) (unreached c.before.before.before.before.before) in record {
       value = c.put_none.ensures.value ∙ ap (λ r. listed_in r (length args.res.now)) (sym e);
       res_after = c.put_none.ensures.res_after ∙ ap (λ r. listed_over r args.res.now) (sym e);
     }
@@ -113,11 +113,11 @@ overflow_add-end c =
     let args = root.args in
     let old = c.measure.new.part in
     let part = c.reverse.new.part in
-    let start = start_is args.sheet.now (λ i. omega (arith, c.type_inv.sheet i)) root.requires.sheet_value.0 args.t root.requires.sheet_value.1 args.finals root.requires.sheet_value.2 args.n root.requires.le_n.0 root.requires.le_n.1 old part (omega (arith, root.requires.le_n.2, c.measure.auto.part)) (turned c.before.before.before.before.before.before.before.before) (reached c.before.before) in
+    let start = start_is args.sheet.now (λ i. omega (arith, c.type_inv.sheet i)) root.requires.sheet_value.0 args.t root.requires.sheet_value.1 args.finals root.requires.sheet_value.2 args.n root.requires.le_n.0 root.requires.le_n.1 old part (omega (arith, root.requires.le_n.2, c.measure.auto.part)) (turned c.before.before.before.before.before.before.before) (reached c.before.before) in
     omega (arith, start.1)
 
 pub overflow_add-links : goal.overflow_add-links
-overflow_add-links c = let f = few c.before.before.before.before.before.before.before.before.before.before.before.before.before.before.before.before.before.before in omega (arith, f.0, f.1, f.2, f.3, f.4)
+overflow_add-links c = let f = few c.before.before.before.before.before.before.before.before.before.before.before.before.before.before.before.before.before in omega (arith, f.0, f.1, f.2, f.3, f.4)
 
 pub n_shortest_path-c-requires : goal.n_shortest_path-c-requires
 n_shortest_path-c-requires c =
@@ -126,7 +126,7 @@ n_shortest_path-c-requires c =
     let old = c.measure.new.part in
     let part = c.reverse.new.part in
     let there = reached c.before.before.before in
-    (begins args.sheet.now (λ i. omega (arith, c.type_inv.sheet i)) root.requires.sheet_value.0 args.t root.requires.sheet_value.1 args.finals root.requires.sheet_value.2 args.n root.requires.le_n.0 root.requires.le_n.1 old part (omega (arith, root.requires.le_n.2, c.measure.auto.part)) (turned c.before.before.before.before.before.before.before.before.before) there, going args.sheet.now (λ i. omega (arith, c.type_inv.sheet i)) root.requires.sheet_value.0 args.t root.requires.sheet_value.1 args.finals root.requires.sheet_value.2 args.n root.requires.le_n.0 root.requires.le_n.1 old part (omega (arith, root.requires.le_n.2, c.measure.auto.part)) (turned c.before.before.before.before.before.before.before.before.before) there)
+    (begins args.sheet.now (λ i. omega (arith, c.type_inv.sheet i)) root.requires.sheet_value.0 args.t root.requires.sheet_value.1 args.finals root.requires.sheet_value.2 args.n root.requires.le_n.0 root.requires.le_n.1 old part (omega (arith, root.requires.le_n.2, c.measure.auto.part)) (turned c.before.before.before.before.before.before.before.before) there, going args.sheet.now (λ i. omega (arith, c.type_inv.sheet i)) root.requires.sheet_value.0 args.t root.requires.sheet_value.1 args.finals root.requires.sheet_value.2 args.n root.requires.le_n.0 root.requires.le_n.1 old part (omega (arith, root.requires.le_n.2, c.measure.auto.part)) (turned c.before.before.before.before.before.before.before.before) there)
 
 pub write_list-requires : goal.write_list-requires
 write_list-requires c =
@@ -139,7 +139,7 @@ write_list-requires c =
     let made = c.n_shortest_path-c in
     let whole : ◌≡◌ {A = Words} (record { part = made.new.part; counts = made.result }) ended = λ i. record { part = made.ensures.part_after i; counts = made.ensures.value i } in
     subst (λ (w : Words). Listable args.sheet.now args.t.links w.part w.counts.entries w.counts.listed) (sym whole)
-    (listed-done args.sheet.now (λ i. omega (arith, c.type_inv.sheet i)) root.requires.sheet_value.0 args.t root.requires.sheet_value.1 args.finals root.requires.sheet_value.2 args.n root.requires.le_n.0 root.requires.le_n.1 old part (omega (arith, root.requires.le_n.2, c.measure.auto.part)) (turned c.before.before.before.before.before.before.before.before.before.before.before.before.before.before.before.before) (reached c.before.before.before.before.before.before.before.before.before.before))
+    (listed-done args.sheet.now (λ i. omega (arith, c.type_inv.sheet i)) root.requires.sheet_value.0 args.t root.requires.sheet_value.1 args.finals root.requires.sheet_value.2 args.n root.requires.le_n.0 root.requires.le_n.1 old part (omega (arith, root.requires.le_n.2, c.measure.auto.part)) (turned c.before.before.before.before.before.before.before.before.before.before.before.before.before.before.before) (reached c.before.before.before.before.before.before.before.before.before.before))
 
 pub shape_of-part : goal.shape_of-part
 shape_of-part c = c.write_list.auto.part ∙ c.n_shortest_path-c.auto.part ∙ c.reverse.auto.part ∙ c.measure.auto.part
@@ -157,7 +157,7 @@ returns c =
     let there = reached c.before.before.before.before.before.before.before.before.before.before.before.before.before.before.before in
     let long = length args.res.now in record {
       value = c.write_list.ensures.value ∙ ap (λ (w : Words). list_answer w.counts.listed (kept_count w.counts.entries w.counts.listed w.part) w.counts.taken long) whole
-          ∙ answers args.sheet.now (λ i. omega (arith, c.type_inv.sheet i)) root.requires.sheet_value.0 args.t root.requires.sheet_value.1 args.finals root.requires.sheet_value.2 args.n root.requires.le_n.0 root.requires.le_n.1 old part (omega (arith, root.requires.le_n.2, c.measure.auto.part)) (turned c.before.before.before.before.before.before.before.before.before.before.before.before.before.before.before.before.before.before.before.before.before) there long;
+          ∙ answers args.sheet.now (λ i. omega (arith, c.type_inv.sheet i)) root.requires.sheet_value.0 args.t root.requires.sheet_value.1 args.finals root.requires.sheet_value.2 args.n root.requires.le_n.0 root.requires.le_n.1 old part (omega (arith, root.requires.le_n.2, c.measure.auto.part)) (turned c.before.before.before.before.before.before.before.before.before.before.before.before.before.before.before.before.before.before.before.before) there long;
       res_after = c.write_list.ensures.res_after ∙ ap (λ (w : Words). list_after args.sheet.now args.t.links w.part w.counts.entries w.counts.listed args.res.now) whole
-          ∙ leaves args.sheet.now (λ i. omega (arith, c.type_inv.sheet i)) root.requires.sheet_value.0 args.t root.requires.sheet_value.1 args.finals root.requires.sheet_value.2 args.n root.requires.le_n.0 root.requires.le_n.1 old part (omega (arith, root.requires.le_n.2, c.measure.auto.part)) (turned c.before.before.before.before.before.before.before.before.before.before.before.before.before.before.before.before.before.before.before.before.before) there args.res.now;
+          ∙ leaves args.sheet.now (λ i. omega (arith, c.type_inv.sheet i)) root.requires.sheet_value.0 args.t root.requires.sheet_value.1 args.finals root.requires.sheet_value.2 args.n root.requires.le_n.0 root.requires.le_n.1 old part (omega (arith, root.requires.le_n.2, c.measure.auto.part)) (turned c.before.before.before.before.before.before.before.before.before.before.before.before.before.before.before.before.before.before.before.before) there args.res.now;
     }
