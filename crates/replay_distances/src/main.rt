@@ -4,6 +4,7 @@
 // area that must be left zero, the bytes of the sheet, those bytes, the bytes of the answer, and what
 // the case is. Prints the lines that differ, and how many there were.
 #![tactic(auto)]
+
 use distance::WRITTEN;
 use shortest_distance::Distances;
 use std::io;

@@ -2,6 +2,7 @@
 // tools/listing_cases.py. A line has, with a space between: the bytes read, the text that must be
 // printed, and what the case is. Prints the lines that differ, and how many there were.
 #![tactic(auto)]
+
 use std::io;
 use stored_cases::areas::RESULT_MARK;
 use stored_cases::bytes::bytes_of;

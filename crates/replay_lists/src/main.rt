@@ -5,6 +5,7 @@
 // the bytes of the answer, and what the case is. Prints the lines that differ, and how many there
 // were.
 #![tactic(auto)]
+
 ghost use Rattle.std.specs.Prelude.{◌≡◌, ◌+◌, ◌*◌};
 
 use list_answer::Listed;

@@ -4,6 +4,7 @@
 // that the conversion must answer, the text or sheet, the bytes of the answer, and what the case is.
 // Prints the lines that differ, and how many there were.
 #![tactic(auto)]
+
 use rows::converted::Converted;
 use sheet::words::word;
 use std::io;
