@@ -1,5 +1,6 @@
 // Distances read back from the result of the call for distances.
 #![tactic(auto)]
+
 ghost use Rattle.std.specs.Prelude.{◌≡◌};
 ghost use Rattle.read_distance.specs.Told.{pattern_tells, words_tell, distance_told};
 ghost use Rattle.read_distance.specs.Promise.{ReadBack};

@@ -9,7 +9,7 @@ use lib.Dec.{ltb, eqb}
 use lib.ListN.{length, drop}
 use borrow.Author.Tests.{ltb-true, lt-ltb, le-ltb}
 use Rattle.text_rows.specs.Fields.{and_then}
-use Rattle.text_rows.specs.Rows.{Row, read_rows, finals_once, weights_pass, highest}
+use Rattle.text_rows.specs.Rows.{Row, read_rows, finals_once, weights_pass}
 use Rattle.text_rows.specs.Convert.{links_in, nodes_in, length_of, fields_hold, number_by, rows_number, or_no_rows, rows_in, sheet_of_rows, sheet_over}
 use Rattle.rows.specs.Answers.{converted_by, sheet_answer}
 use Rattle.row_reader.specs.Places.{rows_left}
@@ -19,7 +19,6 @@ use Rattle.rows.specs.Judging.{judged_by, judged}
 use Rattle.rows.specs.declared.converted.Converted.TheVariants as Converted
 use Rattle.row_reader.specs.declared.survey.Survey.{Survey}
 use Rattle.row_reader.specs.declared.survey.Surveyed.{Surveyed}
-use Rattle.row_reader.specs.declared.survey.Surveyed.TheVariants as Surveyed
 use Rattle.rows.specs.declared.to_sheet.Judged.TheVariants.{Rows, Refused}
 use Rattle.row_reader.proofs.Places.{rows-begin}
 

@@ -5,11 +5,9 @@ use Rattle.std.specs.Float.Ieee.{to_bits}
 use Rattle.sheet.specs.declared.tr.Link.{Link}
 use Rattle.sheet.specs.declared.tr.Node.{Node}
 use Rattle.sheet.specs.declared.reader.Step.{Step}
-use Rattle.sheet.specs.declared.reader.Step.TheVariants as Step
 use Rattle.sheet.specs.Machine.{Machine, link_fields, leaving, final_fields}
 use Rattle.machine.specs.Readings.{link, final}
 use Rattle.sheet_fields.specs.declared.nodes.NodeStep.{NodeStep}
-use Rattle.sheet_fields.specs.declared.nodes.NodeStep.TheVariants as NodeStep
 
 -- the fields of a link that was read: labels, weight bits, next node
 abbrev pub link_words : Link → List ℕ

@@ -3,7 +3,6 @@ use Rattle.std.specs.Prelude.{ℕ, ◌+◌, ◌*◌, Bool, true, false, ◌&&◌
 use Rattle.sheet.specs.Sheet.{stated_links, stated_nodes, trailer_length}
 use Rattle.sheet.specs.Records.{node_at}
 use Rattle.sheet_fields.specs.declared.nodes.NodeStep.{NodeStep}
-use Rattle.sheet_fields.specs.declared.nodes.NodeStep.TheVariants as NodeStep
 
 -- whether there is a node v: the trailer states it, and the links and nodes that it states lie before the trailer
 abbrev pub has_node : List ℕ → ℕ → Bool

@@ -12,7 +12,7 @@ use lib.IntN.{ℤ}
 use lib.ListN.{length, drop, get_or}
 use borrow.Author.Tests.{eqb-true}
 use Rattle.tropical_weight.specs.Tropical.{Tropical, fin, inf, ◌≼◌}
-use Rattle.sheet.specs.Words.{word, words, bytes_of_all}
+use Rattle.sheet.specs.Words.{word, bytes_of_all}
 use Rattle.sheet.specs.Sheet.{parts_of}
 use Rattle.sheet.specs.Machine.{Machine, machine}
 use Rattle.sheet.proofs.Apart.{or-either, or_left, or_right}

@@ -3,7 +3,6 @@
 use Rattle.std.specs.Prelude.{ℕ, ◌*◌, Bool, true, false, cond, List, ◌++◌, ltb, length, drop}
 use Rattle.sheet.specs.Words.{bytes_of_all}
 use Rattle.shortest_distance.specs.declared.Distances.{Distances}
-use Rattle.shortest_distance.specs.declared.Distances.TheVariants as Distances
 
 abbrev pub handed_by : Bool → ℕ → Distances
 handed_by true count = Distances.Refused 21

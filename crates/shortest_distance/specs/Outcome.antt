@@ -8,7 +8,6 @@ use Rattle.machine.specs.Distance.{distances}
 use Rattle.machine.specs.Input.{input_number}
 use Rattle.distance.specs.Written.{written}
 use Rattle.shortest_distance.specs.declared.Distances.{Distances}
-use Rattle.shortest_distance.specs.declared.Distances.TheVariants as Distances
 use Rattle.slots.specs.Slots.{cleared}
 
 -- one distance per node up to the highest reached, or led to from a reached one, two words each

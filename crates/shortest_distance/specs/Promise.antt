@@ -7,7 +7,6 @@ use Rattle.sheet.specs.Words.{word}
 use Rattle.sheet.specs.Machine.{Machine, machine, bits_of}
 use Rattle.machine.specs.Readings.{link, IsRun, run_cost}
 use Rattle.shortest_distance.specs.declared.Distances.{Distances}
-use Rattle.shortest_distance.specs.declared.Distances.TheVariants as Distances
 
 -- a run of links from the start to v, at a finite cost
 pub record RunTo (m : Machine) (v : ℕ) : Type 0 where

@@ -1,6 +1,7 @@
 // Distances (shortest_distance.rs of rustfst), one per node: reached at the least sum of weights along
 // the runs from the start to it, or unreached.
 #![tactic(auto)]
+
 ghost use Rattle.std.specs.Prelude.{◌≡◌, ◌*◌, ◌≤◌, length};
 ghost use Rattle.sheet.specs.Records.{trailer_at};
 ghost use Rattle.machine.specs.Input.{input_number};

@@ -40,7 +40,7 @@ fn relax_link(k: Link, l: u32, v: u32, d: f32, work: &mut [u32]) -> bool
 // are. A flag is stored where the queue lies, and the queue then goes by value for its ends.
 pub fn relax_heads(sheet: &[u8], links: u32, nodes: u32, work: &mut [u32], q: Queue)
     requires { Sound sheet.now links nodes work.old q }
-    ensures { work.exit.now ≡ (relax_heads sheet.now links nodes (record { work = work.entry.now; queue = q })).work }
+    ensures { work.new ≡ (relax_heads sheet.now links nodes (record { work = work.old; queue = q })).work }
 {
     let mut queue = q;
     let mut turn = 0u32;

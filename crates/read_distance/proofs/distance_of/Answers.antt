@@ -1,6 +1,5 @@
 use mathlib.Core.Path.{◌∙◌}
 use Rattle.read_distance.proofs.Patterns.{mark-one, mark-other, bits_left, both_zero}
-use borrow.Author.Rules.{rules}
 use Rattle.read_distance.proofs.distance_of.Goals as goal
 
 pub returns-then-mark-eq1 : goal.returns-then-mark-eq1

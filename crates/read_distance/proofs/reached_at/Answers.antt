@@ -2,11 +2,11 @@ use mathlib.Core.Path.{sym, ap, ◌∙◌, subst}
 use Prim.Native.Nat.{ℕ, ◌<◌, ◌≤◌}
 use native.Mathlib.Omega.{arith}
 use lib.IntN.{ℤ}
-use lib.Ieee.{Float, binary32, of_bits, toBits}
+use lib.Ieee.{Float, binary32, of_bits, to_bits}
 use mir.Syntax.{w32}
 use mir.Val.{to_z, of_z}
 use mir.ValLaws.{to_z-of_z}
-use borrow.Author.Rules.{rules, sfits_of}
+use borrow.Author.Rules.{sfits_of}
 use Rattle.tropical_weight.specs.Limits.{unit, sum_limit}
 use Rattle.tropical_weight.specs.Single.{Costs}
 use Rattle.read_distance.proofs.Patterns.{pattern-told, too_many, other-pattern}
@@ -36,12 +36,12 @@ returns-then-magnitude-gt-SUM_LIMIT c =
 pub returns-then-to_bits-bits : goal.returns-then-to_bits-bits
 returns-then-to_bits-bits c =
     let bits = c.args.bits in
-    let pattern = c.to_bits.ensures ∙ ap (toBits binary32) c.from_units.ensures in
+    let pattern = c.to_bits.ensures ∙ ap (to_bits binary32) c.from_units.ensures in
     other-pattern bits (omega arith) (cost-of c.before.before.before.before.before) (is-cost c.before.before.before.before.before) (λ e. c.if-to_bits-bits.true (pattern ∙ e))
 
 pub returns : goal.returns
 returns c =
     let bits = c.args.bits in
-    let pattern = c.to_bits.ensures ∙ ap (toBits binary32) c.from_units.ensures in
+    let pattern = c.to_bits.ensures ∙ ap (to_bits binary32) c.from_units.ensures in
     let few = subst (λ (n : ℕ). n ≤ sum_limit) c.magnitude.ensures c.if-magnitude-gt-SUM_LIMIT.false in
     pattern-told bits (omega arith) (cost-of c.before.before.before.before.before) few (sym pattern ∙ c.if-to_bits-bits.false)

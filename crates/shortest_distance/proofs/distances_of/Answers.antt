@@ -1,7 +1,6 @@
 use mathlib.Core.Path.{◌∙◌}
 use native.Mathlib.Omega.{arith}
 use Rattle.shortest_distance.proofs.Outcomes.{height-low, few-slots, handed-over}
-use borrow.Author.Rules.{rules}
 use Rattle.shortest_distance.proofs.distances_of.Goals as goal
 
 pub returns-then-work-nodes : goal.returns-then-work-nodes

@@ -12,7 +12,6 @@ use Rattle.sheet.proofs.Bytes.{length-bytes_of_all}
 use Rattle.shortest_distance.specs.NodeSlots.{distance_words}
 use Rattle.shortest_distance.specs.Handed.{handed_by}
 use Rattle.shortest_distance.proofs.Areas.{length-words}
-use borrow.Author.Rules.{rules}
 use Rattle.shortest_distance.proofs.hand_over.Goals as goal
 
 words-length : (work : List ℕ) (n : ℕ) → length (bytes_of_all (distance_words work n)) ≡ 8 * n

@@ -10,7 +10,6 @@ use Rattle.distance.specs.Held.{held, with_distance}
 use Rattle.shortest_distance.specs.Sound.{Made}
 use Rattle.shortest_distance.proofs.Starts.{zero-cost}
 use Rattle.shortest_distance.proofs.Making.{prepares, start-low, sound-start, made-from, made-without}
-use borrow.Author.Rules.{rules}
 use Rattle.shortest_distance.proofs.make.Goals as goal
 use Rattle.shortest_distance.proofs.make.Lts
 use Rattle.shortest_distance.proofs.make.Reads

@@ -5,7 +5,6 @@ use Rattle.machine.specs.Input.{input_number}
 use Rattle.machine.proofs.Testing.{accepted-number, refused-number, input-most}
 use Rattle.shortest_distance.proofs.Outcomes.{outcome-input}
 use Rattle.shortest_distance.proofs.Promises.{promised-by}
-use borrow.Author.Rules.{rules}
 use Rattle.shortest_distance.proofs.shortest_distance.Goals as goal
 
 pub distances_of-requires : goal.distances_of-requires

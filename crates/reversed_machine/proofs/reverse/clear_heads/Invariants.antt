@@ -1,12 +1,7 @@
-use mathlib.Core.Path.{◌≡◌, sym, ap, ◌∙◌}
-use mathlib.Core.List.{List}
-use Prim.Native.Nat.{ℕ, ◌+◌, ◌-◌, ◌*◌, ◌≤◌}
-use native.Mathlib.Omega.{arith}
-use lib.ListN.{length, set, length-set}
-use borrow.Author.Rules.{rules}
-use Rattle.slots.specs.Slots.{nothing}
+use mathlib.Core.Path.{◌≡◌}
+use Prim.Native.Nat.{◌-◌, ◌≤◌}
+use lib.ListN.{length}
 use Rattle.reversed_machine.specs.ReverseWords.{heads_cleared}
-use Rattle.reversed_machine.proofs.Passing.{cleared-next}
 use Rattle.reversed_machine.proofs.reverse.clear_heads.Given as goal
 
 abbrev pub invariant-loop-q : goal.invariant-loop-q

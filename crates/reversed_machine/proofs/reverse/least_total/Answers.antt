@@ -1,6 +1,5 @@
-use mathlib.Core.Logic.{⊎_elim}
 use mathlib.Core.Path.{◌≡◌, sym, ap, ◌∙◌}
-use Prim.Native.Nat.{ℕ, ◌-◌, ◌≤◌}
+use Prim.Native.Nat.{ℕ}
 use native.Mathlib.Omega.{arith}
 use lib.Ieee.{binary32, of_bits}
 use borrow.Author.Rules.{rules}
@@ -8,6 +7,7 @@ use Rattle.distance.specs.Held.{weight_in, distance_from}
 use Rattle.reversed_machine.specs.ReverseWords.{least_total}
 use Rattle.reversed_machine.proofs.Passing.{total-plain, total-final}
 use Rattle.reversed_machine.proofs.reverse.least_total.Goals as goal
+use Rattle.reversed_machine.proofs.reverse.least_total.Goals.{then-word-ne0, else-word-ne0}
 
 pub loop-v-init : goal.loop-v-init
 unfolding least_total
@@ -21,10 +21,10 @@ loop-v-preserved c =
     let area = args.part.now in
     let read = c.word.ensures in (
       search rules,
-      ⊎_elim
-          (λ w. w.7 ∙ total-final bytes args.heads args.links turn.v area turn.least _ _ _ _ turn.invariant.1 (λ e. w.0.taken (read ∙ e)) (w.4.ensures ∙ ap weight_in w.1.ensures) (w.3.ensures ∙ ap (of_bits binary32) w.2.ensures) w.5.ensures.same w.6.ensures.same)
-          (λ w. w.1 ∙ total-plain bytes args.heads args.links turn.v area turn.least turn.invariant.1 (sym read ∙ w.0.left))
-          c.if-word-ne0.branch,
+      elim c.if-word-ne0.branch [
+        | then-word-ne0 w ↦ w.least-is ∙ total-final bytes args.heads args.links turn.v area turn.least _ _ _ _ turn.invariant.1 (λ e. w.if-word-ne0.true (read ∙ e)) (w.as_weight.ensures ∙ ap weight_in w.distance_at-d.ensures) (w.from_bits-weight.ensures ∙ ap (of_bits binary32) w.word-then-word-ne0.ensures) w.times.ensures.same w.plus-least.ensures.same
+        | else-word-ne0 w ↦ w.least-is ∙ total-plain bytes args.heads args.links turn.v area turn.least turn.invariant.1 (sym read ∙ w.if-word-ne0.false)
+      ],
     )
 
 pub returns : goal.returns

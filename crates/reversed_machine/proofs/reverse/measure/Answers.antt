@@ -1,4 +1,3 @@
-use borrow.Author.Rules.{rules}
 use Rattle.reversed_machine.proofs.Keeping.{measured-in, slots-fit}
 use Rattle.reversed_machine.proofs.reverse.measure.Goals as goal
 

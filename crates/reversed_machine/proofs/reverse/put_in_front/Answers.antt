@@ -1,6 +1,5 @@
 use native.Mathlib.Omega.{arith}
 use lib.ListN.{length-set}
-use borrow.Author.Rules.{rules}
 use Rattle.reversed_machine.proofs.reverse.put_in_front.Goals as goal
 
 pub bounds-part-at-2 : goal.bounds-part-at-2

@@ -1,7 +1,6 @@
 use mathlib.Core.Path.{◌∙◌}
 use Prim.Native.Nat.{◌≤◌}
 use native.Mathlib.Omega.{arith}
-use borrow.Author.Rules.{rules}
 use Rattle.machine.proofs.FinalCount.{count_most}
 use Rattle.reversed_machine.proofs.Passing.{passes-made}
 use Rattle.sheet.specs.Machine.{machine}

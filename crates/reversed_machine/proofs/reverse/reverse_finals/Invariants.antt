@@ -1,12 +1,8 @@
-use mathlib.Core.Path.{◌≡◌, sym, ap, ◌∙◌}
-use Prim.Native.Nat.{ℕ, ◌+◌, ◌-◌, ◌≤◌}
-use native.Mathlib.Omega.{arith}
+use mathlib.Core.Path.{◌≡◌}
+use Prim.Native.Nat.{◌+◌, ◌≤◌}
 use lib.ListN.{length}
-use borrow.Author.Rules.{rules}
 use Rattle.machine.specs.Finals.{final_count}
 use Rattle.reversed_machine.specs.ReverseWords.{finals_reversed}
-use Rattle.machine.proofs.FinalCount.{count-plain, count-final, count-mono}
-use Rattle.reversed_machine.proofs.Passing.{finals-plain, finals-again}
 use Rattle.reversed_machine.proofs.reverse.reverse_finals.Given as goal
 
 abbrev pub invariant-loop-v : goal.invariant-loop-v

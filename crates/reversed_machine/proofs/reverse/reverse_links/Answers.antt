@@ -1,7 +1,6 @@
 use mathlib.Core.Path.{◌≡◌, ap, ◌∙◌}
 use Prim.Native.Nat.{ℕ, ◌+◌, ◌-◌, ◌≤◌}
 use native.Mathlib.Omega.{arith}
-use lib.ListN.{length}
 use borrow.Author.Rules.{rules}
 use Rattle.sheet.specs.Records.{count_at, first_link}
 use Rattle.sheet.proofs.Below.{sum_mono}
@@ -36,7 +35,7 @@ reverse_node-requires c =
     let turn = c.loop-v in
     let few = among c.before.before in
     let all : turn.first - c.word-count.result + c.word-count.result ≡ turn.first = omega (arith, few) in
-    (omega (arith, all, few), omega (arith, all, few), search rules, omega (arith, all, few, turn.invariant.1), λ l h. omega (arith, pre.0.2 l (omega (arith, all, few)), turn.invariant.1))
+    (omega (arith, all, few), omega (arith, all, few), search rules, omega (arith, all, few, turn.invariant.1), λ l h. omega (arith, pre.nodes_in_bounds.2 l (omega (arith, all, few)), turn.invariant.1))
 
 pub loop-v-preserved : goal.loop-v-preserved
 loop-v-preserved c =

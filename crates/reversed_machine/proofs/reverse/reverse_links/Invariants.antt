@@ -1,12 +1,8 @@
-use mathlib.Core.Path.{◌≡◌, ap, ◌∙◌}
-use Prim.Native.Nat.{ℕ, ◌+◌, ◌-◌, ◌≤◌}
-use native.Mathlib.Omega.{arith}
+use mathlib.Core.Path.{◌≡◌}
+use Prim.Native.Nat.{◌≤◌}
 use lib.ListN.{length}
-use borrow.Author.Rules.{rules}
-use Rattle.sheet.specs.Records.{count_at, first_link}
-use Rattle.sheet.proofs.Below.{sum_mono}
-use Rattle.reversed_machine.specs.ReverseWords.{links_put, links_reversed}
-use Rattle.reversed_machine.proofs.Passing.{first_below, nodes-again}
+use Rattle.sheet.specs.Records.{first_link}
+use Rattle.reversed_machine.specs.ReverseWords.{links_reversed}
 use Rattle.reversed_machine.proofs.reverse.reverse_links.Given as goal
 
 abbrev pub invariant-loop-v : goal.invariant-loop-v

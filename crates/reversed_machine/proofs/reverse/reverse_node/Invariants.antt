@@ -1,10 +1,7 @@
-use mathlib.Core.Path.{◌≡◌, ap, ◌∙◌}
-use Prim.Native.Nat.{ℕ, ◌+◌, ◌-◌, ◌≤◌}
-use native.Mathlib.Omega.{arith}
+use mathlib.Core.Path.{◌≡◌}
+use Prim.Native.Nat.{◌≤◌}
 use lib.ListN.{length}
-use borrow.Author.Rules.{rules}
 use Rattle.reversed_machine.specs.ReverseWords.{links_put}
-use Rattle.reversed_machine.proofs.Passing.{links-again}
 use Rattle.reversed_machine.proofs.reverse.reverse_node.Given as goal
 
 abbrev pub invariant-loop-i : goal.invariant-loop-i

@@ -1,36 +1,23 @@
-use mathlib.Core.Path.{◌≡◌, sym, ap, ◌∙◌}
-use borrow.Author.Rules.{rules}
-use borrow.Author.Tests.{not-true, not-false}
-use Rattle.sheet.specs.Sheet.{read_number}
-use Rattle.sheet.specs.Records.{trailer_at}
+use mathlib.Core.Path.{sym, ap, ◌∙◌}
 use Rattle.rows.specs.declared.converted.Converted.TheVariants.{Length}
 use Rattle.rows.proofs.TextAnswers.{accepted-told, measured-refused, measured-none, measured-text}
 use Rattle.rows.proofs.to_rows.rows_bytes.Goals as goal
-use Rattle.rows.proofs.to_rows.rows_bytes.Lts
-use Rattle.rows.proofs.to_rows.rows_bytes.Reads
-use Rattle.rows.proofs.to_rows.rows_bytes.Tie
-
-abbrev In-Accepted : Type 0
-In-Accepted = Lts.Past-After-known_told2 Tie.the-claims Reads.Pre Reads.Post Tie.handed_clauses
-
--- what reading found where it accepted
-reading : (c : In-Accepted) → let bytes = c.args.sheet.now in (read_number bytes ≡ 0) × (c.in-Accepted.t ≡ trailer_at bytes)
-reading c = accepted-told c.args.sheet.now c.in-Accepted.t (sym c.read.ensures ∙ c.in-Accepted.is)
 
 pub has_rows-requires : goal.has_rows-requires
 has_rows-requires c =
-    let told = reading c.before in
+    let told = accepted-told c.args.sheet.now c.in-Accepted.t (sym c.read.ensures ∙ c.in-Accepted.is) in
     record { sheet_value = told.0; t_value = told.1 }
 
 pub returns-then-not-has_rows : goal.returns-then-not-has_rows
 returns-then-not-has_rows c =
-    let told = c.before.before.before in
-    measured-none told.args.sheet.now (reading told).0 (sym c.has_rows.ensures ∙ c.if-not-has_rows.true)
+    let told = accepted-told c.args.sheet.now c.in-Accepted.t (sym c.read.ensures ∙ c.in-Accepted.is) in
+    measured-none c.args.sheet.now told.0 (sym c.has_rows.ensures ∙ c.if-not-has_rows.true)
 
 pub text_length-requires : goal.text_length-requires
-text_length-requires c = let told = c.before.before.before in record {
-      sheet_value = (reading told).0;
-      t_value = (reading told).1;
+text_length-requires c =
+    let told = accepted-told c.args.sheet.now c.in-Accepted.t (sym c.read.ensures ∙ c.in-Accepted.is) in record {
+      sheet_value = told.0;
+      t_value = told.1;
       sheet_value_2 = sym c.has_rows.ensures ∙ c.if-not-has_rows.false;
     }
 
@@ -41,6 +28,6 @@ returns-in-Refused c =
 
 pub returns-else-not-has_rows : goal.returns-else-not-has_rows
 returns-else-not-has_rows c =
-    let told = c.before.before.before.before in
+    let told = accepted-told c.args.sheet.now c.in-Accepted.t (sym c.read.ensures ∙ c.in-Accepted.is) in
     let has = sym c.has_rows.ensures ∙ c.if-not-has_rows.false in
-    ap Length c.text_length.ensures ∙ measured-text told.args.sheet.now (reading told).0 has
+    ap Length c.text_length.ensures ∙ measured-text c.args.sheet.now told.0 has

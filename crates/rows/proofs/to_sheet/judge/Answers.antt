@@ -1,6 +1,5 @@
 use mathlib.Core.Path.{sym, ◌∙◌}
 use native.Mathlib.Omega.{arith}
-use borrow.Author.Rules.{rules}
 use borrow.Author.Tests.{not-true, not-false}
 use Rattle.rows.proofs.Judging.{judged-unread, judged-twice, readable, judged-high, judged-many, judged-off, judged-rows}
 use Rattle.rows.proofs.to_sheet.judge.Goals as goal
@@ -25,10 +24,10 @@ pub returns-then-not-s : goal.returns-then-not-s
 returns-then-not-s c =
     let s = c.in-Rows.s in
     let read = readable c.args.text.now s (sym c.survey_of.ensures ∙ c.in-Rows.is) (sym c.finals_once.ensures ∙ c.if-not-finals_once.false) in
-    judged-off c.args.text.now s read (omega (arith, c.if-s.false)) c.if-s-ge-LINKS_PAST.false c.if-not-s.true
+    judged-off c.args.text.now s read (omega (arith, c.if-s.false)) c.if-s-ge-LINKS_PAST.false (not-true _ c.if-not-s.true)
 
 pub returns : goal.returns
 returns c =
     let s = c.in-Rows.s in
     let read = readable c.args.text.now s (sym c.survey_of.ensures ∙ c.in-Rows.is) (sym c.finals_once.ensures ∙ c.if-not-finals_once.false) in
-    judged-rows c.args.text.now s read (omega (arith, c.if-s.false)) c.if-s-ge-LINKS_PAST.false c.if-not-s.false
+    judged-rows c.args.text.now s read (omega (arith, c.if-s.false)) c.if-s-ge-LINKS_PAST.false (not-false _ c.if-not-s.false)

@@ -2,7 +2,6 @@ use mathlib.Core.Path.{◌≡◌, refl, sym, ap, ◌∙◌}
 use Prim.Native.Nat.{ℕ, ◌+◌, ◌<◌}
 use native.Mathlib.Omega.{arith}
 use lib.ListN.{length}
-use borrow.Author.Rules.{rules}
 use Rattle.text_rows.specs.Convert.{length_of}
 use Rattle.rows.specs.declared.converted.Converted.TheVariants.{Length}
 use Rattle.row_reader.specs.declared.survey.Survey.{Survey}
@@ -50,7 +49,7 @@ fill-requires c =
       weighs = g.weighs;
       links-are = ap (λ (x : Survey). x.links) g.is;
       nodes-are = ap (λ (x : Survey). x.highest + 1) g.is;
-      start_is = c.start_of_lem.ensures ∙ start_first text b.0 g.rows b.1;
+      start_is = c.start_of.ensures ∙ start_first text b.0 g.rows b.1;
       enough = omega (arith, c.if-res-size.false, c.length_of-size.ensures, size_is text s g);
     }
 

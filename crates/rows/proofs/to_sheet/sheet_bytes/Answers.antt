@@ -1,6 +1,5 @@
 use mathlib.Core.Path.{sym, ap, ◌∙◌}
 use native.Mathlib.Omega.{arith}
-use borrow.Author.Rules.{rules}
 use Rattle.text_rows.specs.Convert.{length_of, rows_in}
 use Rattle.rows.specs.declared.converted.Converted.TheVariants.{Length}
 use Rattle.row_reader.specs.declared.survey.Survey.{Survey}

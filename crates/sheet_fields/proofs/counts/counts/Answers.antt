@@ -7,7 +7,6 @@ use Rattle.sheet.specs.Sheet.{read_number}
 use Rattle.sheet.specs.Answers.{tested}
 use Rattle.machine.proofs.Testing.{accepted-number, in-sheet}
 use Rattle.sheet_fields.proofs.Counting.{counts-refused, counts-told}
-use borrow.Author.Rules.{rules}
 use Rattle.sheet_fields.proofs.counts.counts.Goals as goal
 use Rattle.sheet_fields.proofs.counts.counts.Lts
 use Rattle.sheet_fields.proofs.counts.counts.Reads

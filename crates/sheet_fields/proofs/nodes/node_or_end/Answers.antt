@@ -7,11 +7,9 @@ use Rattle.sheet.specs.Records.{node_at}
 use Rattle.sheet.specs.Sheet.{read_number}
 use Rattle.sheet.specs.Machine.{machine}
 use Rattle.sheet_fields.specs.declared.nodes.NodeStep.{NodeStep}
-use Rattle.sheet_fields.specs.declared.nodes.NodeStep.TheVariants as NodeStep
 use Rattle.sheet_fields.specs.Nodes.{next_node}
 use Rattle.sheet_fields.specs.Fields.{NodeOf}
 use Rattle.sheet_fields.proofs.Passed.{node-short, node-past, node-unfit, node-there, node-told}
-use borrow.Author.Rules.{rules}
 use Rattle.sheet_fields.proofs.nodes.node_or_end.Goals as goal
 
 -- what the definition gives, with what that is of an accepted sheet
@@ -20,7 +18,7 @@ answer sheet v r e = (e, λ read. subst (NodeOf (machine sheet) v) (sym e) (node
 
 pub returns-then-sheet-lt-TRAILER : goal.returns-then-sheet-lt-TRAILER
 returns-then-sheet-lt-TRAILER c =
-    let args = c.args in 
+    let args = c.args in
     let told = answer args.sheet.now args.v NodeStep.End (node-short args.sheet.now args.v c.if-sheet-lt-TRAILER.true) in
     record { value = told.0; node_of = told.1 }
 
@@ -28,7 +26,7 @@ pub returns-then-nodes-v : goal.returns-then-nodes-v
 returns-then-nodes-v c =
     let args = c.args in
     let sheet = args.sheet.now in
-    let stated = c.trailer_of-t.ensures in 
+    let stated = c.trailer_of-t.ensures in
     let told = answer sheet args.v NodeStep.End (node-past sheet args.v c.if-sheet-lt-TRAILER.false (subst (λ (t : Trailer). t.nodes ≤ args.v) stated c.if-nodes-v.true)) in
     record { value = told.0; node_of = told.1 }
 
@@ -37,7 +35,7 @@ returns-then-sheet-links c =
     let args = c.args in
     let sheet = args.sheet.now in
     let stated = c.trailer_of-t.ensures in
-    let among = subst (λ (t : Trailer). args.v < t.nodes) stated c.if-nodes-v.false in 
+    let among = subst (λ (t : Trailer). args.v < t.nodes) stated c.if-nodes-v.false in
     let told = answer sheet args.v NodeStep.End (node-unfit sheet args.v c.if-sheet-lt-TRAILER.false among (subst (λ (t : Trailer). length sheet < 16 * t.links + 12 * t.nodes + 20) stated c.if-sheet-links.true)) in
     record { value = told.0; node_of = told.1 }
 
@@ -47,6 +45,6 @@ returns c =
     let sheet = args.sheet.now in
     let stated = c.trailer_of-t.ensures in
     let among = subst (λ (t : Trailer). args.v < t.nodes) stated c.if-nodes-v.false in
-    let node = c.Node-at.ensures ∙ ap (λ (t : Trailer). node_at sheet t.links args.v) stated in 
-    let told = answer sheet args.v (NodeStep.Node c.Node-at.result) (ap NodeStep.Node node ∙ node-there sheet args.v c.if-sheet-lt-TRAILER.false among (subst (λ (t : Trailer). 16 * t.links + 12 * t.nodes + 20 ≤ length sheet) stated c.if-sheet-links.false)) in
+    let node = c.node_at.ensures ∙ ap (λ (t : Trailer). node_at sheet t.links args.v) stated in
+    let told = answer sheet args.v (NodeStep.Node c.node_at.result) (ap NodeStep.Node node ∙ node-there sheet args.v c.if-sheet-lt-TRAILER.false among (subst (λ (t : Trailer). 16 * t.links + 12 * t.nodes + 20 ≤ length sheet) stated c.if-sheet-links.false)) in
     record { value = told.0; node_of = told.1 }

@@ -1,15 +1,6 @@
-use mathlib.Core.Path.{◌≡◌, sym, ap, ◌∙◌}
-use mathlib.Core.Logic.{⊎_elim}
-use mathlib.Core.Bool.{Bool, cond}
-use Prim.Native.Nat.{ℕ, ◌+◌, ◌-◌, ◌≤◌, ◌<◌}
-use native.Mathlib.Omega.{arith}
-use lib.Dec.{leb}
-use borrow.Author.Rules.{rules}
-use borrow.Author.Tests.{le-leb, lt-leb}
-use Rattle.sheet.specs.Sheet.{stated_links}
-use Rattle.machine.proofs.SheetFields.{sheet-fields}
+use mathlib.Core.Path.{◌≡◌}
+use Prim.Native.Nat.{◌-◌, ◌≤◌}
 use Rattle.shortest_distance.specs.NodeSlots.{led_from}
-use Rattle.shortest_distance.proofs.Lengths.{led-from-next}
 use Rattle.shortest_distance.proofs.node_slots.led_from.Given as goal
 
 abbrev pub invariant-loop-i : goal.invariant-loop-i

@@ -1,13 +1,9 @@
-use mathlib.Core.Path.{◌≡◌, ap, ◌∙◌}
-use Prim.Native.Nat.{ℕ, ◌-◌, ◌*◌, ◌≤◌}
-use native.Mathlib.Omega.{arith}
+use mathlib.Core.Path.{◌≡◌}
+use Prim.Native.Nat.{◌-◌, ◌≤◌}
 use lib.ListN.{length}
 use lib.Seq.{sets}
-use borrow.Author.Rules.{rules}
 use Rattle.sheet.specs.Words.{bytes_of_all}
-use Rattle.distance.specs.Held.{words_in}
 use Rattle.shortest_distance.specs.NodeSlots.{distance_words}
-use Rattle.shortest_distance.proofs.Areas.{sets-distance}
 use Rattle.shortest_distance.proofs.node_slots.put_distances.Given as goal
 
 abbrev pub invariant-loop-v : goal.invariant-loop-v

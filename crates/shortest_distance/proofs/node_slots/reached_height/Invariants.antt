@@ -1,10 +1,6 @@
-use mathlib.Core.Path.{◌≡◌, sym, ap, ◌∙◌}
-use Prim.Native.Nat.{ℕ, ◌≤◌}
-use native.Mathlib.Omega.{arith}
-use borrow.Author.Rules.{rules}
-use Rattle.distance.specs.Held.{reached_in}
+use mathlib.Core.Path.{◌≡◌}
+use Prim.Native.Nat.{◌≤◌}
 use Rattle.shortest_distance.specs.NodeSlots.{height_in}
-use Rattle.shortest_distance.proofs.Areas.{height-found, height-down}
 use Rattle.shortest_distance.proofs.node_slots.reached_height.Given as goal
 
 abbrev pub invariant-loop-n : goal.invariant-loop-n

@@ -1,7 +1,6 @@
 use mathlib.Core.Path.{sym, ap}
 use native.Mathlib.Omega.{arith}
 use lib.ListN.{length-set}
-use borrow.Author.Rules.{rules}
 use Rattle.shortest_distance.specs.declared.parent.Parent.{Parent}
 use Rattle.shortest_distance.specs.ParentWords.{parent_stored}
 use Rattle.shortest_distance.proofs.parent.store_parent.Goals as goal

@@ -2,14 +2,12 @@ use mathlib.Core.Path.{◌≡◌, ap, ◌∙◌}
 use mathlib.Core.Bool.{not}
 use mathlib.Core.List.{List}
 use Prim.Native.Nat.{ℕ}
-use borrow.Author.Tests.{not-true, not-false}
 use Rattle.distance.specs.Held.{weight_in, reached_in}
 use Rattle.distance.specs.Offer.{improves}
 use Rattle.shortest_distance.specs.declared.parent.Parent.TheVariants.{By}
 use Rattle.shortest_distance.specs.ParentWords.{parent_stored}
 use Rattle.shortest_distance.specs.NodeSlots.{distance_at}
 use Rattle.shortest_distance.proofs.Turns.{offer-test, offer-left, offer-taken}
-use borrow.Author.Rules.{rules}
 use Rattle.shortest_distance.proofs.relax.relax_link.Goals as goal
 use Rattle.shortest_distance.proofs.relax.relax_link.Lts
 use Rattle.shortest_distance.proofs.relax.relax_link.Reads
@@ -27,7 +25,7 @@ judged c =
 
 pub returns-then-not-natural_less : goal.returns-then-not-natural_less
 returns-then-not-natural_less c =
-    let args = c.args in 
+    let args = c.args in
     let told = offer-left args.k args.l args.v args.d args.work.now (judged c.before ∙ c.if-not-natural_less.true) in
     record { value = told.0; work_new = told.1 }
 
