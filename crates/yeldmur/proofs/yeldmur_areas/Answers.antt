@@ -59,8 +59,8 @@ returns-in-Accepted c =
     let told = c.yeldmur_areas_of.ensures in
     let r = c.yeldmur_areas_of.result in
     let own = own-counts sheet below ok.0 t ok.1 f counted.0 counted.1 a.n in record {
-      value = told.0 ∙ number_same sheet below ok.0 t ok.1 f counted.0 counted.1 a.n;
-      slots_after = told.1.0 ∙ ap {B = ℕ} (λ s. cond (eqb r 0) s a.slots.now) (slots-told sheet below ok.0 t ok.1 f counted.0 counted.1 a.n);
-      bytes_after = told.1.1.0 ∙ ap {B = ℕ} (λ b. cond (eqb r 0) b a.bytes.now) (bytes-told sheet below ok.0 t ok.1 f counted.0 counted.1 a.n);
-      enough = λ z. told.1.1.1 z sheet below ok.0 own.0 own.1 own.2;
+      value = told.value ∙ number_same sheet below ok.0 t ok.1 f counted.0 counted.1 a.n;
+      slots_after = told.slots_after ∙ ap {B = ℕ} (λ s. cond (eqb r 0) s a.slots.now) (slots-told sheet below ok.0 t ok.1 f counted.0 counted.1 a.n);
+      bytes_after = told.bytes_after ∙ ap {B = ℕ} (λ b. cond (eqb r 0) b a.bytes.now) (bytes-told sheet below ok.0 t ok.1 f counted.0 counted.1 a.n);
+      enough = λ z. told.serves z sheet below ok.0 own.0 own.1 own.2;
     }

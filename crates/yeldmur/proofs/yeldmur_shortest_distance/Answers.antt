@@ -15,12 +15,12 @@ returns-in-Count c =
     let k = distance_number a.sheet.now (length a.work.now) (length a.res.now) in
     let e = c.shortest_distance.ensures in
     let q = c.in-Count.is in
-    let t = told (λ d. distances_told d a.values.now) (λ x. x.0) k q e.0 (distances-number k (length (distances (machine a.sheet.now))) a.values.now) in record {
+    let t = told (λ d. distances_told d a.values.now) (λ x. x.0) k q e.value (distances-number k (length (distances (machine a.sheet.now))) a.values.now) in record {
       value = t.0;
       values_after = t.1;
-      work_new = e.1.0;
-      res_after = e.1.1.0;
-      least = λ z. subst (λ d. Promised a.sheet.now d c.shortest_distance.new.res) q e.1.1.1;
+      work_new = e.work_new;
+      res_after = e.res_after;
+      least = λ z. subst (λ d. Promised a.sheet.now d c.shortest_distance.new.res) q e.promised;
     }
 
 pub returns-in-Refused : goal.returns-in-Refused
@@ -30,10 +30,10 @@ returns-in-Refused c =
     let e = c.shortest_distance.ensures in
     let q = c.in-Refused.is in
     let count = length (distances (machine a.sheet.now)) in
-    let t = told (λ d. distances_told d a.values.now) (λ x. x.0) k q e.0 (distances-number k count a.values.now) in record {
+    let t = told (λ d. distances_told d a.values.now) (λ x. x.0) k q e.value (distances-number k count a.values.now) in record {
       value = t.0;
       values_after = t.1;
-      work_new = e.1.0;
-      res_after = e.1.1.0;
-      least = λ z. absurd (distances-refused k count c.in-Refused.k (sym q ∙ e.0) z);
+      work_new = e.work_new;
+      res_after = e.res_after;
+      least = λ z. absurd (distances-refused k count c.in-Refused.k (sym q ∙ e.value) z);
     }

@@ -14,12 +14,12 @@ returns-in-Made c =
     let r = result_of a.sheet.now a.n in
     let e = c.shortest_path.ensures in
     let q = c.in-Made.is in
-    let t = told (λ l. listed_told l a.states.now a.links.now a.taken.now) (λ x. x.0) k q e.0 (listed-number k r a.states.now a.links.now a.taken.now) in record {
+    let t = told (λ l. listed_told l a.states.now a.links.now a.taken.now) (λ x. x.0) k q e.value (listed-number k r a.states.now a.links.now a.taken.now) in record {
       value = t.0;
       taken_after = t.1;
-      work_new = e.1.0;
-      res_after = e.1.1.0;
-      keeps = λ z. subst (λ l. Promised a.sheet.now a.n l c.shortest_path.new.res) q e.1.1.1;
+      work_new = e.work_new;
+      res_after = e.res_after;
+      keeps = λ z. subst (λ l. Promised a.sheet.now a.n l c.shortest_path.new.res) q e.promised;
     }
 
 pub returns-in-Refused : goal.returns-in-Refused
@@ -29,10 +29,10 @@ returns-in-Refused c =
     let r = result_of a.sheet.now a.n in
     let e = c.shortest_path.ensures in
     let q = c.in-Refused.is in
-    let t = told (λ l. listed_told l a.states.now a.links.now a.taken.now) (λ x. x.0) k q e.0 (listed-number k r a.states.now a.links.now a.taken.now) in record {
+    let t = told (λ l. listed_told l a.states.now a.links.now a.taken.now) (λ x. x.0) k q e.value (listed-number k r a.states.now a.links.now a.taken.now) in record {
       value = t.0;
       taken_after = t.1;
-      work_new = e.1.0;
-      res_after = e.1.1.0;
-      keeps = λ z. absurd (listed-refused k r c.in-Refused.k (sym q ∙ e.0) z);
+      work_new = e.work_new;
+      res_after = e.res_after;
+      keeps = λ z. absurd (listed-refused k r c.in-Refused.k (sym q ∙ e.value) z);
     }

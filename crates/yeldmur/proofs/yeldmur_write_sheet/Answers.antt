@@ -13,11 +13,11 @@ returns-in-Length c =
     let p = parts a.links.now a.nodes.now a.start in
     let k = write_number p (length a.res.now) in
     let w = c.write.ensures in
-    let t = told (λ w. written_told w a.size.now) (λ x. x.0) k c.in-Length.is w.0 (written-number k p a.size.now) in record {
+    let t = told (λ w. written_told w a.size.now) (λ x. x.0) k c.in-Length.is w.value (written-number k p a.size.now) in record {
       value = t.0;
       size_after = t.1;
-      res_after = w.1.0;
-      read_back = λ e. w.1.1 c.in-Length.bytes c.in-Length.is;
+      res_after = w.res_after;
+      read_back = λ e. w.by_index c.in-Length.bytes c.in-Length.is;
     }
 
 pub returns-in-Refused : goal.returns-in-Refused
@@ -26,9 +26,9 @@ returns-in-Refused c =
     let p = parts a.links.now a.nodes.now a.start in
     let k = write_number p (length a.res.now) in
     let w = c.write.ensures in
-    let t = told (λ w. written_told w a.size.now) (λ x. x.0) k c.in-Refused.is w.0 (written-number k p a.size.now) in record {
+    let t = told (λ w. written_told w a.size.now) (λ x. x.0) k c.in-Refused.is w.value (written-number k p a.size.now) in record {
       value = t.0;
       size_after = t.1;
-      res_after = w.1.0;
-      read_back = λ e. absurd (written-refused k p c.in-Refused.k (sym c.in-Refused.is ∙ w.0) e);
+      res_after = w.res_after;
+      read_back = λ e. absurd (written-refused k p c.in-Refused.k (sym c.in-Refused.is ∙ w.value) e);
     }

@@ -19,8 +19,8 @@ put_list-requires c =
     let below : Below 256 a.sheet.now = λ i. omega (arith, c.type_inv.sheet i) in
     let told = c.nodes-1.given in
     let listed = c.shortest_path.ensures in
-    let made = made-input a.sheet.now below a.n root.requires.1 root.requires.0 told.0.0 told.0.1.0 told.0.1.1.0 (sym told.1 ∙ listed.0) in
-    (held a.sheet.now below a.n root.requires.1 root.requires.0 _ _ _ made (replicate result_bytes_most 0) _ (length-replicate {A = ℕ} result_bytes_most 0) listed.1.1.0, root.requires.0, root.requires.1, root.requires.2)
+    let made = made-input a.sheet.now below a.n root.requires.1 root.requires.0 told.0.0 told.0.1.0 told.0.1.1.0 (sym told.1 ∙ listed.value) in
+    (held a.sheet.now below a.n root.requires.1 root.requires.0 _ _ _ made (replicate result_bytes_most 0) _ (length-replicate {A = ℕ} result_bytes_most 0) listed.res_after, root.requires.0, root.requires.1, root.requires.2)
 
 pub returns-in-Refused : goal.returns-in-Refused
 returns-in-Refused c =

@@ -64,7 +64,7 @@ returns-in-Reading c =
     let line = line-is a.sheet.now below a.n a.result.now a.nodes a.links h a.k k (replicate run_most 0) run given.0.0 parts.0 told.1 room (a.k + 1) in
     let fits : SFits w32 given.0.1.0 = search rules in
     let cost = to_z-of_z w32 given.0.1.0 fits in
-    (puts-same (ap (λ (z : ℤ). line_of (a.k + 1) z (labels_of a.sheet.now (take given.0.0 run))) (cost ∙ parts.1) ∙ line) e.0, omega (arith, e.1, short))
+    (puts-same (ap (λ (z : ℤ). line_of (a.k + 1) z (labels_of a.sheet.now (take given.0.0 run))) (cost ∙ parts.1) ∙ line) e.puts, omega (arith, e.upper_bound, short))
 
 pub returns-in-Refused : goal.returns-in-Refused
 returns-in-Refused c =
