@@ -1,11 +1,9 @@
 use mathlib.Core.Path.{sym, ap}
-use Prim.Native.Nat.{◌+◌, ◌*◌, ◌≤◌}
+use Prim.Native.Nat.{◌+◌}
 use native.Mathlib.Nat.{mul-le-mul_right}
 use native.Mathlib.Omega.{arith}
-use Rattle.tropical_weight.specs.Limits.{list_limit}
 use Rattle.yeldmur.specs.Areas.{bytes_of}
 use Rattle.yeldmur.proofs.Room.{bytes-many}
-use borrow.Author.Rules.{rules}
 use Rattle.yeldmur.proofs.bytes_enough.Goals as goal
 
 pub returns-then-n-eq1 : goal.returns-then-n-eq1

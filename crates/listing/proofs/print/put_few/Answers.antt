@@ -9,7 +9,6 @@ use Rattle.listing.specs.Text.{first_line}
 use Rattle.listing.specs.Printed.{list_for, reading_lines}
 use Rattle.decimals.proofs.Storing.{puts-same}
 use Rattle.listing.proofs.Printing.{result_bytes_most, made-input, refused-input, held, printed-refused, printed-listed}
-use borrow.Author.Rules.{rules}
 use Rattle.listing.proofs.print.put_few.Goals as goal
 
 pub put_list-requires : goal.put_list-requires

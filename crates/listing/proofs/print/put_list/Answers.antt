@@ -7,7 +7,6 @@ use Rattle.listing.specs.Text.{first_line}
 use Rattle.listing.specs.Printed.{list_most, list_for}
 use Rattle.decimals.proofs.Storing.{puts-same, puts_then}
 use Rattle.listing.proofs.Listings.{counted-readings, counted-refused, held-count, held-few}
-use borrow.Author.Rules.{rules}
 use Rattle.listing.proofs.print.put_list.Goals as goal
 
 pub put_readings-requires : goal.put_readings-requires
