@@ -78,8 +78,8 @@ enum {
 #define YELDMUR_DISTANCE 8u
 
 /* Bytes of stack that are enough for a call: measured at the limits with a painted stack. Most of it are
- * the queue's record, 6 KB, with some 80 bytes for each level of the heap's recursion; where rows are
- * read, 8 KB of final nodes, by which a second final row is found. */
+ * 8 KB of final nodes, by which a second final row is found, where rows are read; in a search the queue's
+ * record of 2 KB and a copy. */
 #define YELDMUR_STACK 10240u
 
 /* The start of a sheet that has none, and the word of a link that repeats no input link. */
