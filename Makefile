@@ -5,7 +5,7 @@
 #   make install    what was built, with the header, the pkg-config file, the manual page and the licences: PREFIX, DESTDIR
 #   make uninstall  takes the installed files away again
 #   make check      the quick tests: needs python3 besides; .ci/run is the whole gate
-#   make clean      removes what make has built; what is proved, in target/, stays
+#   make clean      removes what make has built; what is proved, in the crates' out/, stays, and so does the archive
 #
 # With YELDMUR_LIB_DIR the libyeldmur.a of that folder is taken as it is, and nothing is proved.
 

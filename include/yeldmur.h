@@ -1,6 +1,5 @@
 /* Yeldmur: sheets read and written, text rows turned into sheets and back, distances, and lists of the
- * cheapest readings, with every promise proved. Link with libyeldmur.a, which `rt staticlib yeldmur`
- * writes.
+ * cheapest readings, with every promise proved. Link with libyeldmur.a, which `tools/library` writes.
  *
  * A slice is a pointer and a count of its elements, and not of bytes. No pointer is NULL, also where
  * the count is 0, as that of the work area may be for n = 0: malloc(0) may give NULL, so that a caller
@@ -79,8 +78,8 @@ enum {
 #define YELDMUR_DISTANCE 8u
 
 /* Bytes of stack that are enough for a call: measured at the limits with a painted stack. Most of it are
- * the queue's record, 6 KB, with some 80 bytes for each level of the heap's recursion; where rows are
- * read, 8 KB of final nodes, by which a second final row is found. */
+ * 8 KB of final nodes, by which a second final row is found, where rows are read; in a search the queue's
+ * record of 2 KB and a copy. */
 #define YELDMUR_STACK 10240u
 
 /* The start of a sheet that has none, and the word of a link that repeats no input link. */

@@ -1,4 +1,4 @@
-//! Finds the static library that `rt staticlib yeldmur` writes.
+//! Finds the static library that `tools/library` writes.
 #![forbid(unsafe_code)]
 
 use std::env;
@@ -19,7 +19,7 @@ fn main() {
     println!("cargo:rerun-if-changed={}", library.display());
     if !library.is_file() {
         eprintln!("There is no {}.", library.display());
-        eprintln!("Run `rt staticlib yeldmur` in Yeldmur's repository, which writes it to target/staticlib,");
+        eprintln!("Run `tools/library` in Yeldmur's repository, which writes it to target/staticlib,");
         eprintln!(
             "or name the folder that has libyeldmur.a in the environment variable YELDMUR_LIB_DIR."
         );

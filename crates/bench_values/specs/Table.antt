@@ -6,12 +6,10 @@ use Rattle.sheet.specs.Words.{words, bytes_of_all}
 use Rattle.sheet.specs.Machine.{machine}
 use Rattle.machine.specs.Readings.{link, reading_of, reading_cost}
 use Rattle.shortest_distance.specs.declared.Distances.{Distances}
-use Rattle.shortest_distance.specs.declared.Distances.TheVariants as Distances
 use Rattle.shortest_distance.specs.Outcome as Distance
 use Rattle.shortest_distance.specs.Outcome.{distance_answer}
 use Rattle.search.specs.Listed.{list_of}
 use Rattle.list_answer.specs.declared.Listed.{Listed}
-use Rattle.list_answer.specs.declared.Listed.TheVariants as Listed
 use Rattle.shortest_path.specs.Outcome.{list_answer, result_after}
 
 -- What a call tells: the refusal, or the words of the distances, or the list: the counts of its machine's nodes and links, the input labels of its readings, their costs, and the entries taken.

@@ -1,29 +1,29 @@
 -- The pairs that are found are the pairs of the product, each once; their keys climb in the product's order. Assumes nothing.
 use mathlib.Core.Path.{◌≡◌, refl, sym, ap, ◌∙◌, subst}
-use mathlib.Core.Bool.{Bool, true, false, ◌&&◌, cond}
+use mathlib.Core.Bool.{Bool, true, false, cond}
 use mathlib.Core.List.Memᴰ
 use mathlib.Core.List.{List, [], ◌∷◌, ◌++◌, map, flat_map}
 use Prim.Native.Nat.{ℕ, zero, suc, ◌+◌, ◌*◌, ◌≤◌, ◌<◌}
 use native.Mathlib.Omega.{arith}
 use lib.Dec.{eqb}
-use lib.ListN.{length, length-map}
+use lib.ListN.{length}
 use borrow.Author.Tests.{eqb-true, eq-eqb}
 use Rattle.tropical_weight.specs.Limits.{node_limit, link_limit}
 use Rattle.sheet.specs.Below.{list_below}
 use Rattle.sheet.specs.Machine.{Machine}
 use Rattle.sheet.proofs.Apart.{both}
 use Rattle.sheet.proofs.Below.{flat-snoc}
-use Rattle.machine.specs.Readings.{link, keep}
+use Rattle.machine.specs.Readings.{link}
 use Rattle.machine.specs.Climbs.{Climbs}
 use Rattle.machine.specs.Demand.{◌∈◌, NoDup}
-use Rattle.machine.proofs.Lists.{Perm, mem-eq, map-mem, mem-map, below-mem, mem_below, map-append, nodup_append, nodup-map-in, nodup-length, perm-mem, perm-sym, perm-nodup, keep-mem, mem-keep}
+use Rattle.machine.proofs.Lists.{Perm, mem-eq, map-mem, mem-map, below-mem, mem_below, map-append, nodup_append, perm-mem, perm-sym, keep-mem, mem-keep}
 use Rattle.sorted_keys.specs.Sorted.{Climbing}
 use Rattle.sorted_keys.proofs.Orders.{climbing-one, climbing-append}
 use Rattle.product.specs.Joins.{join_below}
 use Rattle.product.specs.Product.{Pair, nodes, source_for, meet, pair_if, pairs}
 use Rattle.product.specs.Keys.{link_key, key_label, key_node, key_link, link_keys, pair_key, pair_keys}
-use Rattle.product.proofs.Joins.{join-mem, mem-join, join-nodup}
-use Rattle.product.proofs.Pairs.{Meets, pairs-meet, meet-pairs, of_node, of-link, in-node, in-link, in_one, first-inside, second-inside}
+use Rattle.product.proofs.Joins.{join-mem, mem-join}
+use Rattle.product.proofs.Pairs.{pairs-meet, meet-pairs, of_node, of-link, in_one, first-inside, second-inside}
 use Rattle.link_pairs.specs.Found.{partners, pair_of, pairs_of, found}
 use Rattle.link_pairs.proofs.LinkKeys.{key_at}
 

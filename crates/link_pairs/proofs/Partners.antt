@@ -1,16 +1,15 @@
 -- Among keys in order those with one label stand together, from the first that is not below that label's least key. Assumes nothing.
 use mathlib.Core.Path.{◌≡◌, refl, sym, ap, ◌∙◌, subst}
-use mathlib.Core.Bool.{Bool, true, false, cond}
+use mathlib.Core.Bool.{Bool, false, cond}
 use mathlib.Core.List.Memᴰ
 use mathlib.Core.List.{List, [], ◌∷◌, ◌++◌}
-use Prim.Native.Nat.{ℕ, zero, suc, ◌+◌, ◌*◌, ◌≤◌, ◌<◌}
+use Prim.Native.Nat.{ℕ, ◌+◌, ◌≤◌, ◌<◌}
 use native.Mathlib.Numerals.{add-one}
 use native.Mathlib.Omega.{arith}
 use lib.Dec.{eqb}
 use lib.ListN.{length, get_or, take, drop, take-append-drop, length-drop, drop_of_length-le}
 use lib.Seq.{length-take-le, get_or-take, get_or-drop, drop-cons}
 use borrow.Author.Tests.{eq-eqb, ne_eqb}
-use Rattle.tropical_weight.specs.Limits.{node_limit, link_limit}
 use Rattle.machine.specs.Readings.{keep}
 use Rattle.machine.specs.Demand.{◌∈◌}
 use Rattle.machine.proofs.Lists.{here, mem-get_or, keep_append}

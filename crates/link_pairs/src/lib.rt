@@ -2,5 +2,6 @@
 // second's links are sorted by label, each link of the first finds its partners by a search among
 // them, and the pairs are sorted by the node that they leave.
 #![tactic(auto)]
+
 pub mod link_keys;
 pub mod pairs;

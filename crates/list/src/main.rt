@@ -1,5 +1,6 @@
 // The listing program: reads one byte n and then a sheet on standard input, and prints the list.
 #![tactic(auto)]
+
 ghost use Rattle.std.specs.Prelude.{IfOk};
 ghost use Rattle.io.specs.Counts.{IsPrefixLen};
 

@@ -23,9 +23,7 @@ use Rattle.search.proofs.Sizes.{rest-same}
 use Rattle.shortest_path.specs.Outcome.{answer_of}
 use Rattle.decimals.specs.Stored.{Puts}
 use Rattle.read_back.specs.declared.count.Counted.{Counted}
-use Rattle.read_back.specs.declared.count.Counted.TheVariants as Counted
 use Rattle.read_back.specs.declared.reading.Told.{Told}
-use Rattle.read_back.specs.declared.reading.Told.TheVariants as Told
 use Rattle.read_back.specs.Answers.{units_in, reading_told}
 use Rattle.read_back.specs.Promise.{IsAnswer, CountsList, ReadsList}
 use Rattle.read_back.proofs.Ways.{stored-front}

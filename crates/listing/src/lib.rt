@@ -1,4 +1,5 @@
 // The listing program: the list for n of a sheet, as text.
 #![tactic(auto)]
+
 pub mod print;
 mod text;

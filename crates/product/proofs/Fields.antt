@@ -4,13 +4,12 @@ use mathlib.Core.Option.{none}
 use Prim.Native.Nat.{ℕ, ◌*◌, ◌/◌, ◌%◌, ◌≤◌, ◌<◌}
 use native.Mathlib.Omega.{arith}
 use lib.ListN.{length, length-map}
-use Rattle.sheet.specs.Below.{list_below}
 use Rattle.sheet.specs.Machine.{Machine}
 use Rattle.sheet.proofs.Below.{length-list_below, get_or-list_below}
 use Rattle.machine.specs.Readings.{no_link, link, final}
 use Rattle.machine.specs.Climbs.{Climbs}
 use Rattle.machine.proofs.Lists.{get_or-mem, get_d_map}
-use Rattle.product.specs.Product.{Pair, nodes, node_for, source_for, pairs, link_for, final_for, start_for, product}
+use Rattle.product.specs.Product.{nodes, node_for, source_for, pairs, link_for, final_for, start_for, product}
 use Rattle.product.specs.Halves.{no_pair, pair_at}
 use Rattle.product.proofs.Nodes.{node-lt, node-rises}
 use Rattle.product.proofs.Pairs.{Meets, pairs-meet, pairs-sorted, first-inside, second-inside}

@@ -1,30 +1,26 @@
 -- Readings of the product correspond one to one to pairs of readings with the same labels, and cost their sum. Assumes nothing.
 use mathlib.Core.Path.{◌≡◌, refl, sym, ap, ap₂, ◌∙◌, subst}
-use mathlib.Core.Logic.{◌⊎◌, inl, inr}
-use mathlib.Core.Bool.{Bool, true, false}
 use mathlib.Core.Option.{Option, none, some}
 use mathlib.Core.List.Memᴰ
-use mathlib.Core.List.{List, [], ◌∷◌, ◌++◌, map}
-use Prim.Native.Nat.{ℕ, zero, suc, ◌+◌, ◌*◌, ◌/◌, ◌%◌, ◌≤◌, ◌<◌}
+use mathlib.Core.List.{List, [], ◌∷◌}
+use Prim.Native.Nat.{ℕ, zero, suc, ◌/◌, ◌%◌, ◌<◌}
 use native.Mathlib.Omega.{arith}
-use lib.ListN.{length, get_or, length-map}
+use lib.ListN.{length, get_or}
 use lib.IntN.{ℤ, ◌+ℤ◌}
 use Rattle.tropical_weight.specs.Tropical.{Tropical, fin, inf, one, ◌⊗◌}
 use Rattle.tropical_weight.proofs.Semiring.{⊗-assoc, ⊗-comm, one-⊗}
-use Rattle.sheet.specs.Below.{list_below}
 use Rattle.sheet.specs.Machine.{Link, Machine}
-use Rattle.sheet.proofs.Below.{length-list_below, get_or-list_below}
-use Rattle.machine.specs.Readings.{no_link, link, final, final_weight, IsRun, run_cost, Reading, IsReading, reading_cost, readings}
+use Rattle.machine.specs.Readings.{link, final, final_weight, IsRun, run_cost, Reading, IsReading, reading_cost}
 use Rattle.machine.specs.Climbs.{Climbs}
 use Rattle.machine.specs.Demand.{◌∈◌, NoDup}
-use Rattle.machine.proofs.Lists.{here, mem-eq, get_or-mem, mem-get_or, get_d_map, map-mem}
+use Rattle.machine.proofs.Lists.{here, mem-eq, get_or-mem, mem-get_or}
 use Rattle.machine.proofs.Runs.{run_in, run_length}
 use Rattle.machine.proofs.Readings.{final-in, same-reading}
-use Rattle.product.specs.Product.{Pair, nodes, node_for, source_for, pairs, link_for, final_for, start_for, product}
+use Rattle.product.specs.Product.{nodes, node_for, pairs, link_for, final_for, start_for, product}
 use Rattle.product.specs.Halves.{labels, no_pair, pair_at, firsts, seconds, first_of, second_of, Halves, Whole, OneToOne}
 use Rattle.product.proofs.Nodes.{node-first, node-second, node-apart, node-lt}
 use Rattle.product.proofs.Pairs.{meet-pairs, pairs-once, second-inside}
-use Rattle.product.proofs.Fields.{product-links, product-link, product-nodes, product-final, product-start, meets_at, climbs-product}
+use Rattle.product.proofs.Fields.{product-links, product-link, product-nodes, product-final, product-start, meets_at}
 
 -- ---- places of a list without repeats
 nodup-place : {A : Type 0} (l : List A) (d : A) → NoDup l → (i j : ℕ) → i < length l → j < length l → get_or l i d ≡ get_or l j d → i ≡ j

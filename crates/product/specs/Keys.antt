@@ -1,5 +1,5 @@
 -- Mirrors the code: links and pairs of links as single numbers, whose order is the order that is wanted. A reader need not believe it: laws tie it to Product
--- (proofs/Keys). Definitions only.
+-- (link_pairs/proofs/Finding). Definitions only.
 use Rattle.std.specs.Prelude.{List, map, ℕ, ◌+◌, ◌*◌, ◌/◌, ◌%◌, length}
 use Rattle.tropical_weight.specs.Limits.{node_limit, link_limit}
 use Rattle.sheet.specs.Below.{list_below}

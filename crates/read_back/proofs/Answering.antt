@@ -24,9 +24,7 @@ use Rattle.shortest_path.specs.Outcome.{tested_number, answer_of}
 use Rattle.shortest_path.proofs.Joining.{zero-empty}
 use Rattle.shortest_path.proofs.Outcomes.{tested-input, tested-seven, tested-last, tested-zero}
 use Rattle.read_back.specs.declared.count.Counted.{Counted}
-use Rattle.read_back.specs.declared.count.Counted.TheVariants as Counted
 use Rattle.read_back.specs.declared.reading.Told.{Told}
-use Rattle.read_back.specs.declared.reading.Told.TheVariants as Told
 use Rattle.read_back.specs.Way.{answer_bytes, count_in, is_list, way_of}
 use Rattle.read_back.specs.Follows.{reads_to, run_by, if_reading}
 use Rattle.read_back.specs.Answers.{count_number, count_by, count_answer, units_in, held_reading, room_number, held_number, reading_number, reading_told, run_in, told_by, held_told, held_after, reading_answer, run_after}

@@ -22,7 +22,6 @@ use Rattle.machine.proofs.SheetFields.{SheetFields, sheet-fields, first-in}
 use Rattle.read_back.specs.declared.walk.Walk.{Walk}
 use Rattle.read_back.specs.declared.way.Shape.{Shape}
 use Rattle.read_back.specs.declared.reading.Told.{Told}
-use Rattle.read_back.specs.declared.reading.Told.TheVariants as Told
 use Rattle.read_back.specs.Way.{first_state, way_of}
 use Rattle.read_back.specs.Follows.{follows, ends_at, ends_from, reads_to, run_by, if_reading}
 use Rattle.read_back.specs.Walks.{Walking, ended_by, outcome, Found, shape_of, way_in}

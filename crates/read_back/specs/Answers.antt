@@ -8,9 +8,7 @@ use Rattle.sheet.specs.Machine.{Machine, machine}
 use Rattle.machine.specs.Readings.{reading_of, reading_cost}
 use Rattle.shortest_path.specs.Outcome.{tested_number}
 use Rattle.read_back.specs.declared.count.Counted.{Counted}
-use Rattle.read_back.specs.declared.count.Counted.TheVariants as Counted
 use Rattle.read_back.specs.declared.reading.Told.{Told}
-use Rattle.read_back.specs.declared.reading.Told.TheVariants as Told
 use Rattle.read_back.specs.Way.{count_in, is_list, way_of}
 use Rattle.read_back.specs.Follows.{if_reading}
 

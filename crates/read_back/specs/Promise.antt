@@ -9,9 +9,7 @@ use Rattle.machine.specs.Input.{input_number}
 use Rattle.search.specs.Listed.{list_of}
 use Rattle.shortest_path.specs.Outcome.{result_of, answer_of}
 use Rattle.read_back.specs.declared.count.Counted.{Counted}
-use Rattle.read_back.specs.declared.count.Counted.TheVariants as Counted
 use Rattle.read_back.specs.declared.reading.Told.{Told}
-use Rattle.read_back.specs.declared.reading.Told.TheVariants as Told
 use Rattle.read_back.specs.Answers.{reading_told}
 
 -- The result of the call for lists on an accepted sheet and n, with the counts that it told, and any bytes after it.

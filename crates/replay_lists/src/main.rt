@@ -5,12 +5,14 @@
 // the bytes of the answer, and what the case is. Prints the lines that differ, and how many there
 // were.
 #![tactic(auto)]
+
 ghost use Rattle.std.specs.Prelude.{◌≡◌, ◌+◌, ◌*◌};
 
-use libc::STDIN_FILENO;
 use list_answer::Listed;
+use std::io;
 use stored_cases::areas::{RESULT_MARK, WORK_MARK};
 use stored_cases::bytes::bytes_of;
+use stored_cases::input::{read_full, zeros};
 use stored_cases::lines::{field, line_end, number};
 use stored_cases::{areas, tally};
 use tropical_weight::{LINK_LIMIT, NODE_LIMIT};
@@ -103,19 +105,21 @@ fn holds(line: &[u8]) -> bool {
 }
 
 // Replays each line of a text.
-fn replay(text: &[u8]) {
+fn replay(rt: &impl Print, text: &[u8]) -> io::Result<()> {
     let mut told = tally::none();
     let mut at = 0usize;
     while at < text.len() {
         let end = line_end(text, at);
-        told = tally::counted(told, holds(&text[at..end]));
+        let held = holds(&text[at..end]);
+        told = tally::counted(told, held);
+        tally::tell(rt, told, held)?;
         at = end + 1;
     }
-    tally::print(told);
+    tally::print(rt, told)
 }
 
-fn main() {
-    let mut text = [0u8; 655360];
-    let n = io::read_full(STDIN_FILENO, &mut text);
-    replay(&text[..n]);
+fn main(rt: HostRuntime) -> io::Result<()> {
+    let mut text = zeros::<655360>();
+    let n = read_full(&mut rt.stdin(), &mut text)?;
+    replay(&rt, &text[..n])
 }

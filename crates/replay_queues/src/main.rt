@@ -4,15 +4,17 @@
 // A call is four words: which one, its node, the kind of its answer, and the answer's value. Prints
 // the lines that differ, and how many there were.
 #![tactic(auto)]
+
 ghost use Rattle.std.specs.Prelude.{◌+◌, ◌≤◌, length};
 
 mod calls;
 mod records;
 
-use libc::STDIN_FILENO;
 use sheet::words::word;
 use state_order_queue::Queue;
+use std::io;
 use stored_cases::bytes::bytes_of;
+use stored_cases::input::{read_full, zeros};
 use stored_cases::lines::{field, line_end};
 use stored_cases::tally;
 use tropical_weight::NODE_LIMIT;
@@ -68,19 +70,21 @@ fn holds(line: &[u8]) -> bool {
 }
 
 // Replays each line of a text.
-fn replay(text: &[u8]) {
+fn replay(rt: &impl Print, text: &[u8]) -> io::Result<()> {
     let mut told = tally::none();
     let mut at = 0usize;
     while at < text.len() {
         let end = line_end(text, at);
-        told = tally::counted(told, holds(&text[at..end]));
+        let held = holds(&text[at..end]);
+        told = tally::counted(told, held);
+        tally::tell(rt, told, held)?;
         at = end + 1;
     }
-    tally::print(told);
+    tally::print(rt, told)
 }
 
-fn main() {
-    let mut text = [0u8; 262144];
-    let n = io::read_full(STDIN_FILENO, &mut text);
-    replay(&text[..n]);
+fn main(rt: HostRuntime) -> io::Result<()> {
+    let mut text = zeros::<262144>();
+    let n = read_full(&mut rt.stdin(), &mut text)?;
+    replay(&rt, &text[..n])
 }

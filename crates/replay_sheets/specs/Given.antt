@@ -4,7 +4,6 @@ use Rattle.std.specs.Float.{binary32}
 use Rattle.std.specs.Float.Ieee.{to_bits}
 use Rattle.sheet.specs.declared.tr.Link.{Link}
 use Rattle.sheet.specs.declared.reader.Step.{Step}
-use Rattle.sheet.specs.declared.reader.Step.TheVariants as Step
 use Rattle.sheet.specs.Words.{word}
 use Rattle.sheet.specs.Reading.{next_link, place_at}
 

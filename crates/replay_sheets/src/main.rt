@@ -3,17 +3,19 @@
 // before it gives none, and what the case is, with a space between. tools/sheet_cases.py made them.
 // Prints the lines that differ, and how many there were.
 #![tactic(auto)]
+
 ghost use Rattle.std.specs.Prelude.{◌≡◌, true, ◌+◌, ◌≤◌, length};
 ghost use Rattle.replay_sheets.specs.Given.{SameFields, Given, Reads};
 
 mod readers;
 
-use libc::STDIN_FILENO;
 use sheet::read::Tested;
 use sheet::reader::Step;
 use sheet::tr::Link;
 use sheet::words::word;
+use std::io;
 use stored_cases::bytes::bytes_of;
+use stored_cases::input::{read_full, zeros};
 use stored_cases::lines::{field, line_end, number};
 use stored_cases::tally;
 
@@ -90,19 +92,21 @@ fn holds(line: &[u8]) -> bool {
 }
 
 // Replays each line of a text.
-fn replay(text: &[u8]) {
+fn replay(rt: &impl Print, text: &[u8]) -> io::Result<()> {
     let mut told = tally::none();
     let mut at = 0usize;
     while at < text.len() {
         let end = line_end(text, at);
-        told = tally::counted(told, holds(&text[at..end]));
+        let held = holds(&text[at..end]);
+        told = tally::counted(told, held);
+        tally::tell(rt, told, held)?;
         at = end + 1;
     }
-    tally::print(told);
+    tally::print(rt, told)
 }
 
-fn main() {
-    let mut text = [0u8; 524288];
-    let n = io::read_full(STDIN_FILENO, &mut text);
-    replay(&text[..n]);
+fn main(rt: HostRuntime) -> io::Result<()> {
+    let mut text = zeros::<524288>();
+    let n = read_full(&mut rt.stdin(), &mut text)?;
+    replay(&rt, &text[..n])
 }

@@ -54,9 +54,12 @@ module _ (bytes : List ℕ) (words : ℕ) (room : ℕ) where
   unfolding distance_number
   number-input n = ap (λ (b : Bool). cond (not b) (input_number bytes) (cond (ltb (words / 8) (slots_needed bytes)) 20 (cond (ltb room (length (answer_of bytes))) 21 0))) (ne_eqb (input_number bytes) 0 n)
 
-  number-state : input_number bytes ≡ 0 → distance_number bytes words room ≡ cond (ltb (words / 8) (slots_needed bytes)) 20 (cond (ltb room (length (answer_of bytes))) 21 0)
+  number-as : distance_number bytes words room ≡ cond (not (eqb (input_number bytes) 0)) (input_number bytes) (cond (ltb (words / 8) (slots_needed bytes)) 20 (cond (ltb room (length (answer_of bytes))) 21 0))
   unfolding distance_number
-  number-state e = ap (λ (k : ℕ). cond (not (eqb k 0)) k (cond (ltb (words / 8) (slots_needed bytes)) 20 (cond (ltb room (length (answer_of bytes))) 21 0))) e
+  number-as = refl
+
+  number-state : input_number bytes ≡ 0 → distance_number bytes words room ≡ cond (ltb (words / 8) (slots_needed bytes)) 20 (cond (ltb room (length (answer_of bytes))) 21 0)
+  number-state e = number-as ∙ ap (λ (k : ℕ). cond (not (eqb k 0)) k (cond (ltb (words / 8) (slots_needed bytes)) 20 (cond (ltb room (length (answer_of bytes))) 21 0))) e
 
 -- a slot and eight bytes a node are enough
 pub number-room : (bytes : List ℕ) (words room : ℕ) → input_number bytes ≡ 0 → 8 * slots_needed bytes ≤ words → 8 * slots_needed bytes ≤ room → distance_number bytes words room ≡ 0

@@ -31,7 +31,7 @@ use Rattle.machine.proofs.Parents.{best-infinite, best-finite}
 use Rattle.distance.specs.Held.{reached_in, distance_in}
 use Rattle.distance.proofs.Offers.{reached-held}
 use Rattle.search.specs.Reversed.{reversed}
-use Rattle.search.specs.Search.{most_taken, search, after}
+use Rattle.search.specs.Search.{most_taken, search}
 use Rattle.search.specs.ListMachine.{empty, result_by, result_for, trimmed}
 use Rattle.search.specs.States.{list_result}
 use Rattle.search.proofs.Lists.{Accepted, accepted, marked-few, some-listed}

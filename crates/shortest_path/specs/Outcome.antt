@@ -6,7 +6,6 @@ use Rattle.sheet.specs.Machine.{machine}
 use Rattle.slots.specs.Slots.{cleared}
 use Rattle.search.specs.ListMachine.{Result, result_for, result_bytes}
 use Rattle.list_answer.specs.declared.Listed.{Listed}
-use Rattle.list_answer.specs.declared.Listed.TheVariants as Listed
 use Rattle.list_answer.specs.ListAnswer.{slots_for}
 
 -- the result for n of a sheet's machine

@@ -9,7 +9,6 @@ use Rattle.search.specs.Reversed.{reversed}
 use Rattle.search.specs.Search.{stopped, most_taken, search, runs}
 use Rattle.search.specs.Listed.{list_of}
 use Rattle.list_answer.specs.declared.Listed.{Listed}
-use Rattle.list_answer.specs.declared.Listed.TheVariants as Listed
 
 -- the one reading, if there is one
 abbrev pub if_any : Option Reading → List Reading

@@ -1,5 +1,6 @@
 // Lists of the cheapest readings (shortest_path.rs of rustfst), in lent slots: the open call.
 #![tactic(auto)]
+
 ghost use Rattle.std.specs.Prelude.{◌≡◌, length};
 ghost use Rattle.sheet.specs.Records.{trailer_at};
 ghost use Rattle.machine.specs.Input.{input_number};

@@ -29,7 +29,6 @@ use Rattle.distance.specs.Held.{held, weight_in}
 use Rattle.distance.proofs.Offers.{weight-dist}
 use Rattle.shortest_distance.specs.NodeSlots.{distance_at}
 use Rattle.single_path.specs.declared.single.End.{End}
-use Rattle.single_path.specs.declared.single.End.TheVariants as End
 use Rattle.single_path.specs.SingleWords.{total_value, Best, best_below}
 
 -- the end at a node, or none

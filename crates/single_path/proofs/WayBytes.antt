@@ -26,7 +26,6 @@ use Rattle.search.specs.ListMachine.{Result, back_links, best_result, result_byt
 use Rattle.search.proofs.BackOne.{links-long, nodes-long, words_are}
 use Rattle.shortest_distance.specs.Handed.{handed_over}
 use Rattle.list_answer.specs.declared.Listed.{Listed}
-use Rattle.list_answer.specs.declared.Listed.TheVariants as Listed
 use Rattle.single_path.specs.SingleWords.{way_links, way_states, way_nodes, way_trailer, way_words, way_listed}
 use Rattle.list_answer.specs.ListAnswer.{listed_by, listed_in, listed_over}
 use Rattle.single_path.proofs.WriteTurns.{sets-words}

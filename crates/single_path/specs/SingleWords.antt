@@ -13,7 +13,6 @@ use Rattle.shortest_distance.specs.ParentWords.{parent_at}
 use Rattle.shortest_distance.specs.NodeSlots.{distance_at}
 use Rattle.list_answer.specs.declared.Listed.{Listed}
 use Rattle.single_path.specs.declared.single.End.{End}
-use Rattle.single_path.specs.declared.single.End.TheVariants as End
 use Rattle.list_answer.specs.ListAnswer.{listed_by}
 
 -- ---- the best end

@@ -1,9 +1,16 @@
 // What a program is given to read.
-ghost use Rattle.std.specs.Prelude.{IfOk};
+ghost use Rattle.std.specs.Prelude.{◌≡◌, IfOk, length};
 ghost use Rattle.io.specs.Counts.{IsPrefixLen};
 
 use std::io;
 use std::io::Read;
+
+// So many bytes, all zero.
+pub fn zeros<const N: usize>() -> [u8; N]
+    ensures { length result ≡ N }
+{
+    [0; N]
+}
 
 // Reads until the buffer is full or the input ends, and counts the bytes at the buffer's start.
 pub fn read_full(input: &mut impl Read, buf: &mut [u8]) -> io::Result<usize>

@@ -7,11 +7,9 @@ use lib.Dec.{eqb}
 use lib.ListN.{length}
 use borrow.Author.Tests.{lt-ltb, le-ltb, eqb-true}
 use Rattle.sheet.specs.declared.reader.Step.{Step}
-use Rattle.sheet.specs.declared.reader.Step.TheVariants as Step
 use Rattle.sheet.specs.Machine.{Machine, link_fields}
 use Rattle.machine.specs.Readings.{link}
 use Rattle.sheet_fields.specs.declared.nodes.NodeStep.{NodeStep}
-use Rattle.sheet_fields.specs.declared.nodes.NodeStep.TheVariants as NodeStep
 use Rattle.sheet_fields.specs.Counts.{counts_by}
 use Rattle.sheet_fields.specs.Fields.{fields_of_node, LinkOf, NodeOf}
 use Rattle.yeldmur.specs.Told.{counts_told, link_told, node_told, numbered}

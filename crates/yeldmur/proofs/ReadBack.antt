@@ -13,9 +13,7 @@ use Rattle.sheet.specs.Machine.{Machine, machine}
 use Rattle.machine.specs.Readings.{reading_of, reading_cost}
 use Rattle.search.specs.Listed.{list_of}
 use Rattle.read_back.specs.declared.count.Counted.{Counted}
-use Rattle.read_back.specs.declared.count.Counted.TheVariants as Counted
 use Rattle.read_back.specs.declared.reading.Told.{Told}
-use Rattle.read_back.specs.declared.reading.Told.TheVariants as Told
 use Rattle.read_back.specs.Way.{count_in}
 use Rattle.read_back.specs.Answers.{count_number, count_by, count_answer, held_reading, reading_number, run_in, told_by, reading_answer, run_after}
 use Rattle.read_back.specs.Promise.{CountsList, ReadsList, IsTrue, TellsTrue}

@@ -9,7 +9,6 @@ use Rattle.sheet.specs.declared.write.Written.TheVariants as Written
 use Rattle.sheet.specs.Sheet.{Parts}
 use Rattle.sheet.specs.Answers.{written_by}
 use Rattle.rows.specs.declared.converted.Converted.{Converted}
-use Rattle.rows.specs.declared.converted.Converted.TheVariants as Converted
 use Rattle.rows.specs.Answers.{converted_by}
 use Rattle.text_rows.proofs.Measuring.{in_room}
 use Rattle.shortest_distance.specs.declared.Distances.TheVariants as Distances

@@ -6,26 +6,16 @@ use Rattle.sheet.specs.Machine.{machine}
 use Rattle.machine.specs.Readings.{reading_of, reading_cost}
 use Rattle.search.specs.Listed.{list_of}
 use Rattle.sheet.specs.declared.write.Written.{Written}
-use Rattle.sheet.specs.declared.write.Written.TheVariants as Written
 use Rattle.rows.specs.declared.converted.Converted.{Converted}
-use Rattle.rows.specs.declared.converted.Converted.TheVariants as Converted
 use Rattle.shortest_distance.specs.declared.Distances.{Distances}
-use Rattle.shortest_distance.specs.declared.Distances.TheVariants as Distances
 use Rattle.list_answer.specs.declared.Listed.{Listed}
-use Rattle.list_answer.specs.declared.Listed.TheVariants as Listed
 use Rattle.sheet.specs.declared.reader.Step.{Step}
-use Rattle.sheet.specs.declared.reader.Step.TheVariants as Step
 use Rattle.sheet_fields.specs.declared.counts.SheetCounts.{SheetCounts}
-use Rattle.sheet_fields.specs.declared.counts.SheetCounts.TheVariants as SheetCounts
 use Rattle.sheet_fields.specs.declared.nodes.NodeStep.{NodeStep}
-use Rattle.sheet_fields.specs.declared.nodes.NodeStep.TheVariants as NodeStep
 use Rattle.sheet_fields.specs.Fields.{link_words, node_words}
 use Rattle.read_distance.specs.declared.DistanceTold.{DistanceTold}
-use Rattle.read_distance.specs.declared.DistanceTold.TheVariants as DistanceTold
 use Rattle.read_back.specs.declared.count.Counted.{Counted}
-use Rattle.read_back.specs.declared.count.Counted.TheVariants as Counted
 use Rattle.read_back.specs.declared.reading.Told.{Told}
-use Rattle.read_back.specs.declared.reading.Told.TheVariants as Told
 use Rattle.read_back.specs.Promise.{IsAnswer}
 
 -- of a sheet written, its bytes

@@ -2,6 +2,7 @@
 // and lists of the cheapest readings, in areas that the caller lends. Each function returns 0 or the number of the refusal, and then the
 // numbers behind its references keep their values.
 #![tactic(auto)]
+
 ghost use Rattle.std.specs.Prelude.{◌≡◌, cond, List, [], ◌∷◌, ℕ, ◌≤◌, ◌<◌, eqb, length};
 ghost use Rattle.tropical_weight.specs.Limits.{node_limit, link_limit, list_limit};
 ghost use Rattle.sheet.specs.Sheet.{read_number, write_number};

@@ -12,7 +12,6 @@ use Rattle.slots.specs.Slots.{cleared}
 use Rattle.shortest_path.specs.Outcome.{slots_needed}
 use Rattle.shortest_path.proofs.Joining.{few-nodes, few-links, slots_same}
 use Rattle.shortest_path.proofs.Outcomes.{outcome-7, outcome-20, outcome-made, beyond-part}
-use borrow.Author.Rules.{rules}
 use Rattle.shortest_path.proofs.lists_of.Goals as goal
 use Rattle.shortest_path.proofs.lists_of.Lts
 use Rattle.shortest_path.proofs.lists_of.Reads

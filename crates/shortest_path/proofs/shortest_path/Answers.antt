@@ -8,7 +8,6 @@ use Rattle.shortest_path.specs.Outcome.{result_after}
 use Rattle.shortest_path.specs.Promise.{Promised}
 use Rattle.shortest_path.proofs.Outcomes.{outcome-input}
 use Rattle.shortest_path.proofs.Promises.{promised}
-use borrow.Author.Rules.{rules}
 use Rattle.shortest_path.proofs.shortest_path.Goals as goal
 
 pub lists_of-requires : goal.lists_of-requires

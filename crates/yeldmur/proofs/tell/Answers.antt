@@ -1,7 +1,6 @@
 use mathlib.Core.Path.{sym, ap}
 use Rattle.rows.specs.declared.converted.Converted.{Converted}
 use Rattle.yeldmur.specs.Told.{converted_told}
-use borrow.Author.Rules.{rules}
 use Rattle.yeldmur.proofs.tell.Goals as goal
 
 pub returns-in-Refused : goal.returns-in-Refused

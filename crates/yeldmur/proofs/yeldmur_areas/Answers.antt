@@ -15,7 +15,6 @@ use Rattle.shortest_path.proofs.Outcomes.{tested-input}
 use Rattle.yeldmur.specs.Areas.{bytes_enough}
 use Rattle.yeldmur.proofs.Telling.{kept}
 use Rattle.yeldmur.proofs.Room.{number_same, slots-told, bytes-told, own-counts}
-use borrow.Author.Rules.{rules}
 use Rattle.yeldmur.proofs.yeldmur_areas.Goals as goal
 use Rattle.yeldmur.proofs.yeldmur_areas.Lts
 use Rattle.yeldmur.proofs.yeldmur_areas.Reads

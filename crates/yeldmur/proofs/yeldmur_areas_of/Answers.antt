@@ -3,7 +3,6 @@ use native.Mathlib.Omega.{arith}
 use Rattle.list_answer.specs.ListAnswer.{slots_of}
 use Rattle.yeldmur.specs.Areas.{bytes_of, finals_of}
 use Rattle.yeldmur.proofs.Room.{counts-nodes, counts-links, counts-n, counts_zero, serves}
-use borrow.Author.Rules.{rules}
 use Rattle.yeldmur.proofs.yeldmur_areas_of.Goals as goal
 
 pub returns-then-nodes-gt-NODE_LIMIT : goal.returns-then-nodes-gt-NODE_LIMIT

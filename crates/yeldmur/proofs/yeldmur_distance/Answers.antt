@@ -26,21 +26,21 @@ pub returns-in-Reached : goal.returns-in-Reached
 returns-in-Reached c =
     let a = c.args in
     let units = c.in-Reached.units in
-    let fits : SFits w32 units = search rules in 
-    let told = answer a.res.now a.values a.node a.reached.now a.cost.now c.distance_at.result c.distance_at.ensures _
+    let fits : SFits w32 units = search rules in
+    let told = answer a.res.now a.values a.node a.reached.now a.cost.now c.distance_at.result (c.distance_at.ensures.value, c.distance_at.ensures.read_back) _
     (ap {B = ℕ × ℕ × ℤ} (λ z. (0, 1, z)) (to_z-of_z w32 units fits) ∙ sym (ap (λ (d : DistanceTold). node_distance_told d a.reached.now a.cost.now) c.in-Reached.is)) in
     record { cost_after = told.0; by_index = told.1 }
 
 pub returns-in-Unreached : goal.returns-in-Unreached
 returns-in-Unreached c =
-    let a = c.args in 
-    let told = answer a.res.now a.values a.node a.reached.now a.cost.now c.distance_at.result c.distance_at.ensures _
+    let a = c.args in
+    let told = answer a.res.now a.values a.node a.reached.now a.cost.now c.distance_at.result (c.distance_at.ensures.value, c.distance_at.ensures.read_back) _
     (sym (ap (λ (d : DistanceTold). node_distance_told d a.reached.now a.cost.now) c.in-Unreached.is)) in
     record { cost_after = told.0; by_index = told.1 }
 
 pub returns-in-Refused : goal.returns-in-Refused
 returns-in-Refused c =
-    let a = c.args in 
-    let told = answer a.res.now a.values a.node a.reached.now a.cost.now c.distance_at.result c.distance_at.ensures _
+    let a = c.args in
+    let told = answer a.res.now a.values a.node a.reached.now a.cost.now c.distance_at.result (c.distance_at.ensures.value, c.distance_at.ensures.read_back) _
     (sym (ap (λ (d : DistanceTold). node_distance_told d a.reached.now a.cost.now) c.in-Refused.is)) in
     record { cost_after = told.0; by_index = told.1 }

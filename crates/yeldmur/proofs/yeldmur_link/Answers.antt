@@ -10,7 +10,6 @@ use Rattle.machine.specs.Readings.{link}
 use Rattle.sheet_fields.proofs.Passed.{link-told}
 use Rattle.yeldmur.specs.Told.{link_told, numbered}
 use Rattle.yeldmur.proofs.Numbered.{link-numbered}
-use borrow.Author.Rules.{rules}
 use Rattle.yeldmur.proofs.yeldmur_link.Goals as goal
 
 -- an answer told by numbers, with what it is of an accepted sheet
@@ -24,7 +23,7 @@ pub returns-in-Link : goal.returns-in-Link
 returns-in-Link c =
     let a = c.args in
     let k = c.in-Link.link in
-    let old = a.ilabel.now ∷ a.olabel.now ∷ a.weight-bits.now ∷ a.next.now ∷ [] in 
+    let old = a.ilabel.now ∷ a.olabel.now ∷ a.weight_bits.now ∷ a.next.now ∷ [] in
     let told = answer a.sheet.now a.number old c.link_or_end.result c.link_or_end.ensures _
     ((λ i. 0 ∷ k.ilabel ∷ k.olabel ∷ c.to_bits.ensures i ∷ k.nextstate ∷ []) ∙ sym (ap (λ (s : Step). link_told s old) c.in-Link.is)) in
     record { next_after = told.0; next_after_2 = told.1 }
@@ -32,7 +31,7 @@ returns-in-Link c =
 pub returns-in-End : goal.returns-in-End
 returns-in-End c =
     let a = c.args in
-    let old = a.ilabel.now ∷ a.olabel.now ∷ a.weight-bits.now ∷ a.next.now ∷ [] in 
+    let old = a.ilabel.now ∷ a.olabel.now ∷ a.weight_bits.now ∷ a.next.now ∷ [] in
     let told = answer a.sheet.now a.number old c.link_or_end.result c.link_or_end.ensures _
     (sym (ap (λ (s : Step). link_told s old) c.in-End.is)) in
     record { next_after = told.0; next_after_2 = told.1 }

@@ -9,7 +9,6 @@ use Rattle.sheet_fields.specs.Nodes.{next_node}
 use Rattle.sheet_fields.specs.Fields.{fields_of_node, NodeOf}
 use Rattle.yeldmur.specs.Told.{node_told, numbered}
 use Rattle.yeldmur.proofs.Numbered.{node-numbered}
-use borrow.Author.Rules.{rules}
 use Rattle.yeldmur.proofs.yeldmur_node.Goals as goal
 
 -- an answer told by numbers, with what it is of an accepted sheet
@@ -21,15 +20,15 @@ pub returns-in-Node : goal.returns-in-Node
 returns-in-Node c =
     let a = c.args in
     let n = c.in-Node.node in
-    let old = a.links.now ∷ a.mark.now ∷ a.weight-bits.now ∷ [] in 
-    let told = answer a.sheet.now a.number old c.node_or_end.result c.node_or_end.ensures _
+    let old = a.links.now ∷ a.mark.now ∷ a.weight_bits.now ∷ [] in
+    let told = answer a.sheet.now a.number old c.node_or_end.result (c.node_or_end.ensures.value, c.node_or_end.ensures.node_of) _
     ((λ i. 0 ∷ n.links ∷ n.mark ∷ c.to_bits.ensures i ∷ []) ∙ sym (ap (λ (s : NodeStep). node_told s old) c.in-Node.is)) in
     record { weight_bits_after = told.0; weight_bits_after_2 = told.1 }
 
 pub returns-in-End : goal.returns-in-End
 returns-in-End c =
     let a = c.args in
-    let old = a.links.now ∷ a.mark.now ∷ a.weight-bits.now ∷ [] in 
-    let told = answer a.sheet.now a.number old c.node_or_end.result c.node_or_end.ensures _
+    let old = a.links.now ∷ a.mark.now ∷ a.weight_bits.now ∷ [] in
+    let told = answer a.sheet.now a.number old c.node_or_end.result (c.node_or_end.ensures.value, c.node_or_end.ensures.node_of) _
     (sym (ap (λ (s : NodeStep). node_told s old) c.in-End.is)) in
     record { weight_bits_after = told.0; weight_bits_after_2 = told.1 }

@@ -1,7 +1,6 @@
 use mathlib.Core.Path.{sym, ◌∙◌}
 use Rattle.sheet.specs.Sheet.{read_number}
 use Rattle.machine.proofs.Testing.{accepted-number, refused-number}
-use borrow.Author.Rules.{rules}
 use Rattle.yeldmur.proofs.yeldmur_read_sheet.Goals as goal
 
 pub returns-in-Accepted : goal.returns-in-Accepted

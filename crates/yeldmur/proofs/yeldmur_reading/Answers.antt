@@ -14,15 +14,15 @@ pub returns-in-Reading : goal.returns-in-Reading
 returns-in-Reading c =
     let a = c.args in
     let e = c.reading.ensures in
-    let given = c.numbers-1.given in
-    let fits : SFits w32 given.0.1.0 = search rules in
-    let told = ap {B = ℕ × ℕ × ℤ × ℕ} (λ (z : ℤ). (0, given.0.0, z, given.0.1.1.0)) (to_z-of_z w32 given.0.1.0 fits) ∙ sym (ap (λ (t : Told). told_reading t a.count.now a.cost.now a.end.now) given.1) in 
-    let told = reading-all a.sheet.now a.n a.res.now a.states a.links a.k a.run.now _ _ e.reads_list e.tells_true _ _ _ _ a.count.now a.cost.now a.end.now e.value e.run_new told in
+    let given = c.in-Reading in
+    let fits : SFits w32 given.units = search rules in
+    let numbers = ap {B = ℕ × ℕ × ℤ × ℕ} (λ (z : ℤ). (0, given.numbers, z, given.node)) (to_z-of_z w32 given.units fits) ∙ sym (ap (λ (t : Told). told_reading t a.count.now a.cost.now a.end.now) given.is) in
+    let told = reading-all a.sheet.now a.n a.res.now a.states a.links a.k a.run.now _ _ e.reads_list e.tells_true _ _ _ _ a.count.now a.cost.now a.end.now e.value e.run_new numbers in
     record { value = told.0; end_after = told.1.0; run_new = told.1.1.0; succeeds = told.1.1.1.0; reading_told_is = told.1.1.1.1 }
 
 pub returns-in-Refused : goal.returns-in-Refused
 returns-in-Refused c =
     let a = c.args in
-    let e = c.reading.ensures in 
+    let e = c.reading.ensures in
     let told = reading-all a.sheet.now a.n a.res.now a.states a.links a.k a.run.now _ _ e.reads_list e.tells_true _ _ _ _ a.count.now a.cost.now a.end.now e.value e.run_new (sym (ap (λ (t : Told). told_reading t a.count.now a.cost.now a.end.now) c.in-Refused.is)) in
     record { value = told.0; end_after = told.1.0; run_new = told.1.1.0; succeeds = told.1.1.1.0; reading_told_is = told.1.1.1.1 }

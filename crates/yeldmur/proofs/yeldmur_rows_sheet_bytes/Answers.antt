@@ -4,7 +4,6 @@ use Rattle.text_rows.specs.Convert.{rows_number, length_of, rows_in}
 use Rattle.text_rows.proofs.Measuring.{rows-in-room}
 use Rattle.yeldmur.specs.Told.{converted_told}
 use Rattle.yeldmur.proofs.Telling.{told-in-room}
-use borrow.Author.Rules.{rules}
 use Rattle.yeldmur.proofs.yeldmur_rows_sheet_bytes.Goals as goal
 
 pub returns : goal.returns

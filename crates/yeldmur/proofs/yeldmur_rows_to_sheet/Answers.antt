@@ -5,7 +5,6 @@ use Rattle.rows.specs.declared.converted.Converted.{Converted}
 use Rattle.text_rows.specs.Convert.{rows_number, length_of, rows_in}
 use Rattle.yeldmur.specs.Told.{converted_told}
 use Rattle.yeldmur.proofs.Telling.{converted-number, length-told}
-use borrow.Author.Rules.{rules}
 use Rattle.yeldmur.proofs.yeldmur_rows_to_sheet.Goals as goal
 
 pub returns : goal.returns

@@ -6,7 +6,6 @@ use Rattle.text_rows.specs.Written.{text_of, text_number}
 use Rattle.text_rows.proofs.Measuring.{text_in-room}
 use Rattle.yeldmur.specs.Told.{converted_told}
 use Rattle.yeldmur.proofs.Telling.{told-in-room}
-use borrow.Author.Rules.{rules}
 use Rattle.yeldmur.proofs.yeldmur_sheet_rows_bytes.Goals as goal
 
 pub returns : goal.returns

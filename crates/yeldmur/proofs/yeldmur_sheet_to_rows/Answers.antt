@@ -6,7 +6,6 @@ use Rattle.rows.specs.declared.converted.Converted.{Converted}
 use Rattle.text_rows.specs.Written.{text_of, text_number}
 use Rattle.yeldmur.specs.Told.{converted_told}
 use Rattle.yeldmur.proofs.Telling.{converted-number, length-told, told-refused}
-use borrow.Author.Rules.{rules}
 use Rattle.yeldmur.proofs.yeldmur_sheet_to_rows.Goals as goal
 
 pub returns : goal.returns

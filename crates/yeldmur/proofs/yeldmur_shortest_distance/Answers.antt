@@ -6,7 +6,6 @@ use Rattle.shortest_distance.specs.Outcome.{distance_number}
 use Rattle.shortest_distance.specs.Promise.{Promised}
 use Rattle.yeldmur.specs.Told.{distances_told}
 use Rattle.yeldmur.proofs.Telling.{told, distances-number, distances-refused}
-use borrow.Author.Rules.{rules}
 use Rattle.yeldmur.proofs.yeldmur_shortest_distance.Goals as goal
 
 pub returns-in-Count : goal.returns-in-Count

@@ -4,7 +4,6 @@ use Rattle.shortest_path.specs.Outcome.{result_of, list_number}
 use Rattle.shortest_path.specs.Promise.{Promised}
 use Rattle.yeldmur.specs.Told.{listed_told}
 use Rattle.yeldmur.proofs.Telling.{told, listed-number, listed-refused}
-use borrow.Author.Rules.{rules}
 use Rattle.yeldmur.proofs.yeldmur_shortest_path.Goals as goal
 
 pub returns-in-Made : goal.returns-in-Made

@@ -4,7 +4,6 @@ use Rattle.sheet.specs.Sheet.{write_number}
 use Rattle.sheet.specs.Answers.{parts}
 use Rattle.yeldmur.specs.Told.{written_told}
 use Rattle.yeldmur.proofs.Telling.{told, written-number, written-refused}
-use borrow.Author.Rules.{rules}
 use Rattle.yeldmur.proofs.yeldmur_write_sheet.Goals as goal
 
 pub returns-in-Length : goal.returns-in-Length

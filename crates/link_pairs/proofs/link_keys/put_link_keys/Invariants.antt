@@ -1,22 +1,11 @@
-use borrow.Author.Rules.{rules}
-use mathlib.Core.Path.{◌≡◌, refl, sym, ap, ◌∙◌}
-use mathlib.Core.List.{List}
-use Prim.Native.Nat.{ℕ, suc, ◌+◌, ◌-◌, ◌*◌, ◌≤◌, ◌<◌}
-use native.Mathlib.Numerals.{add-one}
-use native.Mathlib.Omega.{arith}
-use lib.ListN.{length, set, length-set}
+use mathlib.Core.Path.{◌≡◌}
+use Prim.Native.Nat.{◌-◌, ◌≤◌}
+use lib.ListN.{length}
 use lib.Seq.{sets}
-use Rattle.sheet.specs.Below.{list_below, sum_below}
-use Rattle.sheet.specs.Words.{word}
-use Rattle.sheet.specs.Records.{first_link, count_at}
+use Rattle.sheet.specs.Below.{list_below}
+use Rattle.sheet.specs.Records.{first_link}
 use Rattle.sheet.specs.Machine.{machine}
-use Rattle.machine.proofs.SheetFields.{SheetFields, fields-for, next-first, first-in}
-use Rattle.product.specs.Keys.{link_key}
-use Rattle.link_pairs.proofs.LinkKeys.{key_at, node-keys, all-keys}
-use Rattle.link_pairs.proofs.link_keys.put_link_keys.Reads as reads
-use Rattle.link_pairs.proofs.link_keys.put_link_keys.Lts as lts
-use Rattle.link_pairs.proofs.link_keys.put_node_keys.Reads as put-node-keys-reads
-use Rattle.sheet.proofs.words.word.Reads as word-reads
+use Rattle.link_pairs.proofs.LinkKeys.{key_at}
 use Rattle.link_pairs.proofs.link_keys.put_link_keys.Given as goal
 
 abbrev pub invariant-loop-v : goal.invariant-loop-v

@@ -1,26 +1,18 @@
-use mathlib.Core.Path.{◌≡◌, refl, sym, ap, ◌∙◌}
-use mathlib.Core.List.{List}
-use Prim.Native.Nat.{ℕ, ◌+◌, ◌-◌, ◌*◌, ◌≤◌, ◌<◌}
+use mathlib.Core.Path.{◌≡◌, refl, ap, ◌∙◌}
+use Prim.Native.Nat.{ℕ, ◌+◌, ◌*◌}
 use native.Mathlib.Omega.{arith}
-use lib.ListN.{length, set, length-set}
+use lib.ListN.{set, length-set}
 use lib.Seq.{sets}
 use Rattle.sheet.specs.Below.{list_below}
 use Rattle.sheet.specs.Words.{word}
 use Rattle.product.specs.Keys.{link_key}
 use Rattle.link_pairs.proofs.Storing.{sets_below}
-use borrow.Author.Rules.{rules}
-use Rattle.link_pairs.proofs.link_keys.put_node_keys.Reads as reads
-use Rattle.link_pairs.proofs.link_keys.put_node_keys.Lts as lts
-use Rattle.product.proofs.keys.link_key.Reads as link-key-reads
-use Rattle.sheet.proofs.words.word.Reads as word-reads
 use Rattle.link_pairs.proofs.link_keys.put_node_keys.Goals as goal
 
--- src/link_keys.rt:24:5
 pub loop-i-init : goal.loop-i-init
 unfolding list_below
 loop-i-init c = (omega arith, refl, refl)
 
--- src/link_keys.rt:24:5
 pub loop-i-preserved : goal.loop-i-preserved
 loop-i-preserved c =
     let turn = c.loop-i in
@@ -32,7 +24,6 @@ loop-i-preserved c =
       (λ j. set (turn.invariant.2 j) (args.first + turn.i) (made j)) ∙ sets_below args.keys.now args.first turn.i key,
     )
 
--- src/link_keys.rt:18:1
 pub returns : goal.returns
 returns c =
     let args = c.args in

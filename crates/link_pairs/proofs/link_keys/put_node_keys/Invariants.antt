@@ -1,18 +1,10 @@
-use mathlib.Core.Path.{◌≡◌, refl, sym, ap, ◌∙◌}
-use mathlib.Core.List.{List}
-use Prim.Native.Nat.{ℕ, ◌+◌, ◌-◌, ◌*◌, ◌≤◌, ◌<◌}
-use native.Mathlib.Omega.{arith}
-use lib.ListN.{length, set, length-set}
+use mathlib.Core.Path.{◌≡◌}
+use Prim.Native.Nat.{◌+◌, ◌-◌, ◌*◌, ◌≤◌}
+use lib.ListN.{length}
 use lib.Seq.{sets}
 use Rattle.sheet.specs.Below.{list_below}
 use Rattle.sheet.specs.Words.{word}
 use Rattle.product.specs.Keys.{link_key}
-use Rattle.link_pairs.proofs.Storing.{sets_below}
-use borrow.Author.Rules.{rules}
-use Rattle.link_pairs.proofs.link_keys.put_node_keys.Reads as reads
-use Rattle.link_pairs.proofs.link_keys.put_node_keys.Lts as lts
-use Rattle.product.proofs.keys.link_key.Reads as link-key-reads
-use Rattle.sheet.proofs.words.word.Reads as word-reads
 use Rattle.link_pairs.proofs.link_keys.put_node_keys.Given as goal
 
 abbrev pub invariant-loop-i : goal.invariant-loop-i

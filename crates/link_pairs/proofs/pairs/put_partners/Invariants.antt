@@ -1,26 +1,11 @@
-use mathlib.Core.Path.{◌≡◌, refl, sym, ap, ◌∙◌, subst}
-use mathlib.Core.List.{List, [], ◌∷◌, ◌++◌, map, append_assoc, append-nil}
-use Prim.Native.Nat.{ℕ, ◌+◌, ◌-◌, ◌*◌, ◌≤◌, ◌<◌}
-use native.Mathlib.Nat.{mul-le-mul}
-use native.Mathlib.Omega.{arith}
-use lib.ListN.{length, get_or, set, take, drop, length-set, length-append}
-use lib.Seq.{sets, length-take-le, get_or-take, drop-length}
-use Rattle.tropical_weight.specs.Limits.{node_limit, link_limit}
-use Rattle.sorted_keys.specs.Sorted.{FirstAtLeast}
-use Rattle.product.specs.Keys.{link_key, key_label, key_node, key_link, pair_key}
+use mathlib.Core.Path.{◌≡◌}
+use mathlib.Core.List.{List, ◌++◌, map}
+use Prim.Native.Nat.{ℕ, ◌+◌, ◌-◌, ◌≤◌, ◌<◌}
+use lib.ListN.{length, get_or, take, drop}
+use lib.Seq.{sets}
+use Rattle.tropical_weight.specs.Limits.{link_limit}
+use Rattle.product.specs.Keys.{link_key, key_label}
 use Rattle.link_pairs.specs.Found.{partners, pair_of, pairs_of}
-use Rattle.link_pairs.proofs.Storing.{sets_more}
-use Rattle.link_pairs.proofs.Partners.{partners-from, partners-next, partners-over, partners-end}
-use Rattle.link_pairs.proofs.Placing.{put_all, put-past}
-use borrow.Author.Rules.{rules}
-use Rattle.link_pairs.proofs.pairs.put_partners.Reads as reads
-use Rattle.link_pairs.proofs.pairs.put_partners.Lts as lts
-use Rattle.product.proofs.keys.key_label.Reads as key-label-reads
-use Rattle.product.proofs.keys.key_link.Reads as key-link-reads
-use Rattle.product.proofs.keys.key_node.Reads as key-node-reads
-use Rattle.product.proofs.keys.least_alike.Reads as least-alike-reads
-use Rattle.product.proofs.keys.pair_key.Reads as pair-key-reads
-use Rattle.sorted_keys.proofs.first_at_least.Reads as first-at-least-reads
 use Rattle.link_pairs.proofs.pairs.put_partners.Given as goal
 
 abbrev pub invariant-loop-k : goal.invariant-loop-k

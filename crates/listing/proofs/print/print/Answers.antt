@@ -8,7 +8,6 @@ use Rattle.io.specs.Counts.{IsPrefixLen}
 use Rattle.listing.specs.Text.{refused_line}
 use Rattle.decimals.proofs.Storing.{puts-same}
 use Rattle.listing.proofs.Printing.{behind, printed-none, printed-some, printed-long, printed-large}
-use borrow.Author.Rules.{rules}
 use Rattle.listing.proofs.print.print.Goals as goal
 
 -- a count within an area

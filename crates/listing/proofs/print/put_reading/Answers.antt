@@ -21,7 +21,7 @@ overflow_add-k c =
     let r = c.before.before.before.before.before.before.before.before.before in
     let a = r.args in
     let below : Below 256 a.sheet.now = λ i. omega (arith, c.type_inv.sheet i) in
-    omega (arith, r.requires.answer.1, held-few a.sheet.now below a.n a.result.now a.nodes a.links r.requires.answer.0, r.requires.answer.0.few)
+    omega (arith, r.requires.answer.1, held-few a.sheet.now below a.n a.res.now a.nodes a.links r.requires.answer.0, r.requires.answer.0.few)
 
 pub put_line-requires : goal.put_line-requires
 put_line-requires c =
@@ -34,13 +34,13 @@ put_line-requires c =
     let back = c.reading in
     let run = back.new.run in
     let size = length-replicate {A = ℕ} run_most 0 in
-    let told = held-told a.sheet.now below a.n a.result.now a.nodes a.links h a.k k (replicate run_most 0) back.result run r.requires.sheet_len_bound.0 size back.ensures.reads_list in
-    let given = c.count-1.given in
-    let parts = told-parts m (get_or (list_for m a.n) a.k []) given.0.0 given.0.1.0 given.0.1.1.0 (sym given.1 ∙ told.0) in
-    let short : given.0.0 ≤ run_most = omega (arith, parts.0, held-short a.sheet.now below a.n a.result.now a.nodes a.links h a.k k r.requires.sheet_len_bound.0) in
-    let room : given.0.0 ≤ length {A = ℕ} (replicate run_most 0) = omega (arith, short, size) in record {
+    let told = held-told a.sheet.now below a.n a.res.now a.nodes a.links h a.k k (replicate run_most 0) back.result run r.requires.sheet_len_bound.0 size back.ensures.reads_list in
+    let given = c.in-Reading in
+    let parts = told-parts m (get_or (list_for m a.n) a.k []) given.count given.cost given.field-2 (sym given.is ∙ told.0) in
+    let short : given.count ≤ run_most = omega (arith, parts.0, held-short a.sheet.now below a.n a.res.now a.nodes a.links h a.k k r.requires.sheet_len_bound.0) in
+    let room : given.count ≤ length {A = ℕ} (replicate run_most 0) = omega (arith, short, size) in record {
       count_in_bounds = omega (arith, room, size, back.auto.run);
-      by_index = front-in a.sheet.now below a.n a.result.now a.nodes a.links h a.k k (replicate run_most 0) run given.0.0 parts.0 told.1 room;
+      by_index = front-in a.sheet.now below a.n a.res.now a.nodes a.links h a.k k (replicate run_most 0) run given.count parts.0 told.1 room;
       count_in_bounds_2 = omega (arith, short, r.requires.sheet_len_bound.1);
     }
 
@@ -55,16 +55,16 @@ returns-in-Reading c =
     let back = c.reading in
     let run = back.new.run in
     let size = length-replicate {A = ℕ} run_most 0 in
-    let told = held-told a.sheet.now below a.n a.result.now a.nodes a.links h a.k k (replicate run_most 0) back.result run r.requires.sheet_len_bound.0 size back.ensures.reads_list in
-    let given = c.count-1.given in
-    let parts = told-parts m (get_or (list_for m a.n) a.k []) given.0.0 given.0.1.0 given.0.1.1.0 (sym given.1 ∙ told.0) in
-    let short : given.0.0 ≤ run_most = omega (arith, parts.0, held-short a.sheet.now below a.n a.result.now a.nodes a.links h a.k k r.requires.sheet_len_bound.0) in
-    let room : given.0.0 ≤ length {A = ℕ} (replicate run_most 0) = omega (arith, short, size) in
+    let told = held-told a.sheet.now below a.n a.res.now a.nodes a.links h a.k k (replicate run_most 0) back.result run r.requires.sheet_len_bound.0 size back.ensures.reads_list in
+    let given = c.in-Reading in
+    let parts = told-parts m (get_or (list_for m a.n) a.k []) given.count given.cost given.field-2 (sym given.is ∙ told.0) in
+    let short : given.count ≤ run_most = omega (arith, parts.0, held-short a.sheet.now below a.n a.res.now a.nodes a.links h a.k k r.requires.sheet_len_bound.0) in
+    let room : given.count ≤ length {A = ℕ} (replicate run_most 0) = omega (arith, short, size) in
     let e = c.put_line.ensures in
-    let line = line-is a.sheet.now below a.n a.result.now a.nodes a.links h a.k k (replicate run_most 0) run given.0.0 parts.0 told.1 room (a.k + 1) in
-    let fits : SFits w32 given.0.1.0 = search rules in
-    let cost = to_z-of_z w32 given.0.1.0 fits in
-    (puts-same (ap (λ (z : ℤ). line_of (a.k + 1) z (labels_of a.sheet.now (take given.0.0 run))) (cost ∙ parts.1) ∙ line) e.puts, omega (arith, e.upper_bound, short))
+    let line = line-is a.sheet.now below a.n a.res.now a.nodes a.links h a.k k (replicate run_most 0) run given.count parts.0 told.1 room (a.k + 1) in
+    let fits : SFits w32 given.cost = search rules in
+    let cost = to_z-of_z w32 given.cost fits in
+    (puts-same (ap (λ (z : ℤ). line_of (a.k + 1) z (labels_of a.sheet.now (take given.count run))) (cost ∙ parts.1) ∙ line) e.puts, omega (arith, e.upper_bound, short))
 
 pub returns-in-Refused : goal.returns-in-Refused
 returns-in-Refused c =
@@ -77,5 +77,5 @@ returns-in-Refused c =
     let back = c.reading in
     let run = back.new.run in
     let size = length-replicate {A = ℕ} run_most 0 in
-    let told = held-told a.sheet.now below a.n a.result.now a.nodes a.links h a.k k (replicate run_most 0) back.result run r.requires.sheet_len_bound.0 size back.ensures.reads_list in
+    let told = held-told a.sheet.now below a.n a.res.now a.nodes a.links h a.k k (replicate run_most 0) back.result run r.requires.sheet_len_bound.0 size back.ensures.reads_list in
     absurd (told-reading m (get_or (list_for m a.n) a.k []) _ (sym c.in-Refused.is ∙ told.0))

@@ -3,13 +3,9 @@ use native.Mathlib.Omega.{arith}
 use Prim.Native.Nat.{◌<◌}
 use Rattle.decimals.proofs.Storing.{puts-same, puts_then}
 use Rattle.listing.proofs.Listings.{lines_none, lines_next, lines-all}
-use Prim.Native.Nat.{◌+◌, ◌-◌, ◌*◌, ◌≤◌}
-use mathlib.Core.Path.{◌≡◌}
-use lib.ListN.{length, take}
+use lib.ListN.{length}
 use Rattle.sheet.specs.Machine.{machine}
-use Rattle.decimals.specs.Stored.{Puts}
-use Rattle.listing.specs.Printed.{line_most, list_for, reading_lines}
-use borrow.Author.Rules.{rules}
+use Rattle.listing.specs.Printed.{list_for}
 use Rattle.listing.proofs.print.put_readings.Goals as goal
 
 pub loop-k-init : goal.loop-k-init

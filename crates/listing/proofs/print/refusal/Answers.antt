@@ -2,7 +2,6 @@ use mathlib.Core.Path.{sym, ◌∙◌}
 use Rattle.machine.specs.Input.{input_number}
 use Rattle.machine.proofs.Testing.{accepted-number, refused-number}
 use Rattle.shortest_path.proofs.Outcomes.{tested-input, tested-seven, tested-last}
-use borrow.Author.Rules.{rules}
 use Rattle.listing.proofs.print.refusal.Goals as goal
 
 pub returns-in-Refused : goal.returns-in-Refused

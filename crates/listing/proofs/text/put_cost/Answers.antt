@@ -11,7 +11,6 @@ use Rattle.decimals.specs.Decimal.{decimal}
 use Rattle.listing.specs.Text.{minus, signed}
 use Rattle.listing.proofs.Signs.{signed-minus, signed-plain}
 use Rattle.decimals.proofs.Storing.{puts-same, puts_then}
-use borrow.Author.Rules.{rules}
 use Rattle.listing.proofs.text.put_cost.Goals as goal
 
 pub returns-then-cost-lt0 : goal.returns-then-cost-lt0

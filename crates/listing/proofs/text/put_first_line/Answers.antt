@@ -1,7 +1,6 @@
 use native.Mathlib.Omega.{arith}
 use Rattle.listing.specs.Text.{first_line}
 use Rattle.decimals.proofs.Storing.{puts_then}
-use borrow.Author.Rules.{rules}
 use Rattle.listing.proofs.text.put_first_line.Goals as goal
 
 pub returns : goal.returns

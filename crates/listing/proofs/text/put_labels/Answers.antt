@@ -1,10 +1,6 @@
 use mathlib.Core.Path.{◌≡◌, ◌∙◌}
 use mathlib.Core.List.{flat_map}
-use Prim.Native.Nat.{◌+◌, ◌-◌, ◌*◌, ◌≤◌}
 use native.Mathlib.Omega.{arith}
-use lib.ListN.{length, take}
-use Rattle.decimals.specs.Stored.{Puts}
-use Rattle.listing.specs.Text.{label_text, labels_of}
 use Rattle.listing.proofs.Labels.{puts-label}
 use borrow.Author.Rules.{rules}
 use Rattle.listing.proofs.text.put_labels.Goals as goal

@@ -11,10 +11,10 @@ use Rattle.listing.proofs.text.put_line.Goals as goal
 
 pub put_labels-next-requires : goal.put_labels-next-requires
 put_labels-next-requires c = record {
-      count_in_bounds = search rules;
-      by_index = c.requires.by_index;
-      count_in_bounds_2 = search rules;
-    }
+  count_in_bounds = search rules;
+  by_index = c.requires.by_index;
+  count_in_bounds_2 = search rules;
+}
 
 pub returns : goal.returns
 unfolding line_of

@@ -11,7 +11,6 @@ use Rattle.sheet.specs.declared.tr.Node.{Node}
 use Rattle.sheet.specs.Words.{word}
 use Rattle.read_back.proofs.RunCosts.{link-in-sheet, end-in-sheet, cost-answers}
 use borrow.Author.Rules.{sfits_of}
-use borrow.Author.Rules.{rules}
 use Rattle.read_back.proofs.cost.cost_of.Goals as goal
 
 pub run_sum-sum-requires : goal.run_sum-sum-requires

@@ -1,14 +1,9 @@
-use lib.Ieee.{Float, binary32, add, of_bits}
-use Rattle.tropical_weight.specs.Limits.{unit}
-use mathlib.Core.Path.{◌≡◌, ap, ◌∙◌}
+use mathlib.Core.Path.{◌≡◌}
 use mathlib.Core.List.{map}
 use Prim.Native.Nat.{◌-◌, ◌≤◌}
-use native.Mathlib.Omega.{arith}
 use lib.ListN.{take, drop}
 use Rattle.tropical_weight.specs.Single.{add_all}
 use Rattle.read_back.specs.Costs.{weight_at, run_sum}
-use Rattle.read_back.proofs.RunCosts.{sum-next, sum-end}
-use borrow.Author.Rules.{rules}
 use Rattle.read_back.proofs.cost.run_sum.Given as goal
 
 abbrev pub invariant-loop-i : goal.invariant-loop-i

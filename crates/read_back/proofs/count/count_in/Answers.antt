@@ -1,5 +1,4 @@
 use borrow.Author.Tests.{eq-eqb, ne_eqb}
-use borrow.Author.Rules.{rules}
 use Rattle.read_back.proofs.count.count_in.Goals as goal
 
 pub returns-then-nodes-eq0 : goal.returns-then-nodes-eq0

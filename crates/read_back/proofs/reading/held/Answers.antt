@@ -17,14 +17,14 @@ use Rattle.read_back.specs.Walks.{way_in}
 use Rattle.read_back.specs.Answers.{run_in}
 use Rattle.read_back.proofs.Holding.{none-held, held-not, held_by, links-at, start_none, start-some, first-asked, begun, way_same, cost-asked, told_is, stored_is}
 use Rattle.read_back.proofs.Answering.{held_none, held-short, held-some}
-use borrow.Author.Rules.{rules, sfits_of}
+use borrow.Author.Rules.{sfits_of}
 use Rattle.read_back.proofs.reading.held.Goals as goal
 
 pub returns-then-t-eq-NOTHING : goal.returns-then-t-eq-NOTHING
 returns-then-t-eq-NOTHING c =
     let r = c.before.before.before.before.before.before in
     let a = r.args in
-    let m = machine a.sheet.now in 
+    let m = machine a.sheet.now in
     let told = held_none m _ a.run.now (none-held m (start_none a.sheet.now r.requires.0 a.t r.requires.1 c.if-t-eq-NOTHING.true) (way_of a.res.now a.nodes a.links a.n a.k)) in
     record { value = told.0; run_new = told.1 }
 
@@ -50,7 +50,7 @@ returns-then-not-w c =
     let w = c.walk-w.result in
     let o = way_in a.res.now c.shape_of-shape.result c.first_state-from.result in
     let way : o ≡ way_of a.res.now a.nodes a.links a.n a.k = way_same a.res.now a.n a.nodes a.links a.k _ _ c.shape_of-shape.ensures c.first_state-from.ensures in
-    let starts = start-some a.sheet.now r.requires.0 a.t r.requires.1 c.if-t-eq-NOTHING.false in 
+    let starts = start-some a.sheet.now r.requires.0 a.t r.requires.1 c.if-t-eq-NOTHING.false in
     let told = held_none m _ a.run.now (ap (if_reading m) (sym way) ∙ held-not m a.t.start starts w o c.walk-w.ensures (not-true _ c.if-not-w.true)) in
     record { value = told.0; run_new = told.1 }
 
@@ -63,7 +63,7 @@ returns-then-run-w c =
     let o = way_in a.res.now c.shape_of-shape.result c.first_state-from.result in
     let way : o ≡ way_of a.res.now a.nodes a.links a.n a.k = way_same a.res.now a.n a.nodes a.links a.k _ _ c.shape_of-shape.ensures c.first_state-from.ensures in
     let starts = start-some a.sheet.now r.requires.0 a.t r.requires.1 c.if-t-eq-NOTHING.false in
-    let h = held_by m a.t.start starts w o c.walk-w.ensures (not-false _ c.if-not-w.false) in 
+    let h = held_by m a.t.start starts w o c.walk-w.ensures (not-false _ c.if-not-w.false) in
     let told = held-short m _ h.way a.run.now (ap (if_reading m) (sym way) ∙ h.held) (omega (arith, h.counts, c.if-run-w.true)) in
     record { value = told.0; run_new = told.1 }
 

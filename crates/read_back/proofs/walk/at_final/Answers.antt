@@ -3,7 +3,6 @@ use Prim.Native.Nat.{ℕ}
 use native.Mathlib.Omega.{arith}
 use Rattle.sheet.specs.Records.{mark_at, final_at}
 use Rattle.read_back.proofs.Follow.{node_in, ends-unmarked, ends-marked}
-use borrow.Author.Rules.{rules}
 use Rattle.read_back.proofs.walk.at_final.Goals as goal
 
 pub word-requires : goal.word-requires

@@ -1,11 +1,10 @@
 use mathlib.Core.Path.{◌≡◌, ap, ◌∙◌}
-use Prim.Native.Nat.{suc, ◌-◌, ◌≤◌}
+use Prim.Native.Nat.{suc}
 use native.Mathlib.Numerals.{add-one}
 use native.Mathlib.Omega.{arith}
 use Rattle.sheet.specs.Records.{first_link, count_at}
 use Rattle.sheet.proofs.Below.{sum_mono}
 use Rattle.machine.proofs.SheetFields.{next-first}
-use borrow.Author.Rules.{rules}
 use Rattle.read_back.proofs.walk.first_of.Goals as goal
 
 pub overflow_add-next : goal.overflow_add-next

@@ -1,11 +1,6 @@
-use mathlib.Core.Path.{◌≡◌, ap, ◌∙◌}
-use Prim.Native.Nat.{suc, ◌-◌, ◌≤◌}
-use native.Mathlib.Numerals.{add-one}
-use native.Mathlib.Omega.{arith}
-use Rattle.sheet.specs.Records.{first_link, count_at}
-use Rattle.sheet.proofs.Below.{sum_mono}
-use Rattle.machine.proofs.SheetFields.{next-first}
-use borrow.Author.Rules.{rules}
+use mathlib.Core.Path.{◌≡◌}
+use Prim.Native.Nat.{◌-◌, ◌≤◌}
+use Rattle.sheet.specs.Records.{first_link}
 use Rattle.read_back.proofs.walk.first_of.Given as goal
 
 abbrev pub invariant-loop-i : goal.invariant-loop-i

@@ -3,7 +3,6 @@ use Prim.Native.Nat.{ℕ}
 use native.Mathlib.Omega.{arith}
 use Rattle.sheet.specs.Records.{count_at}
 use Rattle.read_back.proofs.Follow.{node_in, part_end, leaves-here, on-by, goes-here, goes_none, goes-barred, went-none, went-lost, went-by}
-use borrow.Author.Rules.{rules}
 use Rattle.read_back.proofs.walk.goes_on.Goals as goal
 
 pub returns-then-l-eq-NOTHING : goal.returns-then-l-eq-NOTHING

@@ -5,7 +5,6 @@ use native.Mathlib.Omega.{arith}
 use Rattle.sheet.specs.Sheet.{stated_links}
 use Rattle.sheet.specs.Records.{first_link}
 use Rattle.read_back.proofs.Follow.{on-by}
-use borrow.Author.Rules.{rules}
 use Rattle.read_back.proofs.walk.on_by.Goals as goal
 
 pub word-next-requires : goal.word-next-requires

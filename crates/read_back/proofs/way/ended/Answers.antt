@@ -1,7 +1,6 @@
 use mathlib.Core.Path.{sym, ◌∙◌}
 use Rattle.sheet.specs.Machine.{machine}
 use Rattle.read_back.proofs.Follow.{found-end, found-off}
-use borrow.Author.Rules.{rules}
 use Rattle.read_back.proofs.way.ended.Goals as goal
 
 pub returns-then-at_final : goal.returns-then-at_final

@@ -1,9 +1,7 @@
 use mathlib.Core.Path.{ap, ◌∙◌}
-use Prim.Native.Nat.{◌-◌}
 use native.Mathlib.Omega.{arith}
 use Rattle.read_back.specs.Way.{next_at}
 use Rattle.read_back.proofs.Ways.{falls-past, falls-off, falls-by}
-use borrow.Author.Rules.{rules}
 use Rattle.read_back.proofs.way.falls_from.Goals as goal
 
 pub returns-then-s-q : goal.returns-then-s-q

@@ -1,5 +1,4 @@
 use borrow.Author.Tests.{eq-eqb, ne_eqb, lt-ltb, le-ltb}
-use borrow.Author.Rules.{rules}
 use Rattle.read_back.proofs.way.first_state.Goals as goal
 
 pub returns-then-n-eq1 : goal.returns-then-n-eq1

@@ -2,7 +2,6 @@ use mathlib.Core.Path.{ap}
 use native.Mathlib.Omega.{arith}
 use lib.ListN.{length}
 use Rattle.read_back.proofs.Ways.{told-some, put-none, put_some}
-use borrow.Author.Rules.{rules}
 use Rattle.read_back.proofs.way.put_number.Goals as goal
 
 pub returns-then-number-eq-NOTHING : goal.returns-then-number-eq-NOTHING

@@ -1,5 +1,4 @@
 use Rattle.read_back.proofs.Follow.{shape_one, shape-many}
-use borrow.Author.Rules.{rules}
 use Rattle.read_back.proofs.way.shape_of.Goals as goal
 
 pub returns-then-n-eq1 : goal.returns-then-n-eq1

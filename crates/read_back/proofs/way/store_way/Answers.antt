@@ -1,7 +1,7 @@
 use mathlib.Core.Path.{◌≡◌, refl, sym, ap, ◌∙◌, subst}
 use mathlib.Core.Option.{some}
 use mathlib.Core.List.{◌++◌}
-use Prim.Native.Nat.{ℕ, ◌+◌}
+use Prim.Native.Nat.{ℕ}
 use native.Mathlib.Omega.{arith}
 use lib.ListN.{length, length-append}
 use lib.Seq.{sets}
@@ -9,7 +9,6 @@ use Rattle.read_back.specs.Way.{next_at, told, number_at, only_link}
 use Rattle.read_back.specs.Answers.{run_in}
 use Rattle.read_back.specs.Walks.{way_in}
 use Rattle.read_back.proofs.Ways.{way-goes, way-over, stored-all}
-use borrow.Author.Rules.{rules}
 use Rattle.read_back.proofs.way.store_way.Goals as goal
 
 pub loop-q-init : goal.loop-q-init

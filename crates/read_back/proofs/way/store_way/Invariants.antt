@@ -1,15 +1,10 @@
-use mathlib.Core.Path.{◌≡◌, refl, sym, ap, ◌∙◌, subst}
+use mathlib.Core.Path.{◌≡◌}
 use mathlib.Core.Option.{some}
-use mathlib.Core.List.{◌++◌}
-use Prim.Native.Nat.{ℕ, ◌+◌}
-use native.Mathlib.Omega.{arith}
-use lib.ListN.{length, length-append}
+use Prim.Native.Nat.{◌+◌}
+use lib.ListN.{length}
 use lib.Seq.{sets}
-use Rattle.read_back.specs.Way.{next_at, told, number_at, only_link}
 use Rattle.read_back.specs.Answers.{run_in}
 use Rattle.read_back.specs.Walks.{way_in}
-use Rattle.read_back.proofs.Ways.{way-goes, way-over, stored-all}
-use borrow.Author.Rules.{rules}
 use Rattle.read_back.proofs.way.store_way.Given as goal
 
 abbrev pub invariant-loop-q : goal.invariant-loop-q

@@ -1,14 +1,12 @@
-use mathlib.Core.Path.{◌≡◌, refl, sym, ap, ◌∙◌}
+use mathlib.Core.Path.{◌≡◌, sym, ap, ◌∙◌}
 use Prim.Native.Nat.{ℕ}
 use native.Mathlib.Omega.{arith}
 use lib.ListN.{length}
-use Rattle.sheet.specs.Words.{bytes_of, bytes_of_all}
 use Rattle.sheet.specs.Sheet.{parts_of}
 use Rattle.sheet.specs.Machine.{machine_of}
 use Rattle.search.specs.ListMachine.{empty, result_for}
 use Rattle.list_answer.specs.ListAnswer.{slots_for, listed_in, listed_over}
 use Rattle.shortest_path.proofs.Joining.{zero-empty, nodes-is}
-use borrow.Author.Rules.{rules}
 use Rattle.shortest_path.proofs.lists.list_in.Goals as goal
 
 pub returns-then-n-eq0 : goal.returns-then-n-eq0

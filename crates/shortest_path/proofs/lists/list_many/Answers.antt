@@ -14,8 +14,6 @@ use Rattle.n_shortest.specs.SearchWords.{Words, after_w, begun_w}
 use Rattle.list_machine.specs.TrimWords.{kept_count, list_answer, list_after, Listable}
 use Rattle.distance.specs.Held.{reached_in, distance_in}
 use Rattle.tropical_weight.specs.Limits.{node_limit, link_limit, list_limit}
-use borrow.Author.Rules.{rules}
-use borrow.Author.Tests.{not-true, not-false}
 use Rattle.shortest_path.proofs.lists.list_many.Goals as goal
 use Rattle.shortest_path.proofs.lists.list_many.Lts
 use Rattle.shortest_path.proofs.lists.list_many.Reads
@@ -89,9 +87,9 @@ measure-requires c = let root = c.before.before.before.before.before.before in l
 
 pub reverse-requires : goal.reverse-requires
 reverse-requires c = let root = c.before.before.before.before.before.before.before.before.before.before in let f = few c.before.before.before.before.before.before.before.before.before in record {
-      sheet_value = root.requires.sheet_value;
-      nodes_bound = (omega arith, omega (arith, f.0, f.1, f.2, f.3, f.4, c.measure.auto.part));
-    }
+  sheet_value = root.requires.sheet_value;
+  nodes_bound = (omega arith, omega (arith, f.0, f.1, f.2, f.3, f.4, c.measure.auto.part));
+}
 
 pub distance_at-requires : goal.distance_at-requires
 distance_at-requires c = let f = few c.before.before.before.before.before.before.before.before.before.before.before.before in omega (arith, f.0, f.1, f.2, f.3, f.4, c.reverse.auto.part, c.measure.auto.part)

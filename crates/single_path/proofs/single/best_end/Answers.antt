@@ -1,6 +1,6 @@
 use mathlib.Core.Path.{◌≡◌, refl, sym, ap, ◌∙◌}
 use mathlib.Core.Bool.{Bool, true, false}
-use Prim.Native.Nat.{ℕ, ◌+◌, ◌-◌, ◌≤◌}
+use Prim.Native.Nat.{ℕ, ◌+◌}
 use native.Mathlib.Omega.{arith}
 use lib.Dec.{lit≤}
 use lib.Ieee.{lt}
@@ -24,7 +24,7 @@ loop-v-preserved c =
     λ b e. best-next bytes args.links area turn.v b ((λ i. lt (sym c.total_at-total.ensures i) (sym turn.invariant.2 i)) ∙ sym c.natural_less.ensures.same ∙ e) in
     let both : (c.if-natural_less.best ≡ (best_below bytes args.links area (turn.v + 1)).end) × (c.if-natural_less.least ≡ (best_below bytes args.links area (turn.v + 1)).least) =
     elim c.if-natural_less.branch [
-      then-natural_less w ↦ (w.best-is ∙ sym (ap (λ (b : Best). b.end) (tested true w.if-natural_less.true)), w.least-is ∙ c.total_at-total.ensures ∙ sym (ap (λ (b : Best). b.least) (tested true w.if-natural_less.true)))
+      | then-natural_less w ↦ (w.best-is ∙ sym (ap (λ (b : Best). b.end) (tested true w.if-natural_less.true)), w.least-is ∙ c.total_at-total.ensures ∙ sym (ap (λ (b : Best). b.least) (tested true w.if-natural_less.true)))
       | else-natural_less w ↦ (w.best-is ∙ turn.invariant.1 ∙ sym (ap (λ (b : Best). b.end) (tested false w.if-natural_less.false)), w.least-is ∙ turn.invariant.2 ∙ sym (ap (λ (b : Best). b.least) (tested false w.if-natural_less.false)))
     ] in
     (search rules, both.0, both.1)

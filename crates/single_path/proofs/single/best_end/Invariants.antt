@@ -1,13 +1,6 @@
-use mathlib.Core.Path.{◌≡◌, refl, sym, ap, ◌∙◌}
-use mathlib.Core.Logic.{⊎_elim}
-use mathlib.Core.Bool.{Bool, true, false}
-use Prim.Native.Nat.{ℕ, ◌+◌, ◌-◌, ◌≤◌}
-use native.Mathlib.Omega.{arith}
-use lib.Dec.{lit≤}
-use lib.Ieee.{lt}
-use Rattle.single_path.specs.SingleWords.{Best, best_below}
-use Rattle.single_path.proofs.WayTurns.{next, best-next}
-use borrow.Author.Rules.{rules}
+use mathlib.Core.Path.{◌≡◌}
+use Prim.Native.Nat.{◌-◌, ◌≤◌}
+use Rattle.single_path.specs.SingleWords.{best_below}
 use Rattle.single_path.proofs.single.best_end.Given as goal
 
 abbrev pub invariant-loop-v : goal.invariant-loop-v

@@ -3,7 +3,6 @@ use mathlib.Core.List.{[], ◌∷◌}
 use Prim.Native.Nat.{◌*◌}
 use lib.Seq.{sets}
 use Rattle.sheet.specs.Words.{bytes_of_all}
-use borrow.Author.Rules.{rules}
 use Rattle.single_path.proofs.single.put_link.Goals as goal
 
 pub returns : goal.returns

@@ -1,16 +1,9 @@
-use mathlib.Core.Path.{◌≡◌, sym, ap, ◌∙◌}
-use Prim.Native.Nat.{◌+◌, ◌*◌, ◌≤◌, ◌<◌}
-use native.Mathlib.Omega.{arith}
-use mathlib.Core.List.{◌∷◌}
+use mathlib.Core.Path.{◌≡◌}
+use Prim.Native.Nat.{◌+◌, ◌*◌, ◌≤◌}
 use lib.ListN.{length}
 use lib.Seq.{sets}
 use Rattle.sheet.specs.Words.{bytes_of_all}
-use Rattle.shortest_distance.specs.declared.parent.Parent.TheVariants.{By}
-use Rattle.shortest_distance.specs.ParentWords.{parent_at}
 use Rattle.single_path.specs.SingleWords.{way_back, way_links}
-use Rattle.single_path.proofs.WayTurns.{way_end, way_step}
-use Rattle.single_path.proofs.WriteTurns.{links-again, links_end}
-use borrow.Author.Rules.{rules}
 use Rattle.single_path.proofs.single.put_links.Given as goal
 
 abbrev pub invariant-loop-link : goal.invariant-loop-link

@@ -1,14 +1,9 @@
-use mathlib.Core.Path.{◌≡◌, refl, ap, ◌∙◌}
-use mathlib.Core.List.{List, [], ◌∷◌}
-use Prim.Native.Nat.{ℕ, ◌+◌, ◌-◌, ◌*◌, ◌≤◌}
-use native.Mathlib.Nat.{add-zero}
-use native.Mathlib.Omega.{arith}
+use mathlib.Core.Path.{◌≡◌}
+use Prim.Native.Nat.{◌+◌, ◌-◌, ◌*◌, ◌≤◌}
 use lib.ListN.{length}
 use lib.Seq.{sets}
 use Rattle.sheet.specs.Words.{bytes_of_all}
 use Rattle.single_path.specs.SingleWords.{way_states}
-use Rattle.single_path.proofs.WriteTurns.{states-again, sets-words, states-end}
-use borrow.Author.Rules.{rules}
 use Rattle.single_path.proofs.single.put_states.Given as goal
 
 abbrev pub invariant-loop-i : goal.invariant-loop-i

@@ -1,7 +1,6 @@
 use Rattle.sheet.specs.Records.{final_at}
 use Rattle.single_path.specs.SingleWords.{way_back}
 use Rattle.single_path.proofs.WayBytes.{way-stored}
-use borrow.Author.Rules.{rules}
 use Rattle.single_path.proofs.single.put_way.Goals as goal
 
 pub returns : goal.returns

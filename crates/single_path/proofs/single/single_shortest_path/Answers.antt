@@ -1,6 +1,5 @@
 use native.Mathlib.Omega.{arith}
 use Rattle.single_path.proofs.SingleLaws.{Run, run-for, none-for, traced-for, way-for}
-use borrow.Author.Rules.{rules}
 use Rattle.single_path.proofs.single.single_shortest_path.Goals as goal
 use Rattle.single_path.proofs.single.single_shortest_path.Lts
 use Rattle.single_path.proofs.single.single_shortest_path.Reads

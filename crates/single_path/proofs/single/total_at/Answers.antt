@@ -5,7 +5,6 @@ use lib.Ieee.{binary32, add, of_bits}
 use borrow.Author.Tests.{eq-eqb, ne_eqb}
 use Rattle.distance.specs.Held.{weight_in}
 use Rattle.single_path.proofs.WayTurns.{total-none, total-some}
-use borrow.Author.Rules.{rules}
 use Rattle.single_path.proofs.single.total_at.Goals as goal
 
 pub returns-then-word-ne1 : goal.returns-then-word-ne1

@@ -1,10 +1,7 @@
-use mathlib.Core.Path.{◌≡◌, sym, ap, ◌∙◌}
-use Prim.Native.Nat.{◌+◌, ◌≤◌, ◌<◌}
-use native.Mathlib.Omega.{arith}
+use mathlib.Core.Path.{◌≡◌}
+use Prim.Native.Nat.{◌+◌, ◌≤◌}
 use lib.ListN.{length}
-use borrow.Author.Rules.{rules}
 use Rattle.single_path.specs.SingleWords.{way_back}
-use Rattle.single_path.proofs.WayTurns.{way_end, way_step}
 use Rattle.single_path.proofs.single.way_length.Given as goal
 
 abbrev pub invariant-loop-source : goal.invariant-loop-source
