@@ -42,11 +42,13 @@ ifndef YELDMUR_LIB_DIR
 	tools/library
 endif
 
+# under its second name a copy, no link: rt ci refuses links in the checkout
 shared: static
 	mkdir -p $(built)
 	$(CC) -shared -Wl,-soname,$(SONAME) -Wl,--version-script,packaging/yeldmur.map -Wl,--no-undefined -Wl,-z,relro,-z,now \
 	    $(LDFLAGS) -Wl,--whole-archive $(archive) -Wl,--no-whole-archive -o $(shared)
-	ln -sf $(notdir $(shared)) $(built)/$(SONAME)
+	rm -f $(built)/$(SONAME)
+	cp $(shared) $(built)/$(SONAME)
 
 command: static
 	cd cli && YELDMUR_LIB_DIR=$(lib_dir) $(CARGO) build --release --offline --locked

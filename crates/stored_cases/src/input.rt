@@ -1,5 +1,5 @@
 // What a program is given to read.
-ghost use Rattle.std.specs.Prelude.{◌≡◌, IfOk, length};
+ghost use Rattle.std.specs.Prelude.{◌≡◌, IfOk, length, replicate};
 ghost use Rattle.io.specs.Counts.{IsPrefixLen};
 
 use std::io;
@@ -7,7 +7,8 @@ use std::io::Read;
 
 // So many bytes, all zero.
 pub fn zeros<const N: usize>() -> [u8; N]
-    ensures { length result ≡ N }
+    ensures size { length result ≡ N }
+    ensures zero { result ≡ replicate N 0 }
 {
     [0; N]
 }
