@@ -29,17 +29,19 @@ use Rattle.listing.specs.Printed.{sheet_most, list_most, listing_number, listing
 
 -- ---- the number, by what was tested
 module _ (n : ℕ) (sheet : List ℕ) where
-  number_short : length sheet ≤ sheet_most → listing_number n sheet ≡ tested_number sheet n (cond (ltb list_most n) 20 0)
+  number-as : listing_number n sheet ≡ cond (ltb sheet_most (length sheet)) 20 (tested_number sheet n (cond (ltb list_most n) 20 0))
   unfolding listing_number
-  number_short h = ap (λ (b : Bool). cond b 20 (tested_number sheet n (cond (ltb list_most n) 20 0))) (le-ltb sheet_most (length sheet) h)
+  number-as = refl
+
+  number_short : length sheet ≤ sheet_most → listing_number n sheet ≡ tested_number sheet n (cond (ltb list_most n) 20 0)
+  number_short h = number-as ∙ ap (λ (b : Bool). cond b 20 (tested_number sheet n (cond (ltb list_most n) 20 0))) (le-ltb sheet_most (length sheet) h)
 
   -- a refusal's line
   refused-is : (k : ℕ) → (k ≡ 0 → ⊥) → listing_number n sheet ≡ k → printed_for n sheet ≡ refused_line k
   refused-is k h e = ap (λ (j : ℕ). cond (eqb j 0) (listing_text (machine sheet) n) (refused_line j)) e ∙ ap (λ (b : Bool). cond b (listing_text (machine sheet) n) (refused_line k)) (ne_eqb k 0 h)
 
   pub printed-long : sheet_most < length sheet → printed_for n sheet ≡ refused_line 20
-  unfolding listing_number
-  printed-long h = refused-is 20 (λ z. omega (arith, z)) (ap (λ (b : Bool). cond b 20 (tested_number sheet n (cond (ltb list_most n) 20 0))) (lt-ltb sheet_most (length sheet) h))
+  printed-long h = refused-is 20 (λ z. omega (arith, z)) (number-as ∙ ap (λ (b : Bool). cond b 20 (tested_number sheet n (cond (ltb list_most n) 20 0))) (lt-ltb sheet_most (length sheet) h))
 
   pub printed-large : length sheet ≤ sheet_most → list_most < n → printed_for n sheet ≡ refused_line (tested_number sheet n 20)
   printed-large h b =

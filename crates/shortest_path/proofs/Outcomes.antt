@@ -28,9 +28,12 @@ module _ (bytes : List ℕ) (n last : ℕ) where
   unfolding tested_number
   tested-input h = ap (λ (b : Bool). cond (not b) (input_number bytes) (cond (ltb list_limit n) 7 last)) (ne_eqb (input_number bytes) 0 h)
 
-  tested-n : input_number bytes ≡ 0 → tested_number bytes n last ≡ cond (ltb list_limit n) 7 last
+  tested-as : tested_number bytes n last ≡ cond (not (eqb (input_number bytes) 0)) (input_number bytes) (cond (ltb list_limit n) 7 last)
   unfolding tested_number
-  tested-n e = ap (λ (k : ℕ). cond (not (eqb k 0)) k (cond (ltb list_limit n) 7 last)) e
+  tested-as = refl
+
+  tested-n : input_number bytes ≡ 0 → tested_number bytes n last ≡ cond (ltb list_limit n) 7 last
+  tested-n e = tested-as ∙ ap (λ (k : ℕ). cond (not (eqb k 0)) k (cond (ltb list_limit n) 7 last)) e
 
   pub tested-seven : input_number bytes ≡ 0 → list_limit < n → tested_number bytes n last ≡ 7
   tested-seven e h = tested-n e ∙ ap (λ (b : Bool). cond b 7 last) (lt-ltb list_limit n h)
