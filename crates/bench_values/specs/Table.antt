@@ -1,18 +1,19 @@
 -- Cases P1 to P9 of document 01, P1 as request (b) and P7 as request (d) of document 02 has it: one table of what the calls tell and what the documents state. Definitions only.
-use Rattle.std.specs.Prelude.{List, [], ◌∷◌, map, ℕ, ◌*◌, pos, length, take, replicate}
+use Rattle.std.specs.Prelude.{List, [], ◌∷◌, map, ℕ, ◌*◌, pos, length, take, replicate, Result, Ok, Err}
 use Rattle.tropical_weight.specs.Tropical.{Tropical, fin}
 use Rattle.sheet.specs.Below.{list_below}
 use Rattle.sheet.specs.Words.{words, bytes_of_all}
 use Rattle.sheet.specs.Machine.{machine}
 use Rattle.machine.specs.Readings.{link, reading_of, reading_cost}
-use Rattle.shortest_distance.specs.declared.Distances.{Distances}
+use Rattle.sheet.specs.declared.refusal.Refusal.{Refusal}
+use Rattle.sheet.specs.Refusals.{number_of}
 use Rattle.shortest_distance.specs.Outcome as Distance
 use Rattle.shortest_distance.specs.Outcome.{distance_answer}
 use Rattle.search.specs.Listed.{list_of}
 use Rattle.list_answer.specs.declared.Listed.{Listed}
 use Rattle.shortest_path.specs.Outcome.{list_answer, result_after}
 
--- What a call tells: the refusal, or the words of the distances, or the list: the counts of its machine's nodes and links, the input labels of its readings, their costs, and the entries taken.
+-- What a call tells: the number of the refusal, or the words of the distances, or the list: the counts of its machine's nodes and links, the input labels of its readings, their costs, and the entries taken.
 pub data Told : Type 0 where
   refused : ℕ → Told
   distances : List ℕ → Told
@@ -25,20 +26,20 @@ work_words = 4096
 abbrev pub result_area : List ℕ
 result_area = replicate 512 0
 
-abbrev pub told_distances : List ℕ → Distances → Told
-told_distances bytes (Distances.Refused k) = refused k
-told_distances bytes (Distances.Count n) = distances (words (Distance.result_after bytes work_words result_area) 0 (2 * n))
+abbrev pub told_distances : List ℕ → Result ℕ Refusal → Told
+told_distances bytes (Err r) = refused (number_of r)
+told_distances bytes (Ok n) = distances (words (Distance.result_after bytes work_words result_area) 0 (2 * n))
 
 -- the distances of a sheet, two words each
 abbrev pub distances_told : List ℕ → Told
 distances_told bytes = told_distances bytes (distance_answer bytes work_words (length result_area))
 
-abbrev pub told_list : List ℕ → ℕ → Listed → Told
-told_list bytes n (Listed.Refused k) = refused k
-told_list bytes n (Listed.Made nodes links taken) =
+abbrev pub told_list : List ℕ → ℕ → Result Listed Refusal → Told
+told_list bytes n (Err r) = refused (number_of r)
+told_list bytes n (Ok l) =
     let m = machine bytes in
-    let runs = list_of n nodes links (result_after bytes n work_words result_area) in
-    list nodes links (map (map (λ (l : ℕ). (link m l).ilabel)) runs) (map (λ (run : List ℕ). reading_cost m (reading_of m run)) runs) taken
+    let runs = list_of n l.nodes l.links (result_after bytes n work_words result_area) in
+    list l.nodes l.links (map (map (λ (l : ℕ). (link m l).ilabel)) runs) (map (λ (run : List ℕ). reading_cost m (reading_of m run)) runs) l.taken
 
 -- the list for n of a sheet
 abbrev pub list_told : List ℕ → ℕ → Told

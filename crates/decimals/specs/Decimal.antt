@@ -1,6 +1,5 @@
 -- Numbers in decimal: the digits that are written, and the value of digits that are read. A text is a list of bytes. Definitions only.
-use Rattle.std.specs.Prelude.{ℕ, zero, suc, ◌+◌, ◌-◌, ◌*◌, ◌/◌, Bool, true, false, ◌&&◌, cond, List, [], ◌∷◌, leb, ltb}
-use Rattle.std.proofs.Math.Option.{Option, none, some}
+use Rattle.std.specs.Prelude.{ℕ, zero, suc, ◌+◌, ◌-◌, ◌*◌, ◌/◌, Bool, true, false, ◌&&◌, cond, List, [], ◌∷◌, leb, ltb, Option, None, Some}
 use Rattle.io.specs.Digits.{last_digits}
 
 -- ---- written
@@ -29,10 +28,10 @@ with_digit n c = 10 * n + (c - 48)
 
 -- the value of digits behind those of n, or none where a byte is no digit
 unfoldable pub digits_onto : ℕ → List ℕ → Option ℕ
-digits_onto n [] = some n
-digits_onto n (c ∷ cs) = cond (is_digit c) (digits_onto (with_digit n c) cs) none
+digits_onto n [] = Some n
+digits_onto n (c ∷ cs) = cond (is_digit c) (digits_onto (with_digit n c) cs) None
 
 -- the value of one digit or more, zeros before them or not
 abbrev pub digits_of : List ℕ → Option ℕ
-digits_of [] = none
+digits_of [] = None
 digits_of (c ∷ cs) = digits_onto 0 (c ∷ cs)

@@ -2,4 +2,5 @@
 #![tactic(auto)]
 
 pub mod read;
+pub mod text;
 pub mod write;

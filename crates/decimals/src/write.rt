@@ -1,4 +1,5 @@
 // Text in a byte area: each function stores a text from a place on, and answers where it ends.
+// The area is the caller's, and so the place goes along with it.
 ghost use Rattle.std.specs.Prelude.{◌+◌, ◌≤◌, length};
 ghost use Rattle.decimals.specs.Decimal.{decimal};
 ghost use Rattle.decimals.specs.Stored.{Puts};
@@ -8,12 +9,9 @@ pub fn put_text(out: &mut [u8], at: usize, text: &[u8]) -> usize
     requires { at + length text.now ≤ length out.old }
     ensures { Puts out.old at text.now out.new result }
 {
-    let mut i = 0usize;
-    while i < text.len() {
-        out[at + i] = text[i];
-        i += 1;
-    }
-    at + i
+    let end = at + text.len();
+    out[at..end].copy_from_slice(text);
+    end
 }
 
 // A number in decimal.
@@ -23,6 +21,6 @@ pub fn put_decimal(out: &mut [u8], at: usize, x: u32) -> usize
     ensures upper_bound { result ≤ at + 10 }
 {
     let mut digits = [0u8; 20];
-    let k = io::decimal(x as u64, &mut digits);
+    let k = io::decimal(u64::from(x), &mut digits);
     put_text(out, at, &digits[..k])
 }

@@ -13,7 +13,7 @@ use Rattle.sheet.specs.Machine.{Machine}
 use Rattle.machine.specs.Distance as Named
 use Rattle.machine.specs.Distance.{as_weight, distance_of, nearer, onward, dist, distance}
 use Rattle.machine.proofs.Named.{weight-of, of-weight}
-use Rattle.distance.specs.declared.Distance.TheVariants.{Reached, Unreached}
+use Rattle.std.specs.Prelude.{Some, None}
 use Rattle.distance.specs.Held.{held, weight_in, distance_from, reached_in}
 use Rattle.distance.specs.Offer.{improves, relaxed_by, reaches}
 
@@ -31,8 +31,8 @@ reached-held Named.unreached = refl
 
 -- a value is reached where it is finite
 pub from-held : (x : Tropical) → Within sum_limit x → distance_from (of_t unit x) ≡ held (distance_of x)
-from-held (fin k) h = ap (λ (t : Bool). cond t (Reached (of_t unit (fin k))) Unreached) (lt-of_t unit covered (fin k) inf h tt)
-from-held inf h = ap (λ (t : Bool). cond t (Reached (of_t unit inf)) Unreached) (lt-of_t unit covered inf inf tt tt)
+from-held (fin k) h = ap (λ (t : Bool). cond t (Some (of_t unit (fin k))) None) (lt-of_t unit covered (fin k) inf h tt)
+from-held inf h = ap (λ (t : Bool). cond t (Some (of_t unit inf)) None) (lt-of_t unit covered inf inf tt tt)
 
 -- ---- an offer d ⊗ w to a node at a
 module _ (a d : Named.Distance) (w : Tropical) (ha : Within sum_limit (as_weight a)) (hd : Within sum_limit (as_weight d)) (hw : Within sum_limit w) (hdw : Within sum_limit (as_weight d ⊗ w)) where
@@ -44,15 +44,15 @@ module _ (a d : Named.Distance) (w : Tropical) (ha : Within sum_limit (as_weight
 
   pub relaxed-is : relaxed_by (held a) (of_t unit (as_weight d)) (of_t unit w) ≡ held (nearer a (onward d w))
   relaxed-is =
-      (λ i. cond (improves-is i) (Reached (offer-is i)) (held a))
+      (λ i. cond (improves-is i) (Some (offer-is i)) (held a))
       ∙ go (as_weight d ⊗ w)
       ∙ ap (λ (y : Tropical). held (distance_of (as_weight a ⊕ y))) (sym (weight-of (as_weight d ⊗ w)))
     where
-      kept : (t : Bool) (o : ℤ) → cond t (Reached (of_t unit (fin o))) (held a) ≡ held (distance_of (cond t (fin o) (as_weight a)))
+      kept : (t : Bool) (o : ℤ) → cond t (Some (of_t unit (fin o))) (held a) ≡ held (distance_of (cond t (fin o) (as_weight a)))
       kept true o = refl
       kept false o = sym (ap held (of-weight a))
 
-      go : (o : Tropical) → cond (lt_t o (as_weight a)) (Reached (of_t unit o)) (held a) ≡ held (distance_of (as_weight a ⊕ o))
+      go : (o : Tropical) → cond (lt_t o (as_weight a)) (Some (of_t unit o)) (held a) ≡ held (distance_of (as_weight a ⊕ o))
       go (fin o) = kept (lt_t (fin o) (as_weight a)) o
       go inf = sym (ap held (of-weight a))
 

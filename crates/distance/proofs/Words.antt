@@ -13,10 +13,9 @@ use Rattle.tropical_weight.specs.Limits.{unit}
 use Rattle.tropical_weight.specs.Tropical.{fin}
 use Rattle.tropical_weight.proofs.Exact.{covered, bits_back}
 use Rattle.machine.specs.Distance as Named
-use Rattle.distance.specs.declared.Distance.{Distance}
-use Rattle.distance.specs.declared.Distance.TheVariants.{Reached, Unreached}
+use Rattle.std.specs.Prelude.{Some, None}
 use Rattle.distance.specs.Written.{written}
-use Rattle.distance.specs.Held.{held, mark_in, bits_in, words_in, distance_in, with_distance}
+use Rattle.distance.specs.Held.{Distance, held, mark_in, bits_in, words_in, distance_in, with_distance}
 
 -- the words of a distance as it is held are those it is written in
 pub words-written : (d : Named.Distance) → words_in (held d) ≡ written d
@@ -25,18 +24,18 @@ words-written Named.unreached = refl
 
 module _ (work : List ℕ) (at : ℕ) where
   -- ---- by its first word
-  pub read-unreached : get_or work at 0 ≡ 0 → Unreached ≡ distance_in work at
+  pub read-unreached : get_or work at 0 ≡ 0 → None ≡ distance_in work at
   unfolding distance_in
-  read-unreached e = sym (ap (λ (b : Bool). cond b Unreached (Reached (of_bits binary32 (get_or work (at + 1) 0)))) (eq-eqb (get_or work at 0) 0 e))
+  read-unreached e = sym (ap (λ (b : Bool). cond b None (Some (of_bits binary32 (get_or work (at + 1) 0)))) (eq-eqb (get_or work at 0) 0 e))
 
-  pub read-reached : (get_or work at 0 ≡ 0 → ⊥) → Reached (of_bits binary32 (get_or work (at + 1) 0)) ≡ distance_in work at
+  pub read-reached : (get_or work at 0 ≡ 0 → ⊥) → Some (of_bits binary32 (get_or work (at + 1) 0)) ≡ distance_in work at
   unfolding distance_in
-  read-reached e = sym (ap (λ (b : Bool). cond b Unreached (Reached (of_bits binary32 (get_or work (at + 1) 0)))) (ne_eqb (get_or work at 0) 0 e))
+  read-reached e = sym (ap (λ (b : Bool). cond b None (Some (of_bits binary32 (get_or work (at + 1) 0)))) (ne_eqb (get_or work at 0) 0 e))
 
 -- two areas with the same two words hold the same
 pub same-words : (a b : List ℕ) (x y : ℕ) → get_or a x 0 ≡ get_or b y 0 → get_or a (x + 1) 0 ≡ get_or b (y + 1) 0 → distance_in a x ≡ distance_in b y
 unfolding distance_in
-same-words a b x y p q = λ i. cond (eqb (p i) 0) Unreached (Reached (of_bits binary32 (q i)))
+same-words a b x y p q = λ i. cond (eqb (p i) 0) None (Some (of_bits binary32 (q i)))
 
 module _ (work : List ℕ) (at : ℕ) where
   module _ (d : Distance) (room : at + 1 < length work) where
@@ -48,11 +47,11 @@ module _ (work : List ℕ) (at : ℕ) where
 
   -- what is stored is read back
   pub put_back : (d : Named.Distance) → at + 1 < length work → distance_in (with_distance work at (held d)) at ≡ held d
-  put_back Named.unreached h = sym (read-unreached (with_distance work at Unreached) at (mark-put Unreached h))
+  put_back Named.unreached h = sym (read-unreached (with_distance work at None) at (mark-put None h))
   put_back (Named.reached k) h =
       let d = held (Named.reached k) in
       sym (read-reached (with_distance work at d) at (λ e. omega (arith, e, mark-put d h)))
-      ∙ ap (λ (w : ℕ). Reached (of_bits binary32 w)) (bits_put d h) ∙ ap Reached (bits_back unit covered (fin k))
+      ∙ ap (λ (w : ℕ). Some (of_bits binary32 w)) (bits_put d h) ∙ ap Some (bits_back unit covered (fin k))
 
   -- no other word changes, and no distance held by other words
   pub put_word : (d : Distance) (j : ℕ) → (j ≡ at → ⊥) → (j ≡ at + 1 → ⊥) → get_or (with_distance work at d) j 0 ≡ get_or work j 0

@@ -1,11 +1,11 @@
-// Distances: reached, with a cost, or unreached; and the two words that hold one, in the work area
+// Distances, a cost where the node is reached, else none; and the two words that hold one, in the work area
 // and as it is written.
 #![tactic(auto)]
 
 ghost use Rattle.std.specs.Prelude.{◌≡◌, ◌+◌, ◌≤◌, ◌<◌, length};
 ghost use Rattle.std.proofs.lemmas.List.Edits.{sets};
 ghost use Rattle.sheet.specs.Words.{bytes_of_all};
-ghost use Rattle.distance.specs.Held.{weight_in, distance_from, reached_in};
+ghost use Rattle.distance.specs.Held.{weight_in, distance_from};
 ghost use Rattle.distance.specs.Held.{mark_in, bits_in, words_in, distance_in, with_distance};
 
 use sheet::words::put_words;
@@ -13,75 +13,48 @@ use sheet::words::put_words;
 // The bytes of a written distance.
 pub const WRITTEN: usize = 8;
 
-// A node's distance: reached at a cost, or unreached.
-#[derive(Clone, Copy)]
-pub enum Distance {
-    Reached(f32),
-    Unreached,
-}
-
-// What it adds to a sum: infinity where it is unreached.
-pub fn as_weight(d: Distance) -> f32
+// What a distance adds to a sum: infinity where the node is unreached.
+pub fn as_weight(d: Option<f32>) -> f32
     ensures { result ≡ weight_in d }
 {
-    match d {
-        Distance::Reached(cost) => cost,
-        Distance::Unreached => tropical_weight::zero(),
-    }
+    d.unwrap_or(tropical_weight::zero())
 }
 
 // The distance of a weight: one below infinity is reached.
-pub fn of_weight(weight: f32) -> Distance
+pub fn of_weight(weight: f32) -> Option<f32>
     ensures { result ≡ distance_from weight }
 {
-    if tropical_weight::natural_less(weight, tropical_weight::zero()) {
-        return Distance::Reached(weight);
-    }
-    Distance::Unreached
-}
-
-pub fn is_reached(d: Distance) -> bool
-    ensures { result ≡ reached_in d }
-{
-    match d {
-        Distance::Reached(_) => true,
-        Distance::Unreached => false,
-    }
+    tropical_weight::natural_less(weight, tropical_weight::zero()).then_some(weight)
 }
 
 // The first of its two words: 1 where it is reached, else 0.
-fn mark(d: Distance) -> u32
+fn mark(d: Option<f32>) -> u32
     ensures { result ≡ mark_in d }
 {
-    match d {
-        Distance::Reached(_) => 1,
-        Distance::Unreached => 0,
-    }
+    u32::from(d.is_some())
 }
 
 // The second: the bits of its cost, or 0.
-fn bits(d: Distance) -> u32
+fn bits(d: Option<f32>) -> u32
     ensures { result ≡ bits_in d }
 {
-    match d {
-        Distance::Reached(cost) => tropical_weight::to_bits(cost),
-        Distance::Unreached => 0,
-    }
+    d.map_or(0, tropical_weight::to_bits)
 }
 
 // The distance in the two words from `at` on.
-pub fn distance_at(work: &[u32], at: usize) -> Distance
+#[tactic(auto, unfolding(crate::specs::Held::distance_in))]
+pub fn distance_at(work: &[u32], at: usize) -> Option<f32>
     requires { at + 1 < length work.now }
     ensures { result ≡ distance_in work.now at }
 {
     if work[at] == 0 {
-        return Distance::Unreached;
+        return None;
     }
-    Distance::Reached(tropical_weight::from_bits(work[at + 1]))
+    Some(tropical_weight::from_bits(work[at + 1]))
 }
 
 // Stores a distance there.
-pub fn put_distance(work: &mut [u32], at: usize, d: Distance)
+pub fn put_distance(work: &mut [u32], at: usize, d: Option<f32>)
     requires { at + 1 < length work.old }
     ensures { work.new ≡ with_distance work.old at d }
 {
@@ -90,7 +63,7 @@ pub fn put_distance(work: &mut [u32], at: usize, d: Distance)
 }
 
 // Writes a distance, little-endian, at a byte of the result.
-pub fn write_distance(res: &mut [u8], at: usize, d: Distance)
+pub fn write_distance(res: &mut [u8], at: usize, d: Option<f32>)
     requires { at + 8 ≤ length res.old }
     ensures { res.new ≡ sets res.old at (bytes_of_all (words_in d)) }
 {

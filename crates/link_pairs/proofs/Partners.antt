@@ -39,7 +39,7 @@ module _ (key : ℕ) where
       below-label x (subst (λ (y : ℕ). y < link_key (key_label key) 0 0) (sym (get_or-take low l r.0 0 (omega (arith, r.1, n))) ∙ r.2) (f r.0 (omega (arith, r.1, n))))))
 
   -- one with the label is the next
-  partners-here : (l : List ℕ) (k : ℕ) → k < length l → key_label (get_or l k 0) ≡ key_label key → partners key (drop k l) ≡ get_or l k 0 ∷ partners key (drop (k + 1) l)
+  pub partners-here : (l : List ℕ) (k : ℕ) → k < length l → key_label (get_or l k 0) ≡ key_label key → partners key (drop k l) ≡ get_or l k 0 ∷ partners key (drop (k + 1) l)
   unfolding partners keep
   partners-here l k h e =
       let p : ℕ → Bool = λ k. eqb (key_label k) (key_label key) in
@@ -57,25 +57,12 @@ module _ (key : ℕ) where
       let apart : key_label x ≡ key_label key → ⊥ = λ e. omega (arith, far, at, above, e) in
       ne_eqb (key_label x) (key_label key) apart)
 
--- ---- of the first keys of an area
-module _ (key count : ℕ) (keys : List ℕ) (fits : count ≤ length keys) where
-  size : length (take count keys) ≡ count
-  size = length-take-le count keys fits
+  pub partners-from : (l : List ℕ) (low : ℕ) → FirstAtLeast (length l) l (link_key (key_label key) 0 0) low → partners key (drop low l) ≡ partners key l
+  partners-from l low f = sym (partners-late l low f.within f.below)
 
-  at : (i : ℕ) → i < count → get_or (take count keys) i 0 ≡ get_or keys i 0
-  at i h = get_or-take count keys i 0 h
+  pub partners-over : (l : List ℕ) → Rising (length l) l → (k : ℕ) → k < length l → link_key (key_label key) 0 0 ≤ get_or l k 0 → (key_label (get_or l k 0) ≡ key_label key → ⊥) → partners key (drop k l) ≡ []
+  partners-over l up k h low ne = partners-past l k (λ i a b. up k i a b) low ne
 
-  pub partners-from : (low : ℕ) → FirstAtLeast count keys (link_key (key_label key) 0 0) low → partners key (drop low (take count keys)) ≡ partners key (take count keys)
-  partners-from low f = sym (partners-late key (take count keys) low (omega (arith, f.within, size)) (λ i h.
-      subst (λ (x : ℕ). x < link_key (key_label key) 0 0) (sym (at i (omega (arith, f.within)))) (f.below i h)))
-
-  pub partners-next : (k : ℕ) → k < count → key_label (get_or keys k 0) ≡ key_label key → partners key (drop k (take count keys)) ≡ get_or keys k 0 ∷ partners key (drop (k + 1) (take count keys))
-  partners-next k h e = partners-here key (take count keys) k (omega (arith, size)) (ap key_label (at k h) ∙ e) ∙ ap (λ (x : ℕ). x ∷ partners key (drop (k + 1) (take count keys))) (at k h)
-
-  pub partners-over : Rising count keys → (k : ℕ) → k < count → link_key (key_label key) 0 0 ≤ get_or keys k 0 → (key_label (get_or keys k 0) ≡ key_label key → ⊥) → partners key (drop k (take count keys)) ≡ []
-  partners-over up k h low ne =
-      partners-past key (take count keys) k (λ i a b. let c : i < count = omega (arith, size) in omega (arith, up k i a c, at k h, at i c)) (omega (arith, low, at k h)) (λ e. ne (sym (ap key_label (at k h)) ∙ e))
-
-  pub partners-end : partners key (drop count (take count keys)) ≡ []
+  pub partners-end : (l : List ℕ) (k : ℕ) → length l ≤ k → partners key (drop k l) ≡ []
   unfolding partners keep
-  partners-end = ap (partners key) (drop_of_length-le (take count keys) {i = count} (omega (arith, size)))
+  partners-end l k h = ap (partners key) (drop_of_length-le l {i = k} h)

@@ -1,6 +1,6 @@
 -- Mirrors the code: the pairs of links with the same label as they are found, and what a list that may be too long for its area leaves there. A reader need
 -- not believe it: laws tie it to the pairs of the product (proofs/Finding). Definitions only.
-use Rattle.std.specs.Prelude.{◌≡◌, ℕ, ◌+◌, ◌*◌, ◌≤◌, ◌<◌, eqb, length, take}
+use Rattle.std.specs.Prelude.{◌≡◌, ℕ, ◌+◌, ◌*◌, ◌≤◌, ◌<◌, eqb, length, take, Option, MatchOption}
 use mathlib.Core.List.{List, flat_map, map}
 use Rattle.std.proofs.lemmas.List.Edits.{sets}
 use Rattle.tropical_weight.specs.Limits.{link_limit}
@@ -26,13 +26,11 @@ unfoldable pub found : ℕ → List ℕ → List ℕ → List ℕ
 unfolding flat_map partners
 found n seconds firsts = flat_map (pairs_of n seconds) firsts
 
--- New keys were put into an area of `link_limit` from place `at` on, and r is the place behind them; past the limit where there is no room for them all.
-pub record Put (at : ℕ) (new before after : List ℕ) (r : ℕ) : Type 0 where
+-- New keys were put into an area of `link_limit` from place `at` on, and the answer is the place behind them; none where there is no room for them all.
+pub record Put (at : ℕ) (new before after : List ℕ) (r : Option ℕ) : Type 0 where
   pub size : length after ≡ length before
-  pub within : r ≤ link_limit → (r ≡ at + length new) × (after ≡ sets before at new)
-  pub past : link_limit < r → link_limit < at + length new
+  pub placed : MatchOption r (link_limit < at + length new) (λ k. (k ≤ link_limit) × (k ≡ at + length new) × (after ≡ sets before at new))
 
--- The pairs of a and b: how many, and their keys in order; past the limit where there are more.
-pub record PairsFound (a b : Machine) (area : List ℕ) (r : ℕ) : Type 0 where
-  pub within : r ≤ link_limit → (r ≡ length (pairs a b)) × (take r area ≡ pair_keys a b)
-  pub past : link_limit < r → link_limit < length (pairs a b)
+-- The pairs of a and b: how many, and their keys in order; none where there are more than a machine may have links.
+pub record PairsFound (a b : Machine) (area : List ℕ) (r : Option ℕ) : Type 0 where
+  pub placed : MatchOption r (link_limit < length (pairs a b)) (λ k. (k ≤ link_limit) × (k ≡ length (pairs a b)) × (take k area ≡ pair_keys a b))

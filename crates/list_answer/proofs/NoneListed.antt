@@ -12,7 +12,9 @@ use Rattle.sheet.specs.Sheet.{sheet_of}
 use Rattle.sheet.specs.Machine.{parts_for, node_fields}
 use Rattle.search.specs.ListMachine.{empty, result_bytes}
 use Rattle.slots.specs.Slots.{nothing}
-use Rattle.list_answer.specs.declared.Listed.TheVariants as Listed
+use Rattle.std.specs.Prelude.{Result, Ok, Err}
+use Rattle.sheet.specs.declared.refusal.Refusal.{Refusal}
+use Rattle.list_answer.specs.declared.Listed.{Listed}
 use Rattle.list_answer.specs.ListAnswer.{listed_by, listed_in, listed_over}
 
 -- no nodes and no start
@@ -30,13 +32,16 @@ none-size = refl
 abbrev over : List ℕ → Bool → List ℕ
 over old b = cond b old (result_bytes empty ++ drop (length (result_bytes empty)) old)
 
+abbrev no_list : Listed
+no_list = record { nodes = 0; links = 0; taken = 0 }
+
 module _ (old : List ℕ) where
-  pub none-short : length old < 20 → (Listed.Refused 21 ≡ listed_in empty (length old)) × (old ≡ listed_over empty old)
+  pub none-short : length old < 20 → (Err Refusal.Room ≡ listed_in empty (length old)) × (old ≡ listed_over empty old)
   none-short h =
       let short = lt-ltb (length old) (length (result_bytes empty)) (omega (arith, none-size)) in
       (sym (ap (λ (b : Bool). listed_by b 0 0 0) short), sym (ap (over old) short))
 
-  pub none-long : (new : List ℕ) → 20 ≤ length old → new ≡ sets old 0 (bytes_of_all no_words) → (Listed.Made 0 0 0 ≡ listed_in empty (length old)) × (new ≡ listed_over empty old)
+  pub none-long : (new : List ℕ) → 20 ≤ length old → new ≡ sets old 0 (bytes_of_all no_words) → (Ok no_list ≡ listed_in empty (length old)) × (new ≡ listed_over empty old)
   none-long new h e =
       let long = le-ltb (length old) (length (result_bytes empty)) (omega (arith, none-size)) in (
         sym (ap (λ (b : Bool). listed_by b 0 0 0) long),

@@ -1,17 +1,18 @@
 -- What a call for a list answers and needs. But for `slots_of` and `slots_for` it mirrors the code: a reader need not believe that part. Definitions only.
-use Rattle.std.specs.Prelude.{Bool, true, false, cond, List, ◌++◌, ℕ, zero, suc, ◌+◌, ◌*◌, ltb, length, drop}
+use Rattle.std.specs.Prelude.{Bool, true, false, cond, List, ◌++◌, ℕ, zero, suc, ◌+◌, ◌*◌, ltb, length, drop, Result as Answer, Ok, Err}
+use Rattle.sheet.specs.declared.refusal.Refusal.{Refusal}
 use Rattle.sheet.specs.Machine.{Machine}
 use Rattle.machine.specs.Readings.{marked}
 use Rattle.search.specs.ListMachine.{Result, result_bytes}
 use Rattle.list_answer.specs.declared.Listed.{Listed}
 
 -- by whether the area is too short for so many nodes and links, and entries taken
-abbrev pub listed_by : Bool → ℕ → ℕ → ℕ → Listed
-listed_by true nodes links taken = Listed.Refused 21
-listed_by false nodes links taken = Listed.Made nodes links taken
+abbrev pub listed_by : Bool → ℕ → ℕ → ℕ → Answer Listed Refusal
+listed_by true nodes links taken = Err Refusal.Room
+listed_by false nodes links taken = Ok (record { nodes = nodes; links = links; taken = taken })
 
 -- a result, to an area of so many bytes
-abbrev pub listed_in : Result → ℕ → Listed
+abbrev pub listed_in : Result → ℕ → Answer Listed Refusal
 listed_in r room = listed_by (ltb room (length (result_bytes r))) (length r.machine.finals) (length r.machine.links) r.taken
 
 -- the area afterwards

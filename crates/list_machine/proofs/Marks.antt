@@ -11,7 +11,7 @@ use lib.ListN.{length, get_or, set, length-set}
 use lib.Seq.{get_or-set_same, get_or-set_other}
 use borrow.Author.Tests.{eqb-true, ne_eqb}
 use Rattle.search_slots.specs.Slots.{node_word, from_word, listed_word, state_word}
-use Rattle.list_machine.specs.TrimWords.{unmarked, mark_listed, mark_from, mark_back, marks, mark_of, mark_count, number_one, numbered, states, stated, kept_count, list_length, Readable, Linked, Listable, Writable}
+use Rattle.list_machine.specs.TrimWords.{unmarked, mark_listed, mark_from, mark_back, marks, mark_of, mark_count, number_one, numbered, states, stated, kept_count, Readable, Linked, Listable}
 
 -- no state's word of the entries below n
 abbrev pub Other : ℕ → ℕ → Type 0
@@ -292,5 +292,5 @@ module _ (bytes : List ℕ) (links : ℕ) (part : List ℕ) (entries listed : �
   pub new-kept : mark_count new (entries - 1) ≡ kept_count entries listed part
   new-kept = states-count (marks entries listed part) entries (omega (arith, x.linked.slots, length-marks part entries listed x.linked)) (entries - 1) (omega (arith, x.linked.some_in))
 
-  pub new-writable : (room : ℕ) → list_length listed (kept_count entries listed part) ≤ room → Writable bytes links new entries listed (kept_count entries listed part) room
-  new-writable room h = record { listable = record { linked = new-linked; readable = new-readable }; kept-is = sym new-kept; roomy = h }
+  pub new-listable : Listable bytes links new entries listed
+  new-listable = record { linked = new-linked; readable = new-readable }

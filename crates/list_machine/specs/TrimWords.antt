@@ -1,12 +1,13 @@
 -- Mirrors the code: a list machine marked, numbered and written. A reader need not believe it: laws tie it to ListMachine of crate search (proofs/Writings).
 -- Definitions only.
-use Rattle.std.specs.Prelude.{◌≡◌, cond, List, [], ◌∷◌, ◌++◌, ℕ, zero, suc, ◌+◌, ◌-◌, ◌*◌, ◌^◌, ◌≤◌, ◌<◌, eqb, ltb, length, get_or, set, replicate, drop}
+use Rattle.std.specs.Prelude.{◌≡◌, cond, List, [], ◌∷◌, ◌++◌, ℕ, zero, suc, ◌+◌, ◌-◌, ◌*◌, ◌^◌, ◌≤◌, ◌<◌, eqb, ltb, length, get_or, set, replicate, drop, Result}
 use Rattle.std.proofs.Math.Option.{none, some}
 use Rattle.tropical_weight.specs.Tropical.{Tropical}
 use Rattle.sheet.specs.Words.{word, bytes_of_all}
 use Rattle.sheet.specs.Machine.{Machine}
 use Rattle.machine.specs.Readings.{final}
 use Rattle.search.specs.Search.{half, first, Search}
+use Rattle.sheet.specs.declared.refusal.Refusal.{Refusal}
 use Rattle.list_answer.specs.declared.Listed.{Listed}
 use Rattle.list_answer.specs.ListAnswer.{listed_by}
 use Rattle.slots.specs.Slots.{nothing}
@@ -131,7 +132,7 @@ list_length listed kept = 16 * (listed + kept) + 12 * (2 + kept) + 20 + 4 * (lis
 
 -- ---- what writing answers and leaves
 -- into an area of so many bytes
-abbrev pub list_answer : ℕ → ℕ → ℕ → ℕ → Listed
+abbrev pub list_answer : ℕ → ℕ → ℕ → ℕ → Result Listed Refusal
 list_answer listed kept taken room = listed_by (ltb room (list_length listed kept)) (2 + kept) (listed + kept) taken
 
 -- the area afterwards: the words and then the bytes that were there, or just those where it is too short
@@ -177,9 +178,3 @@ pub record Linked (part : List ℕ) (entries listed : ℕ) : Type 0 where
 pub record Listable (bytes : List ℕ) (links : ℕ) (part : List ℕ) (entries listed : ℕ) : Type 0 where
   pub linked : Linked part entries listed
   pub readable : (i : ℕ) → 0 < i → i < entries → Readable bytes links part i
-
--- and the states are numbered, and the area long enough
-pub record Writable (bytes : List ℕ) (links : ℕ) (part : List ℕ) (entries listed kept room : ℕ) : Type 0 where
-  pub listable : Listable bytes links part entries listed
-  pub kept-is : kept ≡ mark_count part (entries - 1)
-  pub roomy : list_length listed kept ≤ room

@@ -10,12 +10,13 @@ ghost use Rattle.list_machine.specs.TrimWords.{start_words, blank_bits, entry_wo
 ghost use Rattle.list_machine.specs.TrimWords.{node_words, repeat_words, input_words};
 ghost use Rattle.list_machine.specs.TrimWords.{links_part, nodes_part, words_part, list_words};
 ghost use Rattle.list_machine.specs.TrimWords.{list_answer, list_after};
-ghost use Rattle.list_machine.specs.TrimWords.{Linked, Readable, Listable, Writable};
+ghost use Rattle.list_machine.specs.TrimWords.{Linked, Listable, list_length};
 
 use list_answer::Listed;
 use search_slots::{FROM, INPUT, LISTED, STATE};
-use sheet::refusal;
-use sheet::tr::{TRAILER, Trailer};
+use sheet::accepted::Sheet;
+use sheet::refusal::Refusal;
+use sheet::tr::TRAILER;
 use sheet::words::{put_word, put_words, word};
 use slots::{NOTHING, SLOT};
 
@@ -31,10 +32,8 @@ fn clear_marks(part: &mut [u32], entries: usize)
     requires { 8 * entries ≤ length part.old }
     ensures { part.new ≡ unmarked entries part.old }
 {
-    let mut i = 0usize;
-    while i < entries {
+    for i in 0..entries {
         part[SLOT * i + STATE] = 0;
-        i += 1;
     }
 }
 
@@ -44,11 +43,9 @@ fn mark_listed(part: &mut [u32], listed: usize)
         × ((k : ℕ) → k < listed → 8 * listed_word part.old k + 8 ≤ length part.old) }
     ensures { part.new ≡ mark_listed listed part.old }
 {
-    let mut k = 0usize;
-    while k < listed {
+    for k in 0..listed {
         let i = part[SLOT * k + LISTED] as usize;
         part[SLOT * i + STATE] = 1;
-        k += 1;
     }
 }
 
@@ -70,14 +67,13 @@ fn mark_back(part: &mut [u32], entries: usize)
         × ((i : ℕ) → 0 < i → i < entries → 8 * from_word part.old i + 8 ≤ length part.old) }
     ensures { part.new ≡ mark_back (entries - 1) part.old }
 {
-    let mut i = entries - 1;
-    while 0 < i {
+    for i in (1..entries).rev() {
         mark_from(part, i);
-        i -= 1;
     }
 }
 
-// Marks the entries on a way to one that is listed.
+// Marks the entries on a way to one that is listed. The part and its counts go as parameters here, as
+// each pass changes the part: a value that keeps the bounds is made once they are done.
 fn mark(part: &mut [u32], entries: usize, listed: usize)
     requires { Linked part.old entries listed }
     ensures { part.new ≡ marks entries listed part.old }
@@ -108,101 +104,158 @@ fn number(part: &mut [u32], entries: usize) -> u32
     ensures part_after { part.new ≡ states entries part.old }
 {
     let mut count = 0u32;
-    let mut i = 1usize;
-    while i < entries {
+    for i in 1..entries {
         count = number_one(part, i, count);
-        i += 1;
     }
     part[STATE] = 1;
     count
 }
 
-// Writes the start's links to the listed entries, in their order.
-fn put_start_links(part: &[u32], listed: usize, res: &mut [u8])
-    requires { (8 * listed ≤ length part.now)
-        × ((k : ℕ) → k < listed → 8 * listed_word part.now k + 8 ≤ length part.now)
-        × (16 * listed ≤ length res.old) }
-    ensures { res.new
-        ≡ sets res.old 0 (bytes_of_all (start_words part.now listed)) }
-{
-    let mut k = 0usize;
-    while k < listed {
-        let entry = part[SLOT * k + LISTED] as usize;
-        let words = [0, 0, 0, part[SLOT * entry + STATE]];
-        put_words(res, LINK * k, &words);
-        k += 1;
-    }
-}
-
-// The final weight's word of the old node of v, or 0 where an entry is finished.
-fn blank_bits(sheet: &[u8], links: usize, v: u32) -> u32
-    requires { (v ≡ nothing → ⊥) → (0 < v) × (16 * links + 12 * v ≤ length sheet.now) }
-    ensures { result ≡ blank_bits sheet.now links v }
-{
-    if v == NOTHING {
-        return 0;
-    }
-    word(sheet, LINK * links + NODE * ((v - 1) as usize) + 8)
-}
-
-// Writes the link of entry i: its input link's labels and weight, or none and a final weight.
-fn put_link(sheet: &[u8], links: usize, part: &[u32], i: usize, res: &mut [u8], at: usize)
-    requires { Readable sheet.now links part.now i × (at + 16 ≤ length res.old) }
-    ensures { res.new
-        ≡ sets res.old at (bytes_of_all (entry_words sheet.now links part.now i)) }
-{
-    let to = part[SLOT * (part[SLOT * i + FROM] as usize) + STATE];
-    let input = part[SLOT * i + INPUT];
-    if input == NOTHING {
-        let words = [0, 0, blank_bits(sheet, links, part[SLOT * i]), to];
-        put_words(res, at, &words);
-        return;
-    }
-    let l = LINK * (input as usize);
-    let words = [word(sheet, l), word(sheet, l + 4), word(sheet, l + 8), to];
-    put_words(res, at, &words);
-}
-
-// Writes the link of entry i where it is a state, and answers where the next one goes.
-fn put_stated(
-    sheet: &[u8],
-    links: usize,
-    part: &[u32],
-    i: usize,
-    res: &mut [u8],
-    at: usize,
-) -> usize
-    requires { Readable sheet.now links part.now i × (at + 16 * mark_of part.now i ≤ length res.old) }
-    ensures value { result ≡ at + 16 * mark_of part.now i }
-    ensures res_after { res.new
-        ≡ sets res.old at (bytes_of_all (stated_words sheet.now links part.now i)) }
-{
-    if part[SLOT * i + STATE] == 0 {
-        return at;
-    }
-    put_link(sheet, links, part, i, res, at);
-    at + LINK
-}
-
-// Writes the links of the entries that are states, in their order.
-fn put_entry_links(
-    sheet: &[u8],
-    links: usize,
-    part: &[u32],
+// A search's part whose states are numbered, and what its list machine is written from. The methods
+// write one after another into the result, each its own words: from `at` on where they do not begin it.
+#[derive(Clone, Copy)]
+struct Numbered<'a> {
+    sheet: Sheet<'a>,
+    part: &'a [u32],
     entries: usize,
-    res: &mut [u8],
-    at: usize,
-)
-    requires { (0 < entries) × ((i : ℕ) → 0 < i → i < entries → Readable sheet.now links part.now i)
-        × (at + 16 * mark_count part.now (entries - 1) ≤ length res.old) }
-    ensures { res.new
-        ≡ sets res.old at (bytes_of_all (link_words sheet.now links part.now (entries - 1))) }
-{
-    let mut next = at;
-    let mut i = 1usize;
-    while i < entries {
-        next = put_stated(sheet, links, part, i, res, next);
-        i += 1;
+    listed: usize,
+    ghost listable: { Listable sheet.bytes.now sheet.links part.now entries listed },
+}
+
+impl<'a> Numbered<'a> {
+    // Writes the start's links to the listed entries, in their order.
+    fn put_start_links(&self, res: &mut [u8])
+        requires { 16 * self.now.listed ≤ length res.old }
+        ensures { res.new
+            ≡ sets res.old 0 (bytes_of_all (start_words self.now.part.now self.now.listed)) }
+    {
+        for k in 0..self.listed {
+            let entry = self.part[SLOT * k + LISTED] as usize;
+            let words = [0, 0, 0, self.part[SLOT * entry + STATE]];
+            put_words(res, LINK * k, &words);
+        }
+    }
+
+    // The final weight's word of the old node of v, or 0 where an entry is finished.
+    fn blank_bits(&self, v: u32) -> u32
+        requires { (v ≡ nothing → ⊥) → (0 < v) × (16 * self.now.sheet.links + 12 * v ≤ length self.now.sheet.bytes.now) }
+        ensures { result ≡ blank_bits self.now.sheet.bytes.now self.now.sheet.links v }
+    {
+        if v == NOTHING {
+            return 0;
+        }
+        let at = LINK * (self.sheet.links as usize) + NODE * ((v - 1) as usize);
+        word(self.sheet.bytes, at + 8)
+    }
+
+    // Writes the link of entry i: its input link's labels and weight, or none and a final weight.
+    fn put_link(&self, i: usize, res: &mut [u8], at: usize)
+        requires { (0 < i) × (i < self.now.entries) × (at + 16 ≤ length res.old) }
+        ensures { res.new
+            ≡ sets res.old at (bytes_of_all (entry_words self.now.sheet.bytes.now self.now.sheet.links self.now.part.now i)) }
+    {
+        let to = self.part[SLOT * (self.part[SLOT * i + FROM] as usize) + STATE];
+        let input = self.part[SLOT * i + INPUT];
+        if input == NOTHING {
+            let words = [0, 0, self.blank_bits(self.part[SLOT * i]), to];
+            put_words(res, at, &words);
+            return;
+        }
+        let l = LINK * (input as usize);
+        let words = [
+            word(self.sheet.bytes, l),
+            word(self.sheet.bytes, l + 4),
+            word(self.sheet.bytes, l + 8),
+            to,
+        ];
+        put_words(res, at, &words);
+    }
+
+    // Writes the link of entry i where it is a state, and answers where the next one goes.
+    fn put_stated(&self, i: usize, res: &mut [u8], at: usize) -> usize
+        requires { (0 < i) × (i < self.now.entries) × (at + 16 * mark_of self.now.part.now i ≤ length res.old) }
+        ensures value { result ≡ at + 16 * mark_of self.now.part.now i }
+        ensures res_after { res.new
+            ≡ sets res.old at (bytes_of_all (stated_words self.now.sheet.bytes.now self.now.sheet.links self.now.part.now i)) }
+    {
+        if self.part[SLOT * i + STATE] == 0 {
+            return at;
+        }
+        self.put_link(i, res, at);
+        at + LINK
+    }
+
+    // Writes the links of the entries that are states, in their order.
+    fn put_entry_links(&self, res: &mut [u8], at: usize)
+        requires { at + 16 * mark_count self.now.part.now (self.now.entries - 1) ≤ length res.old }
+        ensures { res.new
+            ≡ sets res.old at (bytes_of_all (link_words self.now.sheet.bytes.now self.now.sheet.links self.now.part.now (self.now.entries - 1))) }
+    {
+        let mut next = at;
+        for i in 1..self.entries {
+            next = self.put_stated(i, res, next);
+        }
+    }
+
+    // Writes the word of entry i where it is a state, and answers where the next one goes. It stays apart
+    // from `put_stated`: each promises its own words, which one function with a closure would not name.
+    fn put_input(&self, i: usize, res: &mut [u8], at: usize) -> usize
+        requires { (i < self.now.entries) × (at + 4 * mark_of self.now.part.now i ≤ length res.old) }
+        ensures value { result ≡ at + 4 * mark_of self.now.part.now i }
+        ensures res_after { res.new
+            ≡ sets res.old at (bytes_of_all (repeat_words self.now.part.now i)) }
+    {
+        if self.part[SLOT * i + STATE] == 0 {
+            return at;
+        }
+        put_word(res, at, self.part[SLOT * i + INPUT]);
+        at + WORD
+    }
+
+    // Writes the words of the entries that are states, in their order.
+    fn put_inputs(&self, res: &mut [u8], at: usize)
+        requires { at + 4 * mark_count self.now.part.now (self.now.entries - 1) ≤ length res.old }
+        ensures { res.new
+            ≡ sets res.old at (bytes_of_all (input_words self.now.part.now (self.now.entries - 1))) }
+    {
+        let mut next = at;
+        for i in 1..self.entries {
+            next = self.put_input(i, res, next);
+        }
+    }
+
+    // Writes all links: the start's, then the entries'.
+    fn put_links(&self, res: &mut [u8])
+        requires { 16 * (self.now.listed + mark_count self.now.part.now (self.now.entries - 1)) ≤ length res.old }
+        ensures { res.new
+            ≡ sets res.old 0 (bytes_of_all (links_part self.now.sheet.bytes.now self.now.sheet.links self.now.part.now self.now.entries self.now.listed)) }
+    {
+        self.put_start_links(res);
+        self.put_entry_links(res, LINK * self.listed);
+    }
+
+    // Writes a word for each link: none for the start's.
+    fn put_repeats(&self, res: &mut [u8], at: usize)
+        requires { at + 4 * (self.now.listed + mark_count self.now.part.now (self.now.entries - 1)) ≤ length res.old }
+        ensures { res.new
+            ≡ sets res.old at (bytes_of_all (words_part self.now.part.now self.now.entries self.now.listed)) }
+    {
+        put_nothings(res, at, self.listed);
+        self.put_inputs(res, at + WORD * self.listed);
+    }
+
+    // Writes the list machine and the words of its links.
+    fn put_list(&self, kept: usize, res: &mut [u8])
+        requires kept { kept ≡ mark_count self.now.part.now (self.now.entries - 1) }
+        requires roomy { list_length self.now.listed kept ≤ length res.old }
+        ensures { res.new
+            ≡ sets res.old 0 (bytes_of_all (list_words self.now.sheet.bytes.now self.now.sheet.links self.now.part.now self.now.entries self.now.listed kept)) }
+    {
+        let nodes_at = LINK * (self.listed + kept);
+        let words_at = nodes_at + NODE * (2 + kept) + TRAILER;
+        self.put_links(res);
+        put_states(self.listed, kept, res, nodes_at);
+        self.put_repeats(res, words_at);
     }
 }
 
@@ -213,10 +266,8 @@ fn put_nodes(res: &mut [u8], at: usize, count: usize)
         ≡ sets res.old at (bytes_of_all (node_words count)) }
 {
     let words = [1, 0, 0];
-    let mut k = 0usize;
-    while k < count {
+    for k in 0..count {
         put_words(res, at + NODE * k, &words);
-        k += 1;
     }
 }
 
@@ -226,58 +277,9 @@ fn put_nothings(res: &mut [u8], at: usize, count: usize)
     ensures { res.new
         ≡ sets res.old at (bytes_of_all (replicate count nothing)) }
 {
-    let mut k = 0usize;
-    while k < count {
+    for k in 0..count {
         put_word(res, at + WORD * k, NOTHING);
-        k += 1;
     }
-}
-
-// Writes the word of entry i where it is a state, and answers where the next one goes.
-fn put_input(part: &[u32], i: usize, res: &mut [u8], at: usize) -> usize
-    requires { (8 * i + 8 ≤ length part.now) × (at + 4 * mark_of part.now i ≤ length res.old) }
-    ensures value { result ≡ at + 4 * mark_of part.now i }
-    ensures res_after { res.new
-        ≡ sets res.old at (bytes_of_all (repeat_words part.now i)) }
-{
-    if part[SLOT * i + STATE] == 0 {
-        return at;
-    }
-    put_word(res, at, part[SLOT * i + INPUT]);
-    at + WORD
-}
-
-// Writes the words of the entries that are states, in their order.
-fn put_inputs(part: &[u32], entries: usize, res: &mut [u8], at: usize)
-    requires { (0 < entries) × (8 * entries ≤ length part.now)
-        × (at + 4 * mark_count part.now (entries - 1) ≤ length res.old) }
-    ensures { res.new
-        ≡ sets res.old at (bytes_of_all (input_words part.now (entries - 1))) }
-{
-    let mut next = at;
-    let mut i = 1usize;
-    while i < entries {
-        next = put_input(part, i, res, next);
-        i += 1;
-    }
-}
-
-// Writes all links: the start's, then the entries'.
-fn put_links(
-    sheet: &[u8],
-    links: usize,
-    part: &[u32],
-    entries: usize,
-    listed: usize,
-    res: &mut [u8],
-)
-    requires { Listable sheet.now links part.now entries listed
-        × (16 * (listed + mark_count part.now (entries - 1)) ≤ length res.old) }
-    ensures { res.new
-        ≡ sets res.old 0 (bytes_of_all (links_part sheet.now links part.now entries listed)) }
-{
-    put_start_links(part, listed, res);
-    put_entry_links(sheet, links, part, entries, res, LINK * listed);
 }
 
 // Writes the nodes, the start and the final one first, and the trailer.
@@ -294,61 +296,38 @@ fn put_states(listed: usize, kept: usize, res: &mut [u8], at: usize)
     put_words(res, at + 2 * NODE + NODE * kept, &trailer);
 }
 
-// Writes a word for each link: none for the start's.
-fn put_repeats(part: &[u32], entries: usize, listed: usize, res: &mut [u8], at: usize)
-    requires { (0 < entries) × (8 * entries ≤ length part.now)
-        × (at + 4 * (listed + mark_count part.now (entries - 1)) ≤ length res.old) }
-    ensures { res.new
-        ≡ sets res.old at (bytes_of_all (words_part part.now entries listed)) }
-{
-    put_nothings(res, at, listed);
-    put_inputs(part, entries, res, at + WORD * listed);
-}
-
-// Writes the list machine and the words of its links.
-fn put_list(
-    sheet: &[u8],
-    links: usize,
-    part: &[u32],
-    entries: usize,
-    listed: usize,
-    kept: usize,
-    res: &mut [u8],
-)
-    requires { Writable sheet.now links part.now entries listed kept (length res.old) }
-    ensures { res.new
-        ≡ sets res.old 0 (bytes_of_all (list_words sheet.now links part.now entries listed kept)) }
-{
-    let nodes_at = LINK * (listed + kept);
-    let words_at = nodes_at + NODE * (2 + kept) + TRAILER;
-    put_links(sheet, links, part, entries, listed, res);
-    put_states(listed, kept, res, nodes_at);
-    put_repeats(part, entries, listed, res, words_at);
-}
-
 // Numbers the entries on a way as states, and writes their machine where the result has room.
 pub fn write_list(
-    sheet: &[u8],
-    t: Trailer,
+    sheet: &Sheet,
     part: &mut [u32],
     entries: usize,
     listed: usize,
     taken: u32,
     res: &mut [u8],
-) -> Listed
-    requires { Listable sheet.now t.links part.old entries listed }
+) -> Result<Listed, Refusal>
+    requires { Listable sheet.now.bytes.now sheet.now.links part.old entries listed }
     ensures value { result
         ≡ list_answer listed (kept_count entries listed part.old) taken (length res.old) }
     ensures part_after { part.new ≡ stated entries listed part.old }
     ensures res_after { res.new
-        ≡ list_after sheet.now t.links part.old entries listed res.old }
+        ≡ list_after sheet.now.bytes.now sheet.now.links part.old entries listed res.old }
 {
     mark(part, entries, listed);
     let kept = number(part, entries) as usize;
     let links = listed + kept;
     if res.len() < LINK * links + NODE * (2 + kept) + TRAILER + WORD * links {
-        return Listed::Refused(refusal::RESULT);
+        return Err(Refusal::Room);
     }
-    put_list(sheet, t.links as usize, part, entries, listed, kept, res);
-    Listed::Made((2 + kept) as u32, links as u32, taken)
+    let numbered = Numbered {
+        sheet: *sheet,
+        part,
+        entries,
+        listed,
+    };
+    numbered.put_list(kept, res);
+    Ok(Listed {
+        nodes: (2 + kept) as u32,
+        links: links as u32,
+        taken,
+    })
 }

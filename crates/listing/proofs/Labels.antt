@@ -1,24 +1,18 @@
--- The labels of a run, stored one after the other. Assumes nothing.
+-- The labels of a run, one after the other. Assumes nothing.
 use mathlib.Core.Path.{◌≡◌, sym, ap, ◌∙◌}
 use mathlib.Core.List.{List, [], ◌∷◌, ◌++◌, map, map-append, flat_map}
 use Prim.Native.Nat.{ℕ, ◌+◌, ◌*◌, ◌<◌}
 use native.Mathlib.Numerals.{add-one}
 use lib.ListN.{length, take, get_or}
 use lib.Seq.{take-suc}
-use Rattle.decimals.specs.Stored.{Puts}
-use Rattle.decimals.proofs.Storing.{puts-same, puts_then}
 use Rattle.sheet.specs.Words.{word}
 use Rattle.sheet.proofs.Below.{flat-snoc}
 use Rattle.listing.specs.Text.{label_text, labels_of}
 
 -- one label more of a run
-labels-more : (sheet run : List ℕ) (i : ℕ) → i < length run
+pub labels-more : (sheet run : List ℕ) (i : ℕ) → i < length run
     → flat_map label_text (labels_of sheet (take i run)) ++ label_text (word sheet (16 * get_or run i 0)) ≡ flat_map label_text (labels_of sheet (take (i + 1) run))
 labels-more sheet run i h =
     let label : ℕ → ℕ = λ (l : ℕ). word sheet (16 * l) in
     sym (flat-snoc label_text (map label (take i run)) (label (get_or run i 0)))
     ∙ ap (flat_map label_text) (sym (map-append label (take i run) (get_or run i 0 ∷ [])) ∙ ap (map label) (sym (ap (λ (k : ℕ). take k run) (add-one i) ∙ take-suc run i 0 h)))
-
-pub puts-label : (sheet run : List ℕ) (i : ℕ) {old mid new : List ℕ} {at here end label : ℕ} → i < length run → label ≡ word sheet (16 * get_or run i 0)
-    → Puts old at (flat_map label_text (labels_of sheet (take i run))) mid here → Puts mid here (label_text label) new end → Puts old at (flat_map label_text (labels_of sheet (take (i + 1) run))) new end
-puts-label sheet run i h e p q = puts-same (labels-more sheet run i h) (puts_then p (puts-same (ap label_text e) q))

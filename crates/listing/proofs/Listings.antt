@@ -11,7 +11,7 @@ use Rattle.sheet.specs.Machine.{Machine, machine}
 use Rattle.sheet.proofs.Fields.{length-read, read_fits}
 use Rattle.sheet.proofs.Round.{Below}
 use Rattle.machine.specs.Readings.{link, reading_of, reading_cost, IsReading}
-use Rattle.machine.proofs.Lists.{map_same}
+use Rattle.machine.proofs.Lists.{map_same, get_or-mem}
 use Rattle.machine.proofs.Runs.{run_in, run_length}
 use Rattle.machine.proofs.Readings.{final-in}
 use Rattle.machine.proofs.Accepted.{input-read}
@@ -21,13 +21,12 @@ use Rattle.search.specs.Listed.{list_of}
 use Rattle.search.proofs.Lists.{Accepted, accepted}
 use Rattle.search.proofs.Sizes.{rest-same}
 use Rattle.shortest_path.specs.Outcome.{answer_of}
-use Rattle.decimals.specs.Stored.{Puts}
-use Rattle.read_back.specs.declared.count.Counted.{Counted}
+use Rattle.std.specs.Prelude.{Result, Ok, Err}
+use Rattle.sheet.specs.declared.refusal.Refusal.{Refusal}
 use Rattle.read_back.specs.declared.reading.Told.{Told}
 use Rattle.read_back.specs.Answers.{units_in, reading_told}
 use Rattle.read_back.specs.Promise.{IsAnswer, CountsList, ReadsList}
 use Rattle.read_back.proofs.Ways.{stored-front}
-use Rattle.read_back.proofs.RunCosts.{link-in-sheet}
 use Rattle.read_back.proofs.Answering.{list_same, answer-few, answer-reading}
 use Rattle.listing.specs.Text.{labels_of, line_of}
 use Rattle.listing.specs.Printed.{sheet_most, run_most, list_for, reading_line, reading_lines}
@@ -50,10 +49,6 @@ lines_more m rank (run ∷ runs) (suc k) h =
     same = omega arith
 
 module _ (m : Machine) (runs : List (List ℕ)) where
-  pub lines_none : (old : List ℕ) (at : ℕ) → Puts old at (reading_lines m 1 (take 0 runs)) old at
-  unfolding reading_lines
-  lines_none old at = record { stored = refl; ends = omega arith }
-
   pub lines_next : (k : ℕ) → k < length runs → reading_lines m 1 (take k runs) ++ reading_line m (k + 1) (get_or runs k []) ≡ reading_lines m 1 (take (k + 1) runs)
   lines_next k h = (λ i. reading_lines m 1 (take k runs) ++ reading_line m (turned i) (get_or runs k [])) ∙ lines_more m 1 runs k h
     where
@@ -64,17 +59,8 @@ module _ (m : Machine) (runs : List (List ℕ)) where
   lines-all k count e a b = ap (reading_lines m 1) (take_all k runs (omega (arith, e)))
 
 -- what is told of a reading, by its values
-pub told-parts : (m : Machine) (way : List ℕ) (count : ℕ) (cost : ℤ) (end : ℕ) → Told.Reading count cost end ≡ reading_told m way → (count ≡ length way) × (cost ≡ units_in (reading_cost m (reading_of m way)))
-told-parts m way count cost end e = let a : count ≡ length way = cc in let b : cost ≡ units_in (reading_cost m (reading_of m way)) = cc in (a, b)
-
-pub told-reading : (m : Machine) (way : List ℕ) (k : ℕ) → Told.Refused k ≡ reading_told m way → ⊥
-told-reading m way k e = let z : ◌≡◌ {A = ℕ} 0 1 = cc in omega arith
-
-pub counted-readings : (count : ℕ) (list : List (List ℕ)) → Counted.Readings count ≡ Counted.Readings (length list) → count ≡ length list
-counted-readings count list e = let z : count ≡ length list = cc in z
-
-pub counted-refused : (k : ℕ) (list : List (List ℕ)) → Counted.Refused k ≡ Counted.Readings (length list) → ⊥
-counted-refused k list e = let z : ◌≡◌ {A = ℕ} 0 1 = cc in omega arith
+pub told-parts : (m : Machine) (way : List ℕ) (told : Told) → ◌≡◌ {A = Result Told Refusal} (Ok told) (Ok (reading_told m way)) → (told.links ≡ length way) × (told.cost ≡ units_in (reading_cost m (reading_of m way)))
+told-parts m way told e = let same : told ≡ reading_told m way = cc in (ap (λ (t : Told). t.links) same, ap (λ (t : Told). t.cost) same)
 
 module _ (sheet : List ℕ) (below : Below 256 sheet) (n : ℕ) (result : List ℕ) (nodes links : ℕ) (h : IsAnswer sheet n result nodes links) where
   abbrev m : Machine
@@ -90,8 +76,8 @@ module _ (sheet : List ℕ) (below : Below 256 sheet) (n : ℕ) (result : List �
       list_same sheet below n result nodes links h ∙ rest-same m a n h.few (drop (length (answer_of sheet n)) result) []
       ∙ ap (list_of n (length r.machine.finals) (length r.machine.links)) (append-nil (result_bytes r))
 
-  pub held-count : (told : Counted) → CountsList result n nodes links told → told ≡ Counted.Readings (length (list_for (machine sheet) n))
-  held-count told c = c sheet below h ∙ ap (λ (l : List (List ℕ)). Counted.Readings (length l)) list-is
+  pub held-count : (told : Result ℕ Refusal) → CountsList result n nodes links told → told ≡ Ok (length (list_for (machine sheet) n))
+  held-count told c = c sheet below h ∙ ap (λ (l : List (List ℕ)). let z : Result ℕ Refusal = Ok (length l) in z) list-is
 
   -- at most n readings
   pub held-few : length (list_for (machine sheet) n) ≤ n
@@ -125,11 +111,11 @@ module _ (sheet : List ℕ) (below : Below 256 sheet) (n : ℕ) (result : List �
         )
 
     -- what is told of it, and its numbers at the area's front
-    pub held-told : (old : List ℕ) (told : Told) (run : List ℕ) → length sheet ≤ sheet_most → length old ≡ run_most → ReadsList sheet n result nodes links k old told run
-        → (told ≡ reading_told (machine sheet) (get_or (list_for (machine sheet) n) k [])) × (run ≡ sets old 0 (get_or (list_for (machine sheet) n) k []))
+    pub held-told : (old : List ℕ) (told : Result Told Refusal) (run : List ℕ) → length sheet ≤ sheet_most → length old ≡ run_most → ReadsList sheet n result nodes links k old told run
+        → (told ≡ Ok (reading_told (machine sheet) (get_or (list_for (machine sheet) n) k []))) × (run ≡ sets old 0 (get_or (list_for (machine sheet) n) k []))
     held-told old told run s size c =
         let r = c h in_list (omega (arith, held-short s, size, ap length way-is)) in
-        (r.0 ∙ ap (reading_told m) way-is, r.1 ∙ ap (sets old 0) way-is)
+        (r.0 ∙ ap (λ (w : List ℕ). let z : Result Told Refusal = Ok (reading_told m w) in z) way-is, r.1 ∙ ap (sets old 0) way-is)
 
     module _ (old run : List ℕ) (count : ℕ) (counted : count ≡ length (get_or (list_for (machine sheet) n) k [])) (stored : run ≡ sets old 0 (get_or (list_for (machine sheet) n) k [])) (room : count ≤ length old) where
       pub front-is : take count run ≡ get_or (list_for (machine sheet) n) k []
@@ -139,13 +125,10 @@ module _ (sheet : List ℕ) (below : Below 256 sheet) (n : ℕ) (result : List �
       front-reading = subst (λ (l : List ℕ). IsReading m (reading_of m l)) (sym front-is) held-reading
 
       -- its links are in the sheet
-      pub front-in : (i : ℕ) → i < count → 16 * get_or run i 0 + 16 ≤ length sheet
+      pub front-in : (i : ℕ) → i < length (take count run) → 16 * get_or (take count run) i 0 + 16 ≤ length sheet
       front-in i c =
-          omega (
-            arith,
-            link-in-sheet sheet below h.accepted (take count run) front-reading i (omega (arith, c, counted, ap length front-is)),
-            get_or-take count run i 0 c,
-          )
+          let s = sheet-fields sheet h.accepted in
+          omega (arith, run_in m (take count run) front-reading.from (reading_of m (take count run)).end front-reading.runs (get_or (take count run) i 0) (get_or-mem (take count run) i 0 c), s.links-are, s.laid_out)
 
       labels-are : labels_of sheet (take count run) ≡ map (λ (l : ℕ). (link m l).ilabel) (take count run)
       labels-are = map_same _ _ (take count run) (λ l q. (fields-own sheet h.accepted).ilabel-at l (run_in m (take count run) front-reading.from (reading_of m (take count run)).end front-reading.runs l q))

@@ -1,5 +1,5 @@
 -- What is printed, by the way the code goes, and that its areas are long enough. Assumes nothing.
-use mathlib.Core.Path.{◌≡◌, refl, sym, ap, ◌∙◌}
+use mathlib.Core.Path.{◌≡◌, refl, sym, ap, ◌∙◌, subst}
 use mathlib.Core.Bool.{Bool, true, false, cond}
 use mathlib.Core.List.{List, [], ◌∷◌, ◌++◌}
 use Prim.Native.Nat.{ℕ, zero, suc, ◌+◌, ◌-◌, ◌*◌, ◌≤◌, ◌<◌}
@@ -19,13 +19,18 @@ use Rattle.machine.specs.Readings.{marked}
 use Rattle.search.specs.ListMachine.{result_for}
 use Rattle.search.proofs.Lists.{Accepted, accepted, marked-few}
 use Rattle.search.proofs.Sizes.{result-length, zero-holds, one_holds, many-holds}
-use Rattle.list_answer.specs.declared.Listed.TheVariants.{Made, Refused}
-use Rattle.shortest_path.specs.Outcome.{result_of, answer_of, slots_needed, tested_number, list_number, list_by, list_answer, result_after}
+use Rattle.std.specs.Prelude.{Ok, Err}
+use Rattle.sheet.specs.declared.refusal.Refusal.{Refusal}
+use Rattle.sheet.specs.Refusals.{number_of, number_in, answer}
+use Rattle.sheet.proofs.Refusals.{Known, number-told, number-positive, answer-some}
+use Rattle.machine.proofs.Machines.{input-known}
+use Rattle.list_answer.specs.declared.Listed.{Listed}
+use Rattle.shortest_path.specs.Outcome.{result_of, answer_of, slots_needed, tested_number, list_number, list_answer, result_after}
 use Rattle.list_answer.proofs.SlotsNeeded.{slots-many}
 use Rattle.shortest_path.proofs.Outcomes.{tested-input, tested-last, tested-zero, number-input, number-areas}
 use Rattle.read_back.specs.Promise.{IsAnswer}
 use Rattle.listing.specs.Text.{refused_line}
-use Rattle.listing.specs.Printed.{sheet_most, list_most, listing_number, listing_text, printed_for, printed}
+use Rattle.listing.specs.Printed.{sheet_most, list_most, listing_number, listing_text, listed_text, printed_for, printed, printing_number, printing_text}
 
 -- ---- the number, by what was tested
 module _ (n : ℕ) (sheet : List ℕ) where
@@ -36,27 +41,38 @@ module _ (n : ℕ) (sheet : List ℕ) where
   number_short : length sheet ≤ sheet_most → listing_number n sheet ≡ tested_number sheet n (cond (ltb list_most n) 20 0)
   number_short h = number-as ∙ ap (λ (b : Bool). cond b 20 (tested_number sheet n (cond (ltb list_most n) 20 0))) (le-ltb sheet_most (length sheet) h)
 
-  -- a refusal's line
+  pub long-number : sheet_most < length sheet → listing_number n sheet ≡ 20
+  long-number h = number-as ∙ ap (λ (b : Bool). cond b 20 (tested_number sheet n (cond (ltb list_most n) 20 0))) (lt-ltb sheet_most (length sheet) h)
+
+  pub large-number : length sheet ≤ sheet_most → list_most < n → listing_number n sheet ≡ tested_number sheet n 20
+  large-number h b = number_short h ∙ ap (λ (t : Bool). tested_number sheet n (cond t 20 0)) (lt-ltb list_most n b)
+
+  pub few-number : length sheet ≤ sheet_most → n ≤ list_most → listing_number n sheet ≡ tested_number sheet n 0
+  few-number h b = number_short h ∙ ap (λ (t : Bool). tested_number sheet n (cond t 20 0)) (le-ltb list_most n b)
+
+  -- so what is printed
   refused-is : (k : ℕ) → (k ≡ 0 → ⊥) → listing_number n sheet ≡ k → printed_for n sheet ≡ refused_line k
   refused-is k h e = ap (λ (j : ℕ). cond (eqb j 0) (listing_text (machine sheet) n) (refused_line j)) e ∙ ap (λ (b : Bool). cond b (listing_text (machine sheet) n) (refused_line k)) (ne_eqb k 0 h)
 
   pub printed-long : sheet_most < length sheet → printed_for n sheet ≡ refused_line 20
-  printed-long h = refused-is 20 (λ z. omega (arith, z)) (number-as ∙ ap (λ (b : Bool). cond b 20 (tested_number sheet n (cond (ltb list_most n) 20 0))) (lt-ltb sheet_most (length sheet) h))
+  printed-long h = refused-is 20 (λ z. omega (arith, z)) (long-number h)
 
   pub printed-large : length sheet ≤ sheet_most → list_most < n → printed_for n sheet ≡ refused_line (tested_number sheet n 20)
-  printed-large h b =
-      refused-is (tested_number sheet n 20) (λ z. let passed = tested-zero sheet n 20 z in omega (arith, sym (tested-last sheet n 20 passed.0 passed.1) ∙ z))
-      (number_short h ∙ ap (λ (t : Bool). tested_number sheet n (cond t 20 0)) (lt-ltb list_most n b))
+  printed-large h b = refused-is (tested_number sheet n 20) (λ z. let passed = tested-zero sheet n 20 z in omega (arith, sym (tested-last sheet n 20 passed.0 passed.1) ∙ z)) (large-number h b)
 
   module _ (h : length sheet ≤ sheet_most) (b : n ≤ list_most) where
-    few-number : listing_number n sheet ≡ tested_number sheet n 0
-    few-number = number_short h ∙ ap (λ (t : Bool). tested_number sheet n (cond t 20 0)) (le-ltb list_most n b)
-
     pub printed-refused : (k : ℕ) → (k ≡ 0 → ⊥) → input_number sheet ≡ k → printed_for n sheet ≡ refused_line k
-    printed-refused k ne e = refused-is k ne (few-number ∙ tested-input sheet n 0 (λ z. ne (sym e ∙ z)) ∙ e)
+    printed-refused k ne e = refused-is k ne (few-number h b ∙ tested-input sheet n 0 (λ z. ne (sym e ∙ z)) ∙ e)
 
     pub printed-listed : input_number sheet ≡ 0 → listing_text (machine sheet) n ≡ printed_for n sheet
-    printed-listed e = sym (ap (λ (j : ℕ). cond (eqb j 0) (listing_text (machine sheet) n) (refused_line j)) (few-number ∙ tested-last sheet n 0 e (omega arith)))
+    printed-listed e = sym (ap (λ (j : ℕ). cond (eqb j 0) (listing_text (machine sheet) n) (refused_line j)) (few-number h b ∙ tested-last sheet n 0 e (omega arith)))
+
+  -- and the list's text
+  pub text-none : (listing_number n sheet ≡ 0 → ⊥) → listed_text n sheet ≡ []
+  text-none d = ap (λ (b : Bool). cond b (listing_text (machine sheet) n) []) (ne_eqb (listing_number n sheet) 0 d)
+
+  pub text-is : listing_number n sheet ≡ 0 → listing_text (machine sheet) n ≡ listed_text n sheet
+  text-is e = sym (ap (λ (j : ℕ). cond (eqb j 0) (listing_text (machine sheet) n) []) e)
 
 -- ---- the areas are long enough
 abbrev pub work_words : ℕ
@@ -112,12 +128,9 @@ module _ (sheet : List ℕ) (below : Below 256 sheet) (n : ℕ) (short : length 
       go false q = number-input sheet n work_words result_bytes_most (eqb-false (input_number sheet) 0 q)
 
   -- ---- by what the call for lists answers
-  pub refused-input : (k : ℕ) → Refused k ≡ list_answer sheet n work_words result_bytes_most → (input_number sheet ≡ k) × (k ≡ 0 → ⊥)
-  refused-input k q = go (eqb (list_number sheet n work_words result_bytes_most) 0) refl q
-    where
-      go : (b : Bool) → eqb (list_number sheet n work_words result_bytes_most) 0 ≡ b → Refused k ≡ list_by b (result_of sheet n) (list_number sheet n work_words result_bytes_most) → (input_number sheet ≡ k) × (k ≡ 0 → ⊥)
-      go true q h = let z : ◌≡◌ {A = ℕ} 0 1 = cc in absurd (omega arith)
-      go false q h = let same : k ≡ list_number sheet n work_words result_bytes_most = cc in (sym number-input-is ∙ sym same, λ z. eqb-false (list_number sheet n work_words result_bytes_most) 0 q (sym same ∙ z))
+  pub refused-input : (made : Listed) (r : Refusal) → Err r ≡ answer made (list_number sheet n work_words result_bytes_most) → number_of r ≡ input_number sheet
+  refused-input made r q =
+      ap number_in q ∙ number-told made (list_number sheet n work_words result_bytes_most) (subst Known (sym number-input-is) (input-known sheet)) ∙ number-input-is
 
   pub record IsMade (nodes links taken : ℕ) : Type 0 where
     pub passed : input_number sheet ≡ 0
@@ -125,12 +138,10 @@ module _ (sheet : List ℕ) (below : Below 256 sheet) (n : ℕ) (short : length 
     pub links-are : links ≡ length (result_of sheet n).machine.links
     pub taken_is : taken ≡ (result_of sheet n).taken
 
-  pub made-input : (nodes links taken : ℕ) → Made nodes links taken ≡ list_answer sheet n work_words result_bytes_most → IsMade nodes links taken
-  made-input nodes links taken q = go (eqb (list_number sheet n work_words result_bytes_most) 0) refl q
-    where
-      go : (b : Bool) → eqb (list_number sheet n work_words result_bytes_most) 0 ≡ b → Made nodes links taken ≡ list_by b (result_of sheet n) (list_number sheet n work_words result_bytes_most) → IsMade nodes links taken
-      go false q h = let z : ◌≡◌ {A = ℕ} 0 1 = cc in absurd (omega arith)
-      go true q h = record { passed = sym number-input-is ∙ eqb-true (list_number sheet n work_words result_bytes_most) 0 q; nodes-are = cc; links-are = cc; taken_is = cc }
+  pub made-input : (made : Listed) → Ok made ≡ list_answer sheet n work_words result_bytes_most → IsMade made.nodes made.links made.taken
+  made-input made q =
+      let is = answer-some _ (list_number sheet n work_words result_bytes_most) made q in
+      record { passed = sym number-input-is ∙ is.0; nodes-are = ap (λ (l : Listed). l.nodes) is.1; links-are = ap (λ (l : Listed). l.links) is.1; taken_is = ap (λ (l : Listed). l.taken) is.1 }
 
   -- the result area then holds the list
   pub held : (nodes links taken : ℕ) → IsMade nodes links taken → (old result : List ℕ) → length old ≡ result_bytes_most → result ≡ result_after sheet n work_words old → IsAnswer sheet n result nodes links
@@ -159,3 +170,14 @@ behind read = take (length read - 1) (drop 1 read)
 pub printed-some : (read : List ℕ) → (length read ≡ 0 → ⊥) → printed_for (get_or read 0 0) (behind read) ≡ printed read
 printed-some [] h = absurd (h refl)
 printed-some (n ∷ sheet) h = ap (printed_for n) (take_all (length (n ∷ sheet) - 1) sheet (omega arith))
+
+-- ---- what is printed of all that was read, where it is refused, and where it is listed
+pub printed-refusal : (read : List ℕ) (r : Refusal) (page : List ℕ) → number_of r ≡ printing_number read → page ≡ printing_text read → page ++ refused_line (number_of r) ≡ printed read
+printed-refusal [] r page e t = (λ i. t i ++ refused_line (e i))
+printed-refusal (n ∷ sheet) r page e t =
+    let d : listing_number n sheet ≡ 0 → ⊥ = λ z. number-positive r (e ∙ z) in
+    (λ i. (t ∙ text-none n sheet d) i ++ refused_line (e i)) ∙ sym (refused-is n sheet (listing_number n sheet) d refl)
+
+pub printed-list : (read : List ℕ) → printing_number read ≡ 0 → printing_text read ≡ printed read
+printed-list [] e = absurd (omega (arith, e))
+printed-list (n ∷ sheet) e = sym (text-is n sheet e) ∙ sym (ap (λ (j : ℕ). cond (eqb j 0) (listing_text (machine sheet) n) (refused_line j)) e)

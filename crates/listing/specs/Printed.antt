@@ -51,6 +51,10 @@ module _ (m : Machine) where
   abbrev pub listing_text : ℕ → List ℕ
   listing_text n = first_line (length (list_for n)) (result_for m n).taken ++ reading_lines 1 (list_for n)
 
+-- the list's text for n and a sheet where it is listed, else none
+abbrev pub listed_text : ℕ → List ℕ → List ℕ
+listed_text n sheet = cond (eqb (listing_number n sheet) 0) (listing_text (machine sheet) n) []
+
 -- for n and a sheet
 abbrev pub printed_for : ℕ → List ℕ → List ℕ
 printed_for n sheet = cond (eqb (listing_number n sheet) 0) (listing_text (machine sheet) n) (refused_line (listing_number n sheet))
@@ -59,3 +63,12 @@ printed_for n sheet = cond (eqb (listing_number n sheet) 0) (listing_text (machi
 abbrev pub printed : List ℕ → List ℕ
 printed [] = refused_line 1
 printed (n ∷ sheet) = printed_for n sheet
+
+-- the number of the refusal of all that is read, or 0, and the list's text where it is listed
+abbrev pub printing_number : List ℕ → ℕ
+printing_number [] = 1
+printing_number (n ∷ sheet) = listing_number n sheet
+
+abbrev pub printing_text : List ℕ → List ℕ
+printing_text [] = []
+printing_text (n ∷ sheet) = listed_text n sheet

@@ -1,97 +1,84 @@
-// Text in a byte area: each function stores a text from a place on, and answers where it ends.
+// The lines of a listing: each function puts its text behind what a page holds already.
 ghost use mathlib.Core.List.{flat_map};
-ghost use Rattle.std.specs.Prelude.{ℕ, ◌+◌, ◌*◌, ◌≤◌, ◌<◌, length, take, get_or};
-ghost use Rattle.decimals.specs.Stored.{Puts};
+ghost use Rattle.std.specs.Prelude.{◌≡◌, ℕ, ◌+◌, ◌*◌, ◌≤◌, ◌<◌, ◌++◌, length, get_or};
+ghost use Rattle.sheet.specs.Refusals.{number_of};
+ghost use Rattle.listing.specs.Printed.{text_most};
 ghost use Rattle.listing.specs.Text.{signed, first_line, refused_line, label_text, labels_of, line_of};
 
-use decimals::write::{put_decimal, put_text};
+use decimals::text::Text;
+use sheet::refusal::Refusal;
+
+// The text of a listing as it is made, in an area that every listing fits in.
+pub type Page = Text<49152>;
 
 // A cost in decimal, with a minus sign where negative.
-pub fn put_cost(out: &mut [u8], at: usize, cost: i32) -> usize
-    requires { at + 11 ≤ length out.old }
-    ensures puts { Puts out.old at (signed cost) out.new result }
-    ensures upper_bound { result ≤ at + 11 }
+pub fn put_cost(page: &mut Page, cost: i32)
+    requires { length page.old + 11 ≤ text_most }
+    ensures text { page.new ≡ page.old ++ signed cost }
+    ensures upper_bound { length page.new ≤ length page.old + 11 }
 {
-    let size = tropical_weight::magnitude(cost);
     if cost < 0 {
-        let next = put_text(out, at, b"-");
-        return put_decimal(out, next, size);
+        page.put_text(b"-");
     }
-    put_decimal(out, at, size)
+    page.put_decimal(cost.unsigned_abs());
 }
 
 // The first line: how many readings are listed, and how many entries were taken.
-pub fn put_first_line(out: &mut [u8], at: usize, readings: u32, taken: u32) -> usize
-    requires { at + 37 ≤ length out.old }
-    ensures puts { Puts out.old at (first_line readings taken) out.new result }
-    ensures upper_bound { result ≤ at + 37 }
+pub fn put_first_line(page: &mut Page, readings: u32, taken: u32)
+    requires { length page.old + 37 ≤ text_most }
+    ensures text { page.new ≡ page.old ++ first_line readings taken }
+    ensures upper_bound { length page.new ≤ length page.old + 37 }
 {
-    let mut next = put_text(out, at, b"readings ");
-    next = put_decimal(out, next, readings);
-    next = put_text(out, next, b" taken ");
-    next = put_decimal(out, next, taken);
-    put_text(out, next, b"\n")
+    page.put_text(b"readings ");
+    page.put_decimal(readings);
+    page.put_text(b" taken ");
+    page.put_decimal(taken);
+    page.put_text(b"\n");
 }
 
 // The line of a refusal.
-pub fn put_refused(out: &mut [u8], at: usize, k: u32) -> usize
-    requires { at + 19 ≤ length out.old }
-    ensures puts { Puts out.old at (refused_line k) out.new result }
-    ensures upper_bound { result ≤ at + 19 }
+pub fn put_refused(page: &mut Page, refusal: Refusal)
+    requires { length page.old + 19 ≤ text_most }
+    ensures text { page.new ≡ page.old ++ refused_line (number_of refusal) }
+    ensures upper_bound { length page.new ≤ length page.old + 19 }
 {
-    let mut next = put_text(out, at, b"refused ");
-    next = put_decimal(out, next, k);
-    put_text(out, next, b"\n")
+    page.put_text(b"refused ");
+    page.put_decimal(u32::from(refusal));
+    page.put_text(b"\n");
 }
 
 // A label of a reading, after a space.
-pub fn put_label(out: &mut [u8], at: usize, label: u32) -> usize
-    requires { at + 11 ≤ length out.old }
-    ensures puts { Puts out.old at (label_text label) out.new result }
-    ensures upper_bound { result ≤ at + 11 }
+fn put_label(page: &mut Page, label: u32)
+    requires { length page.old + 11 ≤ text_most }
+    ensures text { page.new ≡ page.old ++ label_text label }
+    ensures upper_bound { length page.new ≤ length page.old + 11 }
 {
-    let next = put_text(out, at, b" ");
-    put_decimal(out, next, label)
+    page.put_text(b" ");
+    page.put_decimal(label);
 }
 
-// The input labels of the first links of a run, which are numbers of links of the sheet.
-pub fn put_labels(sheet: &[u8], run: &[u32], count: u32, out: &mut [u8], at: usize) -> usize
-    requires count_in_bounds { count ≤ length run.now }
-    requires by_index { (i : ℕ) → i < count → 16 * get_or run.now i 0 + 16 ≤ length sheet.now }
-    requires count_in_bounds_2 { at + 11 * count ≤ length out.old }
-    ensures puts { Puts out.old at (flat_map label_text (labels_of sheet.now (take count run.now))) out.new result }
-    ensures upper_bound { result ≤ at + 11 * count }
+// The input labels of the links of a run, which are numbers of links of the sheet.
+fn put_labels(page: &mut Page, sheet: &[u8], run: &[u32])
+    requires by_index { (i : ℕ) → i < length run.now → 16 * get_or run.now i 0 + 16 ≤ length sheet.now }
+    requires room { length page.old + 11 * length run.now ≤ text_most }
+    ensures text { page.new ≡ page.old ++ flat_map label_text (labels_of sheet.now run.now) }
+    ensures upper_bound { length page.new ≤ length page.old + 11 * length run.now }
 {
-    let mut next = at;
-    let mut i = 0u32;
-    while i < count {
-        let link = run[i as usize] as usize;
-        let label = sheet::words::word(sheet, 16 * link);
-        next = put_label(out, next, label);
-        i += 1;
+    for l in run {
+        put_label(page, sheet::words::word(sheet, 16 * (*l as usize)));
     }
-    next
 }
 
 // The line of a reading: its rank, its cost, and the labels of its links.
-pub fn put_line(
-    sheet: &[u8],
-    run: &[u32],
-    count: u32,
-    rank: u32,
-    cost: i32,
-    out: &mut [u8],
-    at: usize,
-) -> usize
-    requires count_in_bounds { count ≤ length run.now }
-    requires by_index { (i : ℕ) → i < count → 16 * get_or run.now i 0 + 16 ≤ length sheet.now }
-    requires count_in_bounds_2 { at + 23 + 11 * count ≤ length out.old }
-    ensures puts { Puts out.old at (line_of rank cost (labels_of sheet.now (take count run.now))) out.new result }
-    ensures upper_bound { result ≤ at + 23 + 11 * count }
+pub fn put_line(page: &mut Page, sheet: &[u8], run: &[u32], rank: u32, cost: i32)
+    requires by_index { (i : ℕ) → i < length run.now → 16 * get_or run.now i 0 + 16 ≤ length sheet.now }
+    requires room { length page.old + 23 + 11 * length run.now ≤ text_most }
+    ensures text { page.new ≡ page.old ++ line_of rank cost (labels_of sheet.now run.now) }
+    ensures upper_bound { length page.new ≤ length page.old + 23 + 11 * length run.now }
 {
-    let mut next = put_decimal(out, at, rank);
-    next = put_text(out, next, b" ");
-    next = put_cost(out, next, cost);
-    next = put_labels(sheet, run, count, out, next);
-    put_text(out, next, b"\n")
+    page.put_decimal(rank);
+    page.put_text(b" ");
+    put_cost(page, cost);
+    put_labels(page, sheet, run);
+    page.put_text(b"\n");
 }

@@ -17,3 +17,4 @@ pub mod Testing
 pub mod SheetFields
 pub mod Bench
 pub mod FinalCount
+pub mod Machines

@@ -5,18 +5,21 @@ use mathlib.Core.List.{List}
 use Prim.Native.Nat.{ℕ, zero, suc, ◌+◌, ◌*◌, ◌≤◌, ◌<◌}
 use native.Mathlib.Nat.{add-zero, le_refl, le_of_lt}
 use native.Mathlib.Omega.{arith}
-use lib.Dec.{T, leb, ltb, eqb}
+use lib.Dec.{leb, ltb, eqb}
 use lib.ListN.{length, get_or}
-use borrow.Author.Tests.{eqb-true, eq-eqb}
+use borrow.Author.Tests.{ne_eqb}
 use Rattle.tropical_weight.specs.Limits.{node_limit, link_limit}
-use Rattle.sheet.specs.declared.read.Tested.TheVariants.{Accepted, Refused}
-use Rattle.sheet.specs.declared.tr.Trailer.{Trailer}
+use Rattle.std.specs.Prelude.{Err}
+use Rattle.sheet.specs.declared.refusal.Refusal.{Refusal}
 use Rattle.sheet.specs.Below.{all_below, sum_below}
 use Rattle.sheet.specs.Words.{word}
 use Rattle.sheet.specs.Sheet.{node_count, count, next, parts_of, sizes_fit, start_fits, nexts_fit, weights_fit, verdict, read_number, stated_links, stated_nodes, nodes_fit}
 use Rattle.sheet.specs.Machine.{sources_below}
 use Rattle.sheet.specs.Records.{trailer_at}
-use Rattle.sheet.specs.Answers.{tested, tested_by}
+use Rattle.sheet.specs.Refusals.{number_of}
+use Rattle.sheet.specs.Answers.{tested}
+use Rattle.sheet.proofs.Refusals.{answer-err, refusal-told, number-positive}
+use Rattle.sheet.proofs.AcceptedSheet.{read-known}
 use Rattle.sheet.proofs.Below.{all_below-same, sum_below-same}
 use Rattle.sheet.proofs.Fields.{read-fields, length-read, read_fits}
 use Rattle.sheet.proofs.Below.{sum_mono}
@@ -45,28 +48,14 @@ all-sums (suc n) f q = all_split (sum_below n f) (f n) q ∙ ap (λ (t : Bool). 
 
 -- ---- what reading found
 module _ (bytes : List ℕ) where
-  pub refused-reading : (k : ℕ) → tested bytes ≡ Refused k → tested bytes ≡ input_answer bytes
+  -- what reading refuses, the input is refused for
+  pub read-refused : (r : Refusal) → read_number bytes ≡ number_of r → input_number bytes ≡ number_of r
   unfolding input_number
-  refused-reading k e = go (eqb (read_number bytes) 0) refl e
-    where
-      go : (b : Bool) → eqb (read_number bytes) 0 ≡ b → tested_by b bytes (read_number bytes) ≡ Refused k → tested bytes ≡ input_answer bytes
-      go true q h = let z : ◌≡◌ {A = ℕ} 0 1 = cc in absurd (omega arith)
-      go false q h = sym (ap (λ (b : Bool). tested_by (eqb (cond (not b) (read_number bytes) (bounds_number (parts_of bytes))) 0) bytes (cond (not b) (read_number bytes) (bounds_number (parts_of bytes)))) q)
+  read-refused r e = ap (λ (b : Bool). cond (not b) (read_number bytes) (bounds_number (parts_of bytes))) (ne_eqb (read_number bytes) 0 (λ z. number-positive r (sym e ∙ z))) ∙ e
 
-  -- by the number of the refusal, or 0
-  pub accepted-number : (n : ℕ) (t : Trailer) → tested_by (eqb n 0) bytes n ≡ Accepted t → (n ≡ 0) × (t ≡ trailer_at bytes)
-  accepted-number n t e = go (eqb n 0) refl e
-    where
-      go : (b : Bool) → eqb n 0 ≡ b → tested_by b bytes n ≡ Accepted t → (n ≡ 0) × (t ≡ trailer_at bytes)
-      go true q h = (eqb-true n 0 q, cc)
-      go false q h = let z : ◌≡◌ {A = ℕ} 0 1 = cc in absurd (omega arith)
-
-  pub refused-number : (n k : ℕ) → tested_by (eqb n 0) bytes n ≡ Refused k → (n ≡ k) × (k ≡ 0 → ⊥)
-  refused-number n k e = go (eqb n 0) refl e
-    where
-      go : (b : Bool) → eqb n 0 ≡ b → tested_by b bytes n ≡ Refused k → (n ≡ k) × (k ≡ 0 → ⊥)
-      go true q h = let z : ◌≡◌ {A = ℕ} 0 1 = cc in absurd (omega arith)
-      go false q h = let same : n ≡ k = cc in (same, λ z. absurd (subst T (sym (eq-eqb n 0 (same ∙ z)) ∙ q) tt))
+  pub refused-reading : (r : Refusal) → tested bytes ≡ Err r → tested bytes ≡ input_answer bytes
+  refused-reading r e =
+      e ∙ sym (answer-err (trailer_at bytes) (input_number bytes) r (read-refused r (refusal-told (trailer_at bytes) (read_number bytes) (read-known bytes) r (sym e))))
 
   -- the numbers are those of tests 1 to 6
   pub input-most : input_number bytes ≤ 6
@@ -86,23 +75,21 @@ module _ (bytes : List ℕ) where
 
   module _ (read : read_number bytes ≡ 0) where
     -- by the number of tests 5 and 6
-    by-bounds : (k : ℕ) → bounds_number (parts_of bytes) ≡ k → input_answer bytes ≡ tested_by (eqb k 0) bytes k
+    by-bounds : (k : ℕ) → bounds_number (parts_of bytes) ≡ k → input_number bytes ≡ k
     unfolding input_number
-    by-bounds k e =
-        ap (λ (n : ℕ). tested_by (eqb (cond (not (eqb n 0)) n (bounds_number (parts_of bytes))) 0) bytes (cond (not (eqb n 0)) n (bounds_number (parts_of bytes)))) read
-        ∙ ap (λ (n : ℕ). tested_by (eqb n 0) bytes n) e
+    by-bounds k e = ap (λ (n : ℕ). cond (not (eqb n 0)) n (bounds_number (parts_of bytes))) read ∙ e
 
-    pub input-5 : counts_fit (parts_of bytes) ≡ false → Refused 5 ≡ input_answer bytes
+    pub input-5 : counts_fit (parts_of bytes) ≡ false → input_number bytes ≡ 5
     unfolding bounds_number
-    input-5 e = sym (by-bounds 5 (ap (λ (b : Bool). cond (not b) 5 (cond (not (links_climb (parts_of bytes))) 6 0)) e))
+    input-5 e = by-bounds 5 (ap (λ (b : Bool). cond (not b) 5 (cond (not (links_climb (parts_of bytes))) 6 0)) e)
 
-    pub input-6 : counts_fit (parts_of bytes) ≡ true → links_climb (parts_of bytes) ≡ false → Refused 6 ≡ input_answer bytes
+    pub input-6 : counts_fit (parts_of bytes) ≡ true → links_climb (parts_of bytes) ≡ false → input_number bytes ≡ 6
     unfolding bounds_number
-    input-6 e h = sym (by-bounds 6 (λ i. cond (not (e i)) 5 (cond (not (h i)) 6 0)))
+    input-6 e h = by-bounds 6 (λ i. cond (not (e i)) 5 (cond (not (h i)) 6 0))
 
-    pub input-passes : counts_fit (parts_of bytes) ≡ true → links_climb (parts_of bytes) ≡ true → Accepted (trailer_at bytes) ≡ input_answer bytes
+    pub input-passes : counts_fit (parts_of bytes) ≡ true → links_climb (parts_of bytes) ≡ true → input_number bytes ≡ 0
     unfolding bounds_number
-    input-passes e h = sym (by-bounds 0 (λ i. cond (not (e i)) 5 (cond (not (h i)) 6 0)))
+    input-passes e h = by-bounds 0 (λ i. cond (not (e i)) 5 (cond (not (h i)) 6 0))
 
     pub counts-are : counts_fit (parts_of bytes) ≡ leb (stated_nodes bytes) node_limit && leb (stated_links bytes) link_limit
     counts-are = λ i. leb ((read-fields bytes).nodes-are i) node_limit && leb ((read-fields bytes).links-are i) link_limit

@@ -1,10 +1,11 @@
 -- What testing the input answers, by document 01's numbers and values. `nodes_climb` mirrors the code: a reader need not believe that part. Definitions only.
-use Rattle.std.specs.Prelude.{ℕ, ◌+◌, ◌*◌, Bool, List, ltb, eqb}
-use Rattle.sheet.specs.declared.read.Tested.{Tested}
+use Rattle.std.specs.Prelude.{ℕ, ◌+◌, ◌*◌, Bool, List, ltb, Result}
+use Rattle.sheet.specs.declared.refusal.Refusal.{Refusal}
+use Rattle.sheet.specs.declared.tr.Trailer.{Trailer}
+use Rattle.sheet.specs.Refusals.{answer}
 use Rattle.sheet.specs.Below.{all_below}
 use Rattle.sheet.specs.Words.{word}
-use Rattle.sheet.specs.Records.{count_at, first_link}
-use Rattle.sheet.specs.Answers.{tested_by}
+use Rattle.sheet.specs.Records.{count_at, first_link, trailer_at}
 use Rattle.machine.specs.Input.{input_number}
 
 -- links that climb, node by node: node v's links begin where those of the nodes before it end
@@ -12,6 +13,6 @@ abbrev pub nodes_climb : List ℕ → ℕ → ℕ → Bool
 nodes_climb bytes links nodes =
     all_below nodes (λ v. all_below (count_at bytes links v) (λ i. ltb v (word bytes (16 * (first_link bytes links v + i) + 12))))
 
--- tests 1 to 6
-abbrev pub input_answer : List ℕ → Tested
-input_answer bytes = tested_by (eqb (input_number bytes) 0) bytes (input_number bytes)
+-- tests 1 to 6: the trailer, or the refusal of the number
+abbrev pub input_answer : List ℕ → Result Trailer Refusal
+input_answer bytes = answer (trailer_at bytes) (input_number bytes)

@@ -1,21 +1,18 @@
 // The final nodes of a sheet.
-ghost use Rattle.std.specs.Prelude.{◌≡◌, ◌+◌, ◌*◌, ◌≤◌, length};
+ghost use Rattle.std.specs.Prelude.{◌≡◌, ◌≤◌};
 ghost use Rattle.machine.specs.Finals.{final_count};
 
-use sheet::words::word;
+use sheet::accepted::Sheet;
 
 // How many of the nodes have mark 1.
-pub fn count_finals(sheet: &[u8], links: u32, nodes: u32) -> u32
-    requires { 16 * links + 12 * nodes ≤ length sheet.now }
-    ensures { (result ≡ final_count sheet.now links nodes) × (result ≤ nodes) }
+pub fn count_finals(sheet: &Sheet) -> u32
+    ensures { (result ≡ final_count sheet.now.bytes.now sheet.now.links sheet.now.nodes) × (result ≤ sheet.now.nodes) }
 {
     let mut count = 0u32;
-    let mut v = 0u32;
-    while v < nodes {
-        if word(sheet, 16 * (links as usize) + 12 * (v as usize) + 4) != 0 {
+    for v in 0..sheet.nodes {
+        if sheet.mark(v) != 0 {
             count += 1;
         }
-        v += 1;
     }
     count
 }

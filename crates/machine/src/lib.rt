@@ -2,5 +2,6 @@
 // that every call on a machine makes of its sheet, and the count of its final nodes.
 #![tactic(auto)]
 
+pub mod climbing;
 pub mod finals;
 pub mod input;

@@ -1,37 +1,16 @@
 -- One step of each of the heap's moves on words, at the bounds that the contracts name. Assumes nothing.
 use mathlib.Core.Path.{◌≡◌, refl, sym, ap, ◌∙◌, subst}
-use mathlib.Core.Bool.{Bool, true, false, not, cond, ◌&&◌, ◌||◌}
+use mathlib.Core.Bool.{Bool, true, false, cond, ◌&&◌}
 use mathlib.Core.List.{List}
 use Prim.Native.Nat.{ℕ, zero, suc, ◌+◌, ◌-◌, ◌*◌, ◌≤◌, ◌<◌}
 use native.Mathlib.Decide.{ℕ_discrete}
 use native.Mathlib.Omega.{arith}
 use lib.Dec.{T, ltb, leb, eqb, ltb→lt}
-use lib.Ieee.{Float, lt}
 use lib.ListN.{length, length-set}
 use lib.Seq.{get_or-set_same, get_or-set_other}
 use borrow.Author.Tests.{eq-eqb, ne_eqb, le-leb, lt-leb}
-use Rattle.tropical_weight.specs.Single.{Number}
 use Rattle.search_slots.specs.Slots.{heap_word}
-use Rattle.n_shortest.specs.EntryWords.{entry_w, rank_of}
-use Rattle.n_shortest.specs.HeapWords.{Comparable, HeapFits, half_first, less_w, store_w, swap_w, place_less, parent_of, sift_up_w, child_w, sift_down_w, pop_w}
-
--- ---- the order, by the way that its tests go
-module _ (part : List ℕ) (a b : ℕ) (x y : Float) (hx : x ≡ rank_of part a) (hy : y ≡ rank_of part b) where
-  abbrev tie : Bool
-  tie = half_first (entry_w part a) (entry_w part b)
-
-  test-is : less_w part a b ≡ lt x y || (not (lt y x) && tie)
-  unfolding less_w
-  test-is = sym (λ k. lt (hx k) (hy k) || (not (lt (hy k) (hx k)) && tie))
-
-  pub less-first : lt x y ≡ true → less_w part a b ≡ true
-  less-first h = test-is ∙ ap (λ (t : Bool). t || (not (lt y x) && tie)) h
-
-  pub less-second : lt x y ≡ false → lt y x ≡ true → less_w part a b ≡ false
-  less-second h k = test-is ∙ λ i. h i || (not (k i) && tie)
-
-  pub less-tie : lt x y ≡ false → lt y x ≡ false → less_w part a b ≡ half_first (entry_w part a) (entry_w part b)
-  less-tie h k = test-is ∙ λ i. h i || (not (k i) && tie)
+use Rattle.n_shortest.specs.HeapWords.{store_w, swap_w, place_less, parent_of, sift_up_w, child_w, sift_down_w}
 
 -- ---- stores at places
 pub place_same : (part : List ℕ) (i x : ℕ) → 8 * i + 5 < length part → heap_word (store_w part i x) i ≡ x
@@ -55,41 +34,6 @@ module _ (P : ℕ → Type 0) where
   swap-each part n i j r li lj h =
       store-each (store_w part i (heap_word part j)) n j (heap_word part i) (simp length-set r) lj (h i li)
       (λ k m ne. store-each part n i (heap_word part j) r li (h j lj) (λ k m ne. h k m) k m)
-
--- ---- what the functions ask
-pub fits-less : (part : List ℕ) (m n : ℕ) → m ≤ n → HeapFits part n → HeapFits part m
-fits-less part m n l f = record { room = omega (arith, f.room); each = λ i h. f.each i (omega arith) }
-
--- an entry can be compared after a store at a place as before it
-compared : (part : List ℕ) (i x a : ℕ) → Comparable part a → Comparable (store_w part i x) a
-compared part i x a c = record {
-  inside = simp length-set c.inside;
-  number = subst Number (sym (get_or-set_other part (8 * i + 5) (8 * a + 4) x 0 (λ e. omega arith))) c.number;
-}
-
-pub fits-swap : (part : List ℕ) (n i j : ℕ) → i < n → j < n → HeapFits part n → HeapFits (swap_w part i j) n
-fits-swap part n i j li lj f =
-    let one = store_w part i (heap_word part j) in
-    record {
-      room = simp length-set f.room;
-      each = λ k m. let a = heap_word (swap_w part i j) k in compared one j (heap_word part i) a (compared part i (heap_word part j) a (swap-each (Comparable part) part n i j f.room li lj f.each k m));
-    }
-
--- x stored at the end
-pub fits_more : (part : List ℕ) (len x : ℕ) → HeapFits part len → 8 * (len + 1) ≤ length part → Comparable part x → HeapFits (store_w part len x) (len + 1)
-fits_more part len x f r b = record {
-  room = simp length-set r;
-  each = λ k m. compared part len x (heap_word (store_w part len x) k) (store-each (Comparable part) part (len + 1) len x r (omega arith) b (λ k m ne. f.each k (omega arith)) k m);
-}
-
--- the last stored at the root
-pub fits-fewer : (part : List ℕ) (len : ℕ) → HeapFits part len → 0 < len → HeapFits (store_w part 0 (heap_word part (len - 1))) (len - 1)
-fits-fewer part len f l =
-    let last = heap_word part (len - 1) in
-    fits-less (store_w part 0 last) (len - 1) len (omega arith) (record {
-      room = simp length-set f.room;
-      each = λ k m. compared part 0 last (heap_word (store_w part 0 last) k) (store-each (Comparable part) part len 0 last f.room l (f.each (len - 1) (omega arith)) (λ k m ne. f.each k m) k m);
-    })
 
 -- ---- up
 up_root : (f : ℕ) (part : List ℕ) (i : ℕ) → i ≡ 0 → sift_up_w f part i ≡ part
@@ -205,7 +149,3 @@ module _ (n : ℕ) (part : List ℕ) (i : ℕ) where
 
     pub down-stop : place_less part i c ≡ true → sift_down_w (n - i) n part i ≡ part
     down-stop t = down-stays (n - i) (by_name true t)
-
-pub pop-made : (part : List ℕ) (len : ℕ) → sift_down_w (len - 1 - 0) (len - 1) (store_w part 0 (heap_word part (len - 1))) 0 ≡ pop_w part len
-unfolding pop_w
-pop-made part len = ap (λ (k : ℕ). sift_down_w k (len - 1) (store_w part 0 (heap_word part (len - 1))) 0) (let z : len - 1 - 0 ≡ len - 1 = omega arith in z)

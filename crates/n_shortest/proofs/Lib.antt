@@ -7,3 +7,4 @@ pub mod Taking
 pub mod Storing
 pub mod Stepping
 pub mod Running
+pub mod Keeping

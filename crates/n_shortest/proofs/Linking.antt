@@ -41,13 +41,10 @@ module _ (p : Places) (x : ℕ) (cost : Float) where
 
   -- ---- after so many turns
   pub record Going (most head : ℕ) (s₀ : Words) (turn k : ℕ) (s : Words) : Type 0 where
-    pub few : turn ≤ most
-    pub sized : Sized p s
     pub fan : ℕ
     pub chain : Chain p s.part fan k
     pub free : 8 * (s.counts.entries + fan) ≤ p.nodes
     pub rest : links_w p x cost most head s₀ ≡ links_w p x cost (most - turn) k s
-    pub long : length s.part ≡ length s₀.part
 
   -- the link that is next, and the room for its entry
   pub record Next (k : ℕ) (s : Words) (fan : ℕ) : Type 0 where
@@ -62,7 +59,7 @@ module _ (p : Places) (x : ℕ) (cost : Float) where
   next k s zero h e = absurd (e h)
   next k s (suc n) h e = record { slot = h.0; node = h.1; fewer = n; one_more = refl; chain = h.2 }
 
-  module _ (most head : ℕ) (s₀ : Words) (turn k : ℕ) (s : Words) (g : Going most head s₀ turn k s) (more : turn < most) (on : k ≡ nothing → ⊥) where
+  module _ (most head : ℕ) (s₀ : Words) (turn k : ℕ) (s : Words) (z : Sized p s) (g : Going most head s₀ turn k s) (more : turn < most) (on : k ≡ nothing → ⊥) where
     abbrev d : Next k s g.fan
     d = next k s g.fan g.chain on
 
@@ -72,15 +69,12 @@ module _ (p : Places) (x : ℕ) (cost : Float) where
     free_one : 8 * (s.counts.entries + 1) ≤ p.nodes
     free_one = omega (arith, g.free, d.one_more)
 
-    pub going_on : (z : Words) → z ≡ link_w p x cost k s → Going most head s₀ (turn + 1) (chain_word s.part p.links k) z
-    going_on z e = subst (Going most head s₀ (turn + 1) (chain_word s.part p.links k)) (sym e) (record {
-      few = omega arith;
-      sized = sized-put p s by x (repeated p.inputs k) g.sized free_one;
+    pub going_on : (y : Words) → y ≡ link_w p x cost k s → Going most head s₀ (turn + 1) (chain_word s.part p.links k) y
+    going_on y e = subst (Going most head s₀ (turn + 1) (chain_word s.part p.links k)) (sym e) (record {
       fan = d.fewer;
-      chain = chain_same p s.part (link_w p x cost k s).part (sym (length-put p s by x (repeated p.inputs k) g.sized free_one)) (λ j b. sym (put-beyond p s by x (repeated p.inputs k) g.sized free_one j (omega (arith, g.sized.after)))) d.fewer (chain_word s.part p.links k) d.chain;
+      chain = chain_same p s.part (link_w p x cost k s).part (sym (length-put p s by x (repeated p.inputs k) z free_one)) (λ j b. sym (put-beyond p s by x (repeated p.inputs k) z free_one j (omega (arith, z.after)))) d.fewer (chain_word s.part p.links k) d.chain;
       free = omega (arith, g.free, d.one_more, put_entries p.nodes by x (repeated p.inputs k) s);
-      rest = g.rest ∙ ap (λ n. links_w p x cost n k s) (let y : most - turn ≡ suc (most - (turn + 1)) = omega arith in y) ∙ links-step (most - (turn + 1)) k s on;
-      long = length-put p s by x (repeated p.inputs k) g.sized free_one ∙ g.long;
+      rest = g.rest ∙ ap (λ n. links_w p x cost n k s) (let d : most - turn ≡ suc (most - (turn + 1)) = omega arith in d) ∙ links-step (most - (turn + 1)) k s on;
     })
 
   -- ---- all of them

@@ -69,13 +69,7 @@ module _ (part : List ℕ) (nodes i : ℕ) (e : Entry) (from input : ℕ) where
     pub stored-rank : get_or (stored part nodes i e from input) (8 * i + 4) 0 ≡ number_bits (rank_w part nodes e)
     stored-rank = get_or-set_same four (8 * i + 4) (number_bits (rank_w part nodes e)) 0 (simp length-set (omega arith))
 
--- the heap fits, before an entry is stored and after
-pub sized-fits : (p : Places) (s : Words) → Sized p s → HeapFits s.part s.counts.heap
-sized-fits p s z = record {
-  room = omega (arith, z.heap-few, z.room, z.after, z.inside);
-  each = λ i h. record { inside = omega (arith, z.each i h, z.room, z.after, z.inside); number = z.numbers (heap_word s.part i) (z.each i h) };
-}
-
+-- the heap fits after an entry is stored
 module _ (p : Places) (s : Words) (e : Entry) (from input : ℕ) (z : Sized p s) (free : 8 * (s.counts.entries + 1) ≤ p.nodes) where
   abbrev with : List ℕ
   with = stored s.part p.nodes s.counts.entries e from input

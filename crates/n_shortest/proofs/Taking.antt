@@ -142,15 +142,11 @@ module _ (p : Places) (n most : ℕ) where
 
   -- the loop's turns
   pub record Turns (allowed : ℕ) (s₀ : Words) (turn : ℕ) (s : Words) : Type 0 where
-    pub few : turn ≤ allowed
-    pub long : length s.part ≡ length s₀.part
     pub now-at : s ≡ after_w p n most turn s₀
     pub rest : after_w p n most allowed s₀ ≡ after_w p n most (allowed - turn) s
 
-  pub turns-on : (allowed : ℕ) (s₀ : Words) (turn : ℕ) (s z : Words) → Turns allowed s₀ turn s → turn < allowed → stopped_w n s ≡ false → z ≡ step_w p n most s → length z.part ≡ length s.part → Turns allowed s₀ (turn + 1) z
-  turns-on allowed s₀ turn s z t m e q l = record {
-    few = omega arith;
-    long = l ∙ t.long;
+  pub turns-on : (allowed : ℕ) (s₀ : Words) (turn : ℕ) (s z : Words) → Turns allowed s₀ turn s → turn < allowed → stopped_w n s ≡ false → z ≡ step_w p n most s → Turns allowed s₀ (turn + 1) z
+  turns-on allowed s₀ turn s z t m e q = record {
     now-at = q ∙ ap (step_w p n most) t.now-at ∙ sym (after_more turn s₀ (sym (ap (stopped_w n) t.now-at) ∙ e)) ∙ ap (λ k. after_w p n most k s₀) (let y : suc turn ≡ turn + 1 = omega arith in y);
     rest = t.rest ∙ ap (λ k. after_w p n most k s) (let y : allowed - turn ≡ suc (allowed - (turn + 1)) = omega arith in y) ∙ after-step (allowed - (turn + 1)) s e ∙ ap (after_w p n most (allowed - (turn + 1))) (sym q);
   }

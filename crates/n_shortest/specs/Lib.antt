@@ -1,3 +1,4 @@
 pub mod EntryWords
 pub mod HeapWords
 pub mod SearchWords
+pub mod Goes

@@ -27,8 +27,7 @@ fn cost_of(e: Entry) -> f32
     ensures { result ≡ cost_of e }
 {
     match e {
-        Entry::Half(_, c) => c,
-        Entry::Finished(c) => c,
+        Entry::Half(_, c) | Entry::Finished(c) => c,
     }
 }
 
@@ -47,6 +46,7 @@ fn rank(part: &[u32], nodes: usize, e: Entry) -> f32
 }
 
 // The entry in slot x.
+#[tactic(auto, unfolding(crate::specs::EntryWords::entry_w))]
 pub fn entry_at(part: &[u32], x: u32) -> Entry
     requires { 8 * x + 1 < length part.now }
     ensures { result ≡ entry_w part.now x }

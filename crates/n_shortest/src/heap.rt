@@ -1,4 +1,6 @@
 // The heap of a search (shortest_path.rs of rustfst): numbers of entries, in a word of each slot.
+// It stays functions over the part: its length is another while it is sifted, so a struct of both would
+// be plainer in none of them.
 ghost use Rattle.std.specs.Prelude.{◌≡◌, ◌+◌, ◌-◌, ◌*◌, ◌≤◌, ◌<◌, length};
 ghost use Rattle.n_shortest.specs.HeapWords.{Comparable, HeapFits, half_first, less_w, swap_w, sift_up_w, child_w, sift_down_w, push_w, pop_w};
 
@@ -11,16 +13,11 @@ use slots::SLOT;
 fn half_first(a: Entry, b: Entry) -> bool
     ensures { result ≡ half_first a b }
 {
-    match a {
-        Entry::Half(_, _) => match b {
-            Entry::Half(_, _) => false,
-            Entry::Finished(_) => true,
-        },
-        Entry::Finished(_) => false,
-    }
+    matches!((a, b), (Entry::Half(_, _), Entry::Finished(_)))
 }
 
 // Whether entry a comes before entry b: by rank, and on equal rank half-built before finished.
+#[tactic(auto, unfolding(crate::specs::HeapWords::less_w))]
 fn less(part: &[u32], a: u32, b: u32) -> bool
     requires { Comparable part.now a × Comparable part.now b }
     ensures { result ≡ less_w part.now a b }
@@ -41,9 +38,7 @@ fn swap(part: &mut [u32], i: usize, j: usize)
     requires { (8 * i + 5 < length part.old) × (8 * j + 5 < length part.old) }
     ensures { part.new ≡ swap_w part.old i j }
 {
-    let x = part[SLOT * i + PLACE];
-    part[SLOT * i + PLACE] = part[SLOT * j + PLACE];
-    part[SLOT * j + PLACE] = x;
+    part.swap(SLOT * i + PLACE, SLOT * j + PLACE);
 }
 
 // Up from place i: swapped with the parent where it comes before it, and again from there.
@@ -62,6 +57,7 @@ fn sift_up(part: &mut [u32], i: usize)
 }
 
 // Of the children of place i in a heap of n, the second where it comes before the first.
+#[tactic(auto, unfolding(crate::specs::HeapWords::child_w))]
 fn child(part: &[u32], n: usize, i: usize) -> usize
     requires { HeapFits part.now n × (2 * i + 1 < n) }
     ensures value { result ≡ child_w part.now n i }
@@ -70,12 +66,11 @@ fn child(part: &[u32], n: usize, i: usize) -> usize
 {
     let left = 2 * i + 1;
     let right = 2 * i + 2;
-    if right < n {
-        if less(part, part[SLOT * right + PLACE], part[SLOT * left + PLACE]) {
-            return right;
-        }
+    if right < n && less(part, part[SLOT * right + PLACE], part[SLOT * left + PLACE]) {
+        right
+    } else {
+        left
     }
-    left
 }
 
 // Down from place i in a heap of n: swapped with that child unless it comes before it, so on ties
@@ -96,6 +91,7 @@ fn sift_down(part: &mut [u32], n: usize, i: usize)
 }
 
 // Puts entry x into a heap of len: at the end, and then up.
+#[tactic(auto, unfolding(crate::specs::HeapWords::push_w))]
 pub fn push(part: &mut [u32], len: usize, x: u32)
     requires { HeapFits part.old len × (8 * (len + 1) ≤ length part.old) × Comparable part.old x }
     ensures { part.new ≡ push_w part.old len x }
@@ -105,6 +101,7 @@ pub fn push(part: &mut [u32], len: usize, x: u32)
 }
 
 // Removes the head of a heap of len: the last goes to the root, and then down.
+#[tactic(auto, unfolding(crate::specs::HeapWords::pop_w))]
 pub fn pop(part: &mut [u32], len: usize)
     requires { HeapFits part.old len × (0 < len) }
     ensures { part.new ≡ pop_w part.old len }

@@ -1,5 +1,5 @@
 // Links, and pairs of links of two machines, as single numbers: sorting these puts links by label, and
-// pairs in the order of the product's links.
+// pairs in the order of the product's links. They stay numbers: the areas that they lie in are lent as words.
 ghost use Rattle.std.specs.Prelude.{◌≡◌, ◌^◌, ◌<◌};
 ghost use Rattle.tropical_weight.specs.Limits.{node_limit, link_limit};
 ghost use Rattle.product.specs.Keys.{link_key, key_label, key_node, key_link, pair_key, pair_node, pair_first, pair_second};
@@ -15,7 +15,7 @@ pub fn link_key(label: u32, node: u32, l: u32) -> u64
     requires { (node < node_limit) × (l < link_limit) }
     ensures { result ≡ link_key label node l }
 {
-    ((label as u64) * NODES + (node as u64)) * LINKS + (l as u64)
+    (u64::from(label) * NODES + u64::from(node)) * LINKS + u64::from(l)
 }
 
 // The least key of a link with the label of this one.

@@ -2,13 +2,14 @@
 use mathlib.Core.Path.{◌≡◌, refl, sym, ap, ◌∙◌, subst}
 use mathlib.Core.Bool.{Bool, true, false, not, ◌&&◌, cond}
 use mathlib.Core.Option.{Option, none, some}
+use Rattle.std.specs.Prelude.{Result, Ok, Err}
 use mathlib.Core.List.{List, []}
 use Prim.Native.Nat.{ℕ, zero, suc, ◌≤◌, ◌<◌}
 use native.Mathlib.Omega.{arith}
 use lib.Dec.{eqb, leb, ltb}
 use lib.ListN.{length, get_or, drop, length-map}
 use lib.Seq.{sets, length-sets}
-use borrow.Author.Tests.{lt-ltb, le-ltb, le-leb, lt-leb, leb-true, ltb-true, ltb-false, ne_eqb, eqb-true, eqb-false}
+use borrow.Author.Tests.{lt-ltb, le-ltb, le-leb, lt-leb, leb-true, ltb-true, ltb-false, ne_eqb, eqb-true}
 use Rattle.tropical_weight.specs.Limits.{list_limit}
 use Rattle.tropical_weight.specs.Tropical.{Tropical, fin}
 use Rattle.sheet.specs.Machine.{Machine, machine}
@@ -23,11 +24,13 @@ use Rattle.search.proofs.Lists.{Accepted, accepted, list_in, demand-result}
 use Rattle.shortest_path.specs.Outcome.{tested_number, answer_of}
 use Rattle.shortest_path.proofs.Joining.{zero-empty}
 use Rattle.shortest_path.proofs.Outcomes.{tested-input, tested-seven, tested-last, tested-zero}
-use Rattle.read_back.specs.declared.count.Counted.{Counted}
+use Rattle.sheet.specs.declared.refusal.Refusal.{Refusal}
+use Rattle.sheet.specs.Refusals.{number_of, answer_by, answer}
+use Rattle.sheet.proofs.Refusals.{answer-ok, answer-err, number-positive, answer-none}
 use Rattle.read_back.specs.declared.reading.Told.{Told}
 use Rattle.read_back.specs.Way.{answer_bytes, count_in, is_list, way_of}
 use Rattle.read_back.specs.Follows.{reads_to, run_by, if_reading}
-use Rattle.read_back.specs.Answers.{count_number, count_by, count_answer, units_in, held_reading, room_number, held_number, reading_number, reading_told, run_in, told_by, held_told, held_after, reading_answer, run_after}
+use Rattle.read_back.specs.Answers.{count_number, count_answer, units_in, held_reading, room_number, held_number, reading_number, reading_told, run_in, held_told, held_after, reading_answer, run_after}
 use Rattle.read_back.specs.Promise.{IsAnswer, CountsList, ReadsList, IsTrue, TellsTrue}
 use Rattle.read_back.proofs.Ways.{stored-front}
 use Rattle.read_back.proofs.Follow.{Reads, reads-is, is-reads}
@@ -35,9 +38,6 @@ use Rattle.read_back.proofs.Backs.{ReadsBack, result-reads, listed-reading}
 
 -- ---- how many readings
 module _ (result : List ℕ) (n nodes links : ℕ) where
-  abbrev counted : ℕ → Counted
-  counted k = count_by (eqb k 0) (count_in result nodes links n) k
-
   pub list-short : length result < answer_bytes result nodes links → is_list result nodes links n ≡ false
   list-short h = ap (λ (b : Bool). b && leb (count_in result nodes links n) n) (lt-leb (answer_bytes result nodes links) (length result) h)
 
@@ -61,33 +61,37 @@ module _ (result : List ℕ) (n nodes links : ℕ) where
   unfolding count_number
   count-few h = ap {B = ℕ} (λ (b : Bool). cond b 7 (cond (not (is_list result nodes links n)) 30 0)) (le-ltb list_limit n h)
 
-  pub counted-large : list_limit < n → Counted.Refused 7 ≡ count_answer result n nodes links
-  counted-large h = sym (ap counted (count-large h))
+  pub count_none : n ≤ list_limit → is_list result nodes links n ≡ false → count_number result n nodes links ≡ 30
+  count_none h e = count-few h ∙ ap {B = ℕ} (λ (b : Bool). cond (not b) 30 0) e
 
-  pub counted_none : n ≤ list_limit → is_list result nodes links n ≡ false → Counted.Refused 30 ≡ count_answer result n nodes links
-  counted_none h e = sym (ap counted (count-few h ∙ ap {B = ℕ} (λ (b : Bool). cond (not b) 30 0) e))
+  pub count-some : n ≤ list_limit → is_list result nodes links n ≡ true → count_number result n nodes links ≡ 0
+  count-some h e = count-few h ∙ ap {B = ℕ} (λ (b : Bool). cond (not b) 30 0) e
 
-  pub counted-some : n ≤ list_limit → is_list result nodes links n ≡ true → Counted.Readings (count_in result nodes links n) ≡ count_answer result n nodes links
-  counted-some h e = sym (ap counted (count-few h ∙ ap {B = ℕ} (λ (b : Bool). cond (not b) 30 0) e))
+  -- so the answers
+  pub counted-large : list_limit < n → Err Refusal.Count ≡ count_answer result n nodes links
+  counted-large h = sym (answer-err (count_in result nodes links n) (count_number result n nodes links) Refusal.Count (count-large h))
 
-  -- by what it answers
-  pub counts-given : (count : ℕ) → Counted.Readings count ≡ count_answer result n nodes links → (count ≡ count_in result nodes links n) × (n ≤ list_limit) × (is_list result nodes links n ≡ true)
-  counts-given count e = go (ltb list_limit n) refl
+  pub counted_none : n ≤ list_limit → is_list result nodes links n ≡ false → Err Refusal.NoAnswer ≡ count_answer result n nodes links
+  counted_none h e = sym (answer-err (count_in result nodes links n) (count_number result n nodes links) Refusal.NoAnswer (count_none h e))
+
+  pub counted-some : n ≤ list_limit → is_list result nodes links n ≡ true → Ok (count_in result nodes links n) ≡ count_answer result n nodes links
+  counted-some h e = sym (answer-ok (count_in result nodes links n) (count_number result n nodes links) (count-some h e))
+
+  -- number 0 comes of a list for an n that is not too large
+  pub count-zero : count_number result n nodes links ≡ 0 → (n ≤ list_limit) × (is_list result nodes links n ≡ true)
+  count-zero e = go (ltb list_limit n) refl
     where
-      listed : n ≤ list_limit → (b : Bool) → is_list result nodes links n ≡ b → (count ≡ count_in result nodes links n) × (n ≤ list_limit) × (is_list result nodes links n ≡ true)
-      listed h true q = let z : Counted.Readings count ≡ Counted.Readings (count_in result nodes links n) = e ∙ sym (counted-some h q) in let y : count ≡ count_in result nodes links n = cc in (y, h, q)
-      listed h false q = let z : Counted.Readings count ≡ Counted.Refused 30 = e ∙ sym (counted_none h q) in let y : ◌≡◌ {A = ℕ} 0 1 = cc in absurd (omega arith)
+      listed : n ≤ list_limit → (b : Bool) → is_list result nodes links n ≡ b → (n ≤ list_limit) × (is_list result nodes links n ≡ true)
+      listed h true q = (h, q)
+      listed h false q = absurd (omega (arith, e, count_none h q))
 
-      go : (b : Bool) → ltb list_limit n ≡ b → (count ≡ count_in result nodes links n) × (n ≤ list_limit) × (is_list result nodes links n ≡ true)
-      go true q = let z : Counted.Readings count ≡ Counted.Refused 7 = e ∙ sym (counted-large (ltb-true list_limit n q)) in let y : ◌≡◌ {A = ℕ} 0 1 = cc in absurd (omega arith)
+      go : (b : Bool) → ltb list_limit n ≡ b → (n ≤ list_limit) × (is_list result nodes links n ≡ true)
+      go true q = absurd (omega (arith, e, count-large (ltb-true list_limit n q)))
       go false q = listed (ltb-false list_limit n q) (is_list result nodes links n) refl
 
-  pub count-refused : (x : ℕ) → Counted.Refused x ≡ count_answer result n nodes links → (x ≡ count_number result n nodes links) × (x ≡ 0 → ⊥)
-  count-refused x e = go (eqb (count_number result n nodes links) 0) refl e
-    where
-      go : (b : Bool) → eqb (count_number result n nodes links) 0 ≡ b → Counted.Refused x ≡ count_by b (count_in result nodes links n) (count_number result n nodes links) → (x ≡ count_number result n nodes links) × (x ≡ 0 → ⊥)
-      go true q h = let z : ◌≡◌ {A = ℕ} 0 1 = cc in absurd (omega arith)
-      go false q h = let same : x ≡ count_number result n nodes links = cc in (same, λ z. eqb-false (count_number result n nodes links) 0 q (sym same ∙ z))
+-- ---- an answer by its number
+pub answer-as : {A : Type 0} (a b : A) (k : ℕ) → k ≡ 0 → a ≡ b → answer a k ≡ Ok b
+answer-as a b k e h = λ i. answer (h i) (e i)
 
 -- ---- the answer of the call for lists
 module _ (sheet : List ℕ) (below : Below 256 sheet) (n : ℕ) (result : List ℕ) (nodes links : ℕ) (h : IsAnswer sheet n result nodes links) where
@@ -143,12 +147,10 @@ module _ (sheet : List ℕ) (below : Below 256 sheet) (n : ℕ) (result : List �
     pub answer-held : held_reading (machine sheet) result n nodes links k ≡ some (get_or (list_of n nodes links result) k [])
     answer-held = ap (if_reading m) way ∙ ap (run_by (get_or (list_of n nodes links result) k [])) (is-reads m (get_or (list_of n nodes links result) k []) answer-reading)
 
-pub counts-list : (result : List ℕ) (n nodes links : ℕ) (told : Counted) → told ≡ count_answer result n nodes links → CountsList result n nodes links told
+pub counts-list : (result : List ℕ) (n nodes links : ℕ) (told : Result ℕ Refusal) → told ≡ count_answer result n nodes links → CountsList result n nodes links told
 counts-list result n nodes links told e sheet below h =
-    e ∙ sym (counted-some result n nodes links h.few (answer-list sheet below n result nodes links h)) ∙ ap Counted.Readings (answer-count sheet below n result nodes links h)
-
-pub counted-as : (result : List ℕ) (n nodes links : ℕ) {told : Counted} → told ≡ count_answer result n nodes links → (told ≡ count_answer result n nodes links) × CountsList result n nodes links told
-counted-as result n nodes links {told} e = (e, counts-list result n nodes links told e)
+    let count = answer-count sheet below n result nodes links h in
+    e ∙ answer-as (count_in result nodes links n) (length (list_of n nodes links result)) (count_number result n nodes links) (count-some result n nodes links h.few (answer-list sheet below n result nodes links h)) count
 
 -- ---- one reading
 module _ (sheet : List ℕ) (n : ℕ) (result : List ℕ) (nodes links k room : ℕ) where
@@ -157,9 +159,6 @@ module _ (sheet : List ℕ) (n : ℕ) (result : List ℕ) (nodes links k room : 
 
   abbrev number : ℕ
   number = reading_number sheet n result nodes links k room
-
-  abbrev answer : ℕ → Told
-  answer x = told_by (eqb x 0) (machine sheet) (run_in held) x
 
   -- refused before the list is looked at, with it, and where there is no reading k
   number-input : (input_number sheet ≡ 0 → ⊥) → number ≡ input_number sheet
@@ -194,10 +193,6 @@ module _ (sheet : List ℕ) (n : ℕ) (result : List ℕ) (nodes links k room : 
     pub number-room : k < count_in result nodes links n → reading_number sheet n result nodes links k room ≡ room_number (held_reading (machine sheet) result n nodes links k) room
     number-room b = number-listed ∙ ap {B = ℕ} (λ (b : Bool). cond b 31 (room_number held room)) (lt-leb (count_in result nodes links n) k b)
 
-  -- by a number that is not 0 the answer is it alone
-  pub answer-refused : (x : ℕ) → (x ≡ 0 → ⊥) → reading_number sheet n result nodes links k room ≡ x → Told.Refused x ≡ reading_answer sheet n result nodes links k room
-  answer-refused x d e = sym (ap answer e ∙ ap (λ (b : Bool). told_by b (machine sheet) (run_in held) x) (ne_eqb x 0 d))
-
   pub answer-input : (x : ℕ) → (x ≡ 0 → ⊥) → input_number sheet ≡ x → reading_number sheet n result nodes links k room ≡ x
   answer-input x d e = number-input (λ z. d (sym e ∙ z)) ∙ e
 
@@ -207,26 +202,32 @@ run-refused sheet n result nodes links k x run d e =
     ∙ ap (λ (b : Bool). cond b (sets run 0 (run_in (held_reading (machine sheet) result n nodes links k))) run) (ne_eqb x 0 d))
 
 -- ---- by the reading that is held
-module _ (m : Machine) where
-  pub held_none : (o : Option (List ℕ)) (run : List ℕ) → o ≡ none → (Told.Refused 30 ≡ held_told m o (length run)) × (run ≡ held_after o run)
-  held_none o run e = (sym (ap (λ (o : Option (List ℕ)). held_told m o (length run)) e), sym (ap (λ (o : Option (List ℕ)). held_after o run) e))
+module _ (m : Machine) (o : Option (List ℕ)) (run : List ℕ) where
+  pub held_none : o ≡ none → room_number o (length run) ≡ 30
+  held_none e = ap (λ (o : Option (List ℕ)). room_number o (length run)) e
 
-  pub held-short : (o : Option (List ℕ)) (way run : List ℕ) → o ≡ some way → length run < length way → (Told.Refused 21 ≡ held_told m o (length run)) × (run ≡ held_after o run)
-  held-short o way run e h = (
-    sym (ap (λ (o : Option (List ℕ)). held_told m o (length run)) e ∙ ap (λ (b : Bool). told_by (eqb (cond b 21 0) 0) m way (cond b 21 0)) (lt-ltb (length run) (length way) h)),
-    sym (ap (λ (o : Option (List ℕ)). held_after o run) e ∙ ap (λ (b : Bool). cond (eqb (cond b 21 0) 0) (sets run 0 way) run) (lt-ltb (length run) (length way) h)),
+  pub told-refused : (r : Refusal) → room_number o (length run) ≡ number_of r → (Err r ≡ held_told m o (length run)) × (run ≡ held_after o run)
+  told-refused r e = (
+    answer-none (reading_told m (run_in o)) (room_number o (length run)) r (sym e),
+    sym (ap (λ (b : Bool). cond b (sets run 0 (run_in o)) run) (ne_eqb (room_number o (length run)) 0 (λ z. number-positive r (sym e ∙ z)))),
   )
 
-  pub held-some : (o : Option (List ℕ)) (way run : List ℕ) → o ≡ some way → length way ≤ length run → (reading_told m way ≡ held_told m o (length run)) × (sets run 0 way ≡ held_after o run)
-  held-some o way run e h = (
-    sym (ap (λ (o : Option (List ℕ)). held_told m o (length run)) e ∙ ap (λ (b : Bool). told_by (eqb (cond b 21 0) 0) m way (cond b 21 0)) (le-ltb (length run) (length way) h)),
-    sym (ap (λ (o : Option (List ℕ)). held_after o run) e ∙ ap (λ (b : Bool). cond (eqb (cond b 21 0) 0) (sets run 0 way) run) (le-ltb (length run) (length way) h)),
-  )
+  module _ (way : List ℕ) (e : o ≡ some way) where
+    pub held-short : length run < length way → room_number o (length run) ≡ 21
+    held-short h = ap (λ (o : Option (List ℕ)). room_number o (length run)) e ∙ ap {B = ℕ} (λ (b : Bool). cond b 21 0) (lt-ltb (length run) (length way) h)
+
+    pub told-there : length way ≤ length run → (Ok (reading_told m way) ≡ held_told m o (length run)) × (sets run 0 way ≡ held_after o run)
+    told-there h =
+        let zero : room_number o (length run) ≡ 0 = ap (λ (o : Option (List ℕ)). room_number o (length run)) e ∙ ap {B = ℕ} (λ (b : Bool). cond b 21 0) (le-ltb (length run) (length way) h) in
+        let is = ap run_in e in (
+          sym (answer-as (reading_told m (run_in o)) (reading_told m way) (room_number o (length run)) zero (ap (reading_told m) is)),
+          sym (ap (λ (j : ℕ). cond (eqb j 0) (sets run 0 (run_in o)) run) zero ∙ ap (sets run 0) is),
+        )
 
 -- ---- the promises
 -- of the answer of the call for lists, its list
 module _ (sheet : List ℕ) (below : Below 256 sheet) (n : ℕ) (result : List ℕ) (nodes links k : ℕ) (old : List ℕ) where
-  pub reads-list : (told : Told) (run : List ℕ) → told ≡ reading_answer sheet n result nodes links k (length old) → run ≡ run_after sheet n result nodes links k old → ReadsList sheet n result nodes links k old told run
+  pub reads-list : (told : Result Told Refusal) (run : List ℕ) → told ≡ reading_answer sheet n result nodes links k (length old) → run ≡ run_after sheet n result nodes links k old → ReadsList sheet n result nodes links k old told run
   reads-list told run e s h b r =
       let m = machine sheet in
       let way = get_or (list_of n nodes links result) k [] in
@@ -234,7 +235,7 @@ module _ (sheet : List ℕ) (below : Below 256 sheet) (n : ℕ) (result : List �
       let zero : reading_number sheet n result nodes links k (length old) ≡ 0 =
       number-room sheet n result nodes links k (length old) h.accepted h.few (answer-list sheet below n result nodes links h) (omega (arith, answer-count sheet below n result nodes links h))
       ∙ ap (λ (o : Option (List ℕ)). room_number o (length old)) held ∙ ap {B = ℕ} (λ (b : Bool). cond b 21 0) (le-ltb (length old) (length way) r) in (
-        e ∙ ap (λ (x : ℕ). told_by (eqb x 0) m (run_in (held_reading m result n nodes links k)) x) zero ∙ ap (λ (o : Option (List ℕ)). reading_told m (run_in o)) held,
+        e ∙ answer-as (reading_told m (run_in (held_reading m result n nodes links k))) (reading_told m way) (reading_number sheet n result nodes links k (length old)) zero (ap (λ (o : Option (List ℕ)). reading_told m (run_in o)) held),
         s ∙ ap (λ (x : ℕ). cond (eqb x 0) (sets old 0 (run_in (held_reading m result n nodes links k))) old) zero ∙ ap (λ (o : Option (List ℕ)). sets old 0 (run_in o)) held,
       )
 
@@ -289,7 +290,7 @@ module _ (sheet : List ℕ) (n : ℕ) (result : List ℕ) (nodes links k : ℕ) 
         ends = ap (λ (x : List ℕ). (reading_of sm x).end) (sym front);
       }
 
-  pub tells-true : (told : Told) (run : List ℕ) → told ≡ reading_answer sheet n result nodes links k (length old) → run ≡ run_after sheet n result nodes links k old → TellsTrue (machine sheet) told run
+  pub tells-true : (told : Result Told Refusal) (run : List ℕ) → told ≡ reading_answer sheet n result nodes links k (length old) → run ≡ run_after sheet n result nodes links k old → TellsTrue (machine sheet) told run
   tells-true told run e s = go (eqb number 0) refl
     where
       number : ℕ
@@ -299,29 +300,31 @@ module _ (sheet : List ℕ) (n : ℕ) (result : List ℕ) (nodes links k : ℕ) 
       go true q =
           let z = zero_held (eqb-true (reading_number sheet n result nodes links k (length old)) 0 q) in
           let r = room-some read z.1 in
-          subst (λ (t : Told). TellsTrue sm t run) (sym (e ∙ ap (λ (b : Bool). told_by b sm (run_in read) (reading_number sheet n result nodes links k (length old))) q))
-          (subst (λ (x : List ℕ). TellsTrue sm (reading_told sm (run_in read)) x) (sym (s ∙ ap (λ (b : Bool). cond b (sets old 0 (run_in read)) old) q)) (is_true z.0 (run_in read) r.0 r.1))
-      go false q = subst (λ (t : Told). TellsTrue sm t run) (sym (e ∙ ap (λ (b : Bool). told_by b sm (run_in read) (reading_number sheet n result nodes links k (length old))) q)) tt
+          subst (λ (t : Result Told Refusal). TellsTrue sm t run) (sym (e ∙ ap (λ (b : Bool). answer_by b (reading_told sm (run_in read)) (reading_number sheet n result nodes links k (length old))) q))
+          (subst (λ (x : List ℕ). TellsTrue sm (Ok (reading_told sm (run_in read))) x) (sym (s ∙ ap (λ (b : Bool). cond b (sets old 0 (run_in read)) old) q)) (is_true z.0 (run_in read) r.0 r.1))
+      go false q = subst (λ (t : Result Told Refusal). TellsTrue sm t run) (sym (e ∙ ap (λ (b : Bool). answer_by b (reading_told sm (run_in read)) (reading_number sheet n result nodes links k (length old))) q)) tt
 
 -- ---- all that the call promises
 module _ (sheet : List ℕ) (below : Below 256 sheet) (n : ℕ) (result : List ℕ) (nodes links k : ℕ) (old : List ℕ) where
-  abbrev pub Answered : Told → List ℕ → Type 0
+  abbrev pub Answered : Result Told Refusal → List ℕ → Type 0
   Answered told run =
       (told ≡ reading_answer sheet n result nodes links k (length old))
       × ((run ≡ run_after sheet n result nodes links k old) × (ReadsList sheet n result nodes links k old told run × TellsTrue (machine sheet) told run))
 
   -- from the two equations
-  whole : (told : Told) (run : List ℕ) → told ≡ reading_answer sheet n result nodes links k (length old) → run ≡ run_after sheet n result nodes links k old → Answered told run
+  whole : (told : Result Told Refusal) (run : List ℕ) → told ≡ reading_answer sheet n result nodes links k (length old) → run ≡ run_after sheet n result nodes links k old → Answered told run
   whole told run e s = (e, (s, (reads-list sheet below n result nodes links k old told run e s, tells-true sheet n result nodes links k old told run e s)))
 
   -- refused by its number
-  pub answered : (x : ℕ) → (x ≡ 0 → ⊥) → reading_number sheet n result nodes links k (length old) ≡ x → Answered (Told.Refused x) old
-  answered x d e = whole (Told.Refused x) old (answer-refused sheet n result nodes links k (length old) x d e) (run-refused sheet n result nodes links k x old d e)
+  pub answered : (r : Refusal) → reading_number sheet n result nodes links k (length old) ≡ number_of r → Answered (Err r) old
+  answered r e =
+      whole (Err r) old (answer-none (reading_told (machine sheet) (run_in (held_reading (machine sheet) result n nodes links k))) (reading_number sheet n result nodes links k (length old)) r (sym e))
+      (run-refused sheet n result nodes links k (number_of r) old (number-positive r) e)
 
   -- by the reading that is held
-  pub answered-held : input_number sheet ≡ 0 → n ≤ list_limit → is_list result nodes links n ≡ true → k < count_in result nodes links n → (told : Told) (run : List ℕ)
+  pub answered-held : input_number sheet ≡ 0 → n ≤ list_limit → is_list result nodes links n ≡ true → k < count_in result nodes links n → (told : Result Told Refusal) (run : List ℕ)
       → told ≡ held_told (machine sheet) (held_reading (machine sheet) result n nodes links k) (length old) → run ≡ held_after (held_reading (machine sheet) result n nodes links k) old → Answered told run
   answered-held e h is b told run t s =
       let held = held_reading (machine sheet) result n nodes links k in
       let number = number-room sheet n result nodes links k (length old) e h is b in
-      whole told run (t ∙ ap (λ (x : ℕ). told_by (eqb x 0) (machine sheet) (run_in held) x) (sym number)) (s ∙ ap (λ (x : ℕ). cond (eqb x 0) (sets old 0 (run_in held)) old) (sym number))
+      whole told run (t ∙ ap (λ (x : ℕ). answer (reading_told (machine sheet) (run_in held)) x) (sym number)) (s ∙ ap (λ (x : ℕ). cond (eqb x 0) (sets old 0 (run_in held)) old) (sym number))

@@ -12,23 +12,25 @@ use lib.ListN.{length}
 use lib.Ieee.{binary32, of_bits}
 use borrow.Author.Tests.{eq-eqb, ne_eqb, eqb-true, ltb-true, lt-ltb}
 use Rattle.tropical_weight.specs.Tropical.{Tropical, fin, inf, ◌⊗◌}
-use Rattle.tropical_weight.specs.Limits.{unit, node_limit}
+use Rattle.tropical_weight.specs.Limits.{unit}
 use Rattle.tropical_weight.specs.Grid.{units_of}
 use Rattle.tropical_weight.proofs.Semiring.{is_finite, finite-⊗, is-finite}
 use Rattle.sheet.specs.Words.{word}
 use Rattle.sheet.specs.Below.{sum_below}
-use Rattle.sheet.specs.Sheet.{no_start, barred_bits, stated_links, stated_nodes}
+use Rattle.sheet.specs.declared.tr.Trailer.{Trailer}
+use Rattle.sheet.specs.Sheet.{no_start, barred_bits}
 use Rattle.sheet.specs.Records.{count_at, mark_at, final_at, first_link}
 use Rattle.sheet.specs.Machine.{Machine, machine, weight_of}
 use Rattle.sheet.proofs.Apart.{both}
 use Rattle.sheet.proofs.Below.{split_at}
+use Rattle.machine.specs.declared.climbing.Machine.{Machine as Climbing}
 use Rattle.machine.specs.Readings.{link, final, final_weight, node_or, IsRun, run_cost, IsReading, reading_of, reading_cost, end_from}
 use Rattle.machine.proofs.Runs.{run_ends}
 use Rattle.machine.proofs.SheetFields.{SheetFields, sheet-fields, next-first, first-in, marked-final, unmarked-final}
 use Rattle.read_back.specs.declared.walk.Walk.{Walk}
-use Rattle.read_back.specs.Way.{told_before, start_links}
+use Rattle.read_back.specs.Way.{told_before}
 use Rattle.read_back.specs.Follows.{leaves, goes_by, follows, is_ending, ends_at, ends_from, reads_to}
-use Rattle.read_back.specs.Walks.{Walking, lost, on_to, went_on, ended_by, outcome, Found, shape_of}
+use Rattle.read_back.specs.Walks.{goes_to, ended_by, outcome}
 use Rattle.read_back.proofs.Ways.{told_none, told-some}
 
 -- ---- the test
@@ -122,6 +124,41 @@ module _ (m : Machine) where
       ap (λ (r : List ℕ). outcome m u count (some (r ++ way))) (told-some number d)
       ∙ ap (λ (b : Bool). ended_by count (number ∷ way) (ends_at m (cond b (follows m (link m number).next way) none))) e
 
+  -- where a walk has come to, and by what is left
+  pub goes-none : (u count l : ℕ) → l ≡ no_start → goes_to m u count l ≡ some (count, u)
+  goes-none u count l e = ap (λ (b : Bool). cond b (some (count, u)) (cond (goes_by m u l) (some (count + 1, (link m l).next)) none)) (eq-eqb l no_start e)
+
+  goes-by : (u count l : ℕ) → (l ≡ no_start → ⊥) → goes_to m u count l ≡ cond (goes_by m u l) (some (count + 1, (link m l).next)) none
+  goes-by u count l d = ap (λ (b : Bool). cond b (some (count, u)) (cond (goes_by m u l) (some (count + 1, (link m l).next)) none)) (ne_eqb l no_start d)
+
+  pub goes-off : (u count l : ℕ) → (l ≡ no_start → ⊥) → goes_by m u l ≡ false → goes_to m u count l ≡ none
+  goes-off u count l d e = goes-by u count l d ∙ ap (λ (b : Bool). cond b (some (count + 1, (link m l).next)) none) e
+
+  pub goes-on : (u count l : ℕ) → (l ≡ no_start → ⊥) → goes_by m u l ≡ true → goes_to m u count l ≡ some (count + 1, (link m l).next)
+  goes-on u count l d e = goes-by u count l d ∙ ap (λ (b : Bool). cond b (some (count + 1, (link m l).next)) none) e
+
+  abbrev pub outcome_from : Option (ℕ × ℕ) → Option (List ℕ) → Option (ℕ × ℕ)
+  outcome_from none o = none
+  outcome_from (some x) o = outcome m x.1 x.0 o
+
+  pub outcome-goes : (u count l : ℕ) (o : Option (List ℕ)) → outcome m u count (told_before l o) ≡ outcome_from (goes_to m u count l) o
+  outcome-goes u count l o = go (ℕ_discrete l no_start)
+    where
+      by : (l ≡ no_start → ⊥) → (b : Bool) → goes_by m u l ≡ b → outcome m u count (told_before l o) ≡ outcome_from (goes_to m u count l) o
+      by d true e = outcome-on u count l o d e ∙ ap (λ (p : Option (ℕ × ℕ)). outcome_from p o) (sym (goes-on u count l d e))
+      by d false e = outcome-off u count l o d e ∙ ap (λ (p : Option (ℕ × ℕ)). outcome_from p o) (sym (goes-off u count l d e))
+
+      go : Dec (l ≡ no_start) → outcome m u count (told_before l o) ≡ outcome_from (goes_to m u count l) o
+      go (yes e) = outcome-none u count l o e ∙ ap (λ (p : Option (ℕ × ℕ)). outcome_from p o) (sym (goes-none u count l e))
+      go (no d) = by d (goes_by m u l) refl
+
+  -- at the last state
+  pub ends-here : (u count : ℕ) → is_ending (final m u) ≡ true → outcome m u count (some []) ≡ some (count, u)
+  ends-here u count e = ap (λ (b : Bool). ended_by count [] (cond b (some u) none)) e ∙ ap (λ (k : ℕ). some (k, u)) (let z : count + 0 ≡ count = omega arith in z)
+
+  pub ends-not : (u count : ℕ) → is_ending (final m u) ≡ false → outcome m u count (some []) ≡ none
+  ends-not u count e = ap (λ (b : Bool). ended_by count [] (cond b (some u) none)) e
+
 -- ---- a walk over a sheet
 -- a weight's field bars, or is finite
 finite-bits : (bits : ℕ) → is_finite (weight_of bits) ≡ not (eqb bits barred_bits)
@@ -146,31 +183,42 @@ in-part f (suc n) l h = elim (split_at l (sum_below n f)) [
   | inr k ↦ record { at = n; inside = omega arith; from = k; to = h }
 ]
 
-module _ (sheet : List ℕ) (w : Walk) (x : Walking sheet w) where
+-- what the sheet of a machine gives, by the counts that it keeps
+pub fields_in : (m : Climbing) → SheetFields m.sheet.bytes.now m.sheet.links m.sheet.nodes (machine m.sheet.bytes.now)
+fields_in m = subst (λ (t : Trailer). SheetFields m.sheet.bytes.now t.links t.nodes (machine m.sheet.bytes.now)) (sym m.sheet.stated) (sheet-fields m.sheet.bytes.now m.climbs)
+
+-- the links of a node end before the next one's
+pub first-next : (c : Climbing) (v : ℕ) → v < c.sheet.nodes → first_link c.sheet.bytes.now c.sheet.links v + count_at c.sheet.bytes.now c.sheet.links v ≤ c.sheet.links
+first-next c v h = omega (arith, next-first c.sheet.bytes.now c.sheet.links v, first-in (fields_in c) (suc v) h)
+
+module _ (w : Walk) where
+  abbrev sheet : List ℕ
+  sheet = w.machine.sheet.bytes.now
+
   abbrev m : Machine
-  m = machine sheet
+  m = machine w.machine.sheet.bytes.now
 
   abbrev T : ℕ
-  T = stated_links sheet
+  T = w.machine.sheet.links
 
-  f : SheetFields sheet (stated_links sheet) (stated_nodes sheet) (machine sheet)
-  f = sheet-fields sheet x.accepted
+  f : SheetFields sheet w.machine.sheet.links w.machine.sheet.nodes (machine sheet)
+  f = fields_in w.machine
 
   -- its node's links are those from its first on
-  pub part_end : w.first + count_at sheet (stated_links sheet) w.at ≤ stated_links sheet
-  part_end = omega (arith, x.first-is, next-first sheet T w.at, first-in f (suc w.at) x.inside)
+  pub part_end : w.first + count_at sheet w.machine.sheet.links w.at ≤ w.machine.sheet.links
+  part_end = omega (arith, w.first_is, next-first sheet T w.at, first-in f (suc w.at) w.inside)
 
-  pub leaves-here : (l : ℕ) → w.first ≤ l → l < w.first + count_at sheet (stated_links sheet) w.at → leaves (machine sheet) w.at l ≡ true
-  leaves-here l a b = leaves_of m w.at l (omega (arith, part_end, f.links-are)) (f.source-at w.at l x.inside (omega (arith, x.first-is)) (omega (arith, x.first-is)))
+  pub leaves-here : (l : ℕ) → w.first ≤ l → l < w.first + count_at sheet w.machine.sheet.links w.at → leaves (machine sheet) w.at l ≡ true
+  leaves-here l a b = leaves_of m w.at l (omega (arith, part_end, f.links-are)) (f.source-at w.at l w.inside (omega (arith, w.first_is)) (omega (arith, w.first_is)))
 
   leaves_in : (l : ℕ) → leaves m w.at l ≡ true → (w.first ≤ l) × (l < w.first + count_at sheet T w.at)
   leaves_in l e =
       let p = leaves-parts m w.at l e in
-      let q = in-part (count_at sheet T) (stated_nodes sheet) l (omega (arith, p.0, f.links-are, f.counted)) in
+      let q = in-part (count_at sheet T) w.machine.sheet.nodes l (omega (arith, p.0, f.links-are, f.counted)) in
       let same : q.at ≡ w.at = sym (f.source-at q.at l q.inside q.from q.to) ∙ p.1 in
-      (omega (arith, q.from, x.first-is, ap (first_link sheet T) same), omega (arith, q.to, x.first-is, ap (first_link sheet T) same, ap (count_at sheet T) same))
+      (omega (arith, q.from, w.first_is, ap (first_link sheet T) same), omega (arith, q.to, w.first_is, ap (first_link sheet T) same, ap (count_at sheet T) same))
 
-  pub leaves_none : (l : ℕ) → ((w.first ≤ l) → (l < w.first + count_at sheet (stated_links sheet) w.at) → ⊥) → leaves (machine sheet) w.at l ≡ false
+  pub leaves_none : (l : ℕ) → ((w.first ≤ l) → (l < w.first + count_at sheet w.machine.sheet.links w.at) → ⊥) → leaves (machine sheet) w.at l ≡ false
   leaves_none l d = go (leaves m w.at l) refl
     where
       go : (b : Bool) → leaves m w.at l ≡ b → b ≡ false
@@ -178,127 +226,36 @@ module _ (sheet : List ℕ) (w : Walk) (x : Walking sheet w) where
       go false e = refl
 
   -- ---- whether it goes by a link
-  pub goes-here : (l : ℕ) → w.first ≤ l → l < w.first + count_at sheet (stated_links sheet) w.at → (word sheet (16 * l + 8) ≡ barred_bits → ⊥) → goes_by (machine sheet) w.at l ≡ true
+  pub goes-here : (l : ℕ) → w.first ≤ l → l < w.first + count_at sheet w.machine.sheet.links w.at → (word sheet (16 * l + 8) ≡ barred_bits → ⊥) → goes_by (machine sheet) w.at l ≡ true
   goes-here l a b d =
       let passable : is_finite (link m l).weight ≡ true = ap is_finite (sym (f.weight-at l (omega (arith, part_end)))) ∙ finite-bits (word sheet (16 * l + 8)) ∙ ap not (ne_eqb (word sheet (16 * l + 8)) barred_bits d) in
       λ i. leaves-here l a b i && passable i
 
-  pub goes_none : (l : ℕ) → ((w.first ≤ l) → (l < w.first + count_at sheet (stated_links sheet) w.at) → ⊥) → goes_by (machine sheet) w.at l ≡ false
+  pub goes_none : (l : ℕ) → ((w.first ≤ l) → (l < w.first + count_at sheet w.machine.sheet.links w.at) → ⊥) → goes_by (machine sheet) w.at l ≡ false
   goes_none l d = ap (λ (b : Bool). b && is_finite (link m l).weight) (leaves_none l d)
 
-  pub goes-barred : (l : ℕ) → w.first ≤ l → l < w.first + count_at sheet (stated_links sheet) w.at → word sheet (16 * l + 8) ≡ barred_bits → goes_by (machine sheet) w.at l ≡ false
+  pub goes-barred : (l : ℕ) → w.first ≤ l → l < w.first + count_at sheet w.machine.sheet.links w.at → word sheet (16 * l + 8) ≡ barred_bits → goes_by (machine sheet) w.at l ≡ false
   goes-barred l a b e =
       let shut : is_finite (link m l).weight ≡ false = ap is_finite (sym (f.weight-at l (omega (arith, part_end)))) ∙ finite-bits (word sheet (16 * l + 8)) ∙ ap not (eq-eqb (word sheet (16 * l + 8)) barred_bits e) in
       λ i. leaves-here l a b i && shut i
 
-  -- on by a link it is a walk again
-  pub on-walking : (l : ℕ) → leaves (machine sheet) w.at l ≡ true → Walking sheet (on_to sheet w (link (machine sheet) l).next)
-  on-walking l e =
-      let p = leaves-parts m w.at l e in
-      record {
-        accepted = x.accepted;
-        inside = omega (arith, f.climbs.inside l p.0, f.nodes-are);
-        first-is = refl;
-        few = omega (arith, x.few, f.climbs.rises l p.0, p.1);
-      }
-
   -- what a link that leaves its node gives
   pub record OnBy (l : ℕ) : Type 0 where
-    pub link-in : 16 * l + 16 ≤ length sheet
+    pub link-in : l < w.machine.sheet.links
     pub next-is : word sheet (16 * l + 12) ≡ (link (machine sheet) l).next
-    pub node_in : 16 * stated_links sheet + 12 * (link (machine sheet) l).next ≤ length sheet
     pub rises : w.at < (link (machine sheet) l).next
-    pub first-in-links : first_link sheet (stated_links sheet) (link (machine sheet) l).next ≤ stated_links sheet
-    pub small : w.at < node_limit
+    pub inside : (link (machine sheet) l).next < w.machine.sheet.nodes
 
   pub on-by : (l : ℕ) → leaves (machine sheet) w.at l ≡ true → OnBy l
   on-by l e =
       let p = leaves-parts m w.at l e in
       let b : l < T = omega (arith, p.0, f.links-are) in
-      record {
-        link-in = omega (arith, b, f.laid_out);
-        next-is = f.next-at l b;
-        node_in = omega (arith, f.next-in l b, f.laid_out);
-        rises = omega (arith, f.climbs.rises l p.0, p.1);
-        first-in-links = first-in f (link m l).next (omega (arith, f.next-in l b));
-        small = omega (arith, x.inside, f.few-nodes);
-      }
-
-  -- ---- the number that comes next, and what the walk comes to
-  pub record Went (l : ℕ) (r : Walk) : Type 0 where
-    pub walks : r.good ≡ true → Walking sheet r
-    pub comes : (o : Option (List ℕ)) → r.good ≡ true → outcome (machine sheet) w.at w.count (told_before l o) ≡ outcome (machine sheet) r.at r.count o
-    pub stops : (o : Option (List ℕ)) → r.good ≡ false → outcome (machine sheet) w.at w.count (told_before l o) ≡ none
-
-  pub went : (l : ℕ) (r : Walk) → w.good ≡ true → r ≡ went_on sheet w l → Went l r
-  went l r good e = go (ℕ_discrete l no_start)
-    where
-      on : (l ≡ no_start → ⊥) → (b : Bool) → goes_by m w.at l ≡ b → r ≡ cond b (on_to sheet w (link m l).next) (lost w) → Went l r
-      on d true v z = record {
-        walks = λ g. subst (Walking sheet) (sym z) (on-walking l (goes_parts m w.at l v).0);
-        comes = λ o g. outcome-on m w.at w.count l o d v ∙ ap (λ (r : Walk). outcome m r.at r.count o) (sym z);
-        stops = λ o g. let y : true ≡ false = sym (ap (λ (r : Walk). r.good) z) ∙ g in let q : ◌≡◌ {A = ℕ} 0 1 = cc in absurd (omega arith);
-      }
-      on d false v z = record {
-        walks = λ g. let y : true ≡ false = sym g ∙ ap (λ (r : Walk). r.good) z in let q : ◌≡◌ {A = ℕ} 0 1 = cc in absurd (omega arith);
-        comes = λ o g. let y : true ≡ false = sym g ∙ ap (λ (r : Walk). r.good) z in let q : ◌≡◌ {A = ℕ} 0 1 = cc in absurd (omega arith);
-        stops = λ o g. outcome-off m w.at w.count l o d v;
-      }
-
-      go : Dec (l ≡ no_start) → Went l r
-      go (yes z) =
-          let same : r ≡ w = e ∙ ap (λ (b : Bool). cond b w (cond (goes_by m w.at l) (on_to sheet w (link m l).next) (lost w))) (eq-eqb l no_start z) in
-          record {
-            walks = λ g. subst (Walking sheet) (sym same) x;
-            comes = λ o g. outcome-none m w.at w.count l o z ∙ ap (λ (r : Walk). outcome m r.at r.count o) (sym same);
-            stops = λ o g. let y : true ≡ false = sym good ∙ sym (ap (λ (r : Walk). r.good) same) ∙ g in let q : ◌≡◌ {A = ℕ} 0 1 = cc in absurd (omega arith);
-          }
-      go (no d) = on d (goes_by m w.at l) refl (e ∙ ap (λ (b : Bool). cond b w (cond (goes_by m w.at l) (on_to sheet w (link m l).next) (lost w))) (ne_eqb l no_start d))
-
-  -- its node is in the sheet
-  pub node_in : 16 * stated_links sheet + 12 * w.at + 12 ≤ length sheet
-  node_in = omega (arith, f.laid_out, x.inside)
+      record { link-in = b; next-is = f.next-at l b; rises = omega (arith, f.climbs.rises l p.0, p.1); inside = f.next-in l b }
 
   -- ---- whether a reading may end at its node
-  pub ends-unmarked : (mark : ℕ) → mark ≡ mark_at sheet (stated_links sheet) w.at → mark ≡ 0 → is_ending (final (machine sheet) w.at) ≡ false
-  ends-unmarked mark e z = ap is_ending (unmarked-final f w.at x.inside (λ y. omega (arith, y, e, z)))
+  pub ends-unmarked : (mark : ℕ) → mark ≡ mark_at sheet w.machine.sheet.links w.at → mark ≡ 0 → is_ending (final (machine sheet) w.at) ≡ false
+  ends-unmarked mark e z = ap is_ending (unmarked-final f w.at w.inside (λ y. omega (arith, y, e, z)))
 
-  pub ends-marked : (mark bits : ℕ) → mark ≡ mark_at sheet (stated_links sheet) w.at → bits ≡ final_at sheet (stated_links sheet) w.at → (mark ≡ 0 → ⊥) → not (eqb bits barred_bits) ≡ is_ending (final (machine sheet) w.at)
+  pub ends-marked : (mark bits : ℕ) → mark ≡ mark_at sheet w.machine.sheet.links w.at → bits ≡ final_at sheet w.machine.sheet.links w.at → (mark ≡ 0 → ⊥) → not (eqb bits barred_bits) ≡ is_ending (final (machine sheet) w.at)
   ends-marked mark bits e z d =
-      ap (λ (b : ℕ). not (eqb b barred_bits)) z ∙ sym (finite-bits (final_at sheet T w.at)) ∙ sym (ap is_ending (marked-final f w.at x.inside (λ y. d (e ∙ y))))
-
--- ---- by the tests of the code
-module _ (sheet : List ℕ) (w : Walk) (l : ℕ) where
-  abbrev went-by-tests : Bool → Bool → Walk
-  went-by-tests a b = cond a w (cond b (on_to sheet w (link (machine sheet) l).next) (lost w))
-
-  pub went-none : l ≡ no_start → w ≡ went_on sheet w l
-  went-none e = ap (λ (a : Bool). went-by-tests a (goes_by (machine sheet) w.at l)) (sym (eq-eqb l no_start e))
-
-  pub went-lost : (r : Walk) → (l ≡ no_start → ⊥) → goes_by (machine sheet) w.at l ≡ false → r ≡ lost w → r ≡ went_on sheet w l
-  went-lost r d e z = z ∙ λ i. went-by-tests (sym (ne_eqb l no_start d) i) (sym e i)
-
-  pub went-by : (r : Walk) → (l ≡ no_start → ⊥) → goes_by (machine sheet) w.at l ≡ true → r ≡ on_to sheet w (link (machine sheet) l).next → r ≡ went_on sheet w l
-  went-by r d e z = z ∙ λ i. went-by-tests (sym (ne_eqb l no_start d) i) (sym e i)
-
--- ---- what it comes to at the last state
-module _ (m : Machine) (w : Walk) where
-  pub found-end : w.good ≡ true → is_ending (final m w.at) ≡ true → Found (outcome m w.at w.count (some [])) w
-  found-end g e = subst (λ (b : Bool). Found (ended_by w.count [] (cond b (some w.at) none)) w) (sym e) (g, omega arith, refl)
-
-  pub found-off : (r : Walk) → is_ending (final m w.at) ≡ false → r ≡ lost w → Found (outcome m w.at w.count (some [])) r
-  found-off r e l = subst (λ (b : Bool). Found (ended_by w.count [] (cond b (some w.at) none)) r) (sym e) (ap (λ (r : Walk). r.good) l)
-
-  -- a walk that does not go on
-  pub found-lost : (o : Option (ℕ × ℕ)) (r : Walk) → o ≡ none → r ≡ lost w → Found o r
-  found-lost o r e l = subst (λ (o : Option (ℕ × ℕ)). Found o r) (sym e) (ap (λ (r : Walk). r.good) l)
-
--- ---- the machine of a result
-module _ (result : List ℕ) (n nodes links : ℕ) where
-  pub shape_one : n ≡ 1 → record { nodes = nodes; links = links; before = 0; last = 0 } ≡ shape_of result n nodes links
-  shape_one e = ap (λ (b : Bool). record { nodes = nodes; links = links; before = cond b 0 (start_links result nodes links); last = cond b 0 1 }) (sym (eq-eqb n 1 e))
-
-  pub shape-many : (before : ℕ) → (n ≡ 1 → ⊥) → before ≡ start_links result nodes links → record { nodes = nodes; links = links; before = before; last = 1 } ≡ shape_of result n nodes links
-  shape-many before d e =
-      ap (λ (k : ℕ). record { nodes = nodes; links = links; before = k; last = 1 }) e
-      ∙ ap (λ (b : Bool). record { nodes = nodes; links = links; before = cond b 0 (start_links result nodes links); last = cond b 0 1 }) (sym (ne_eqb n 1 d))
+      ap (λ (b : ℕ). not (eqb b barred_bits)) z ∙ sym (finite-bits (final_at sheet T w.at)) ∙ sym (ap is_ending (marked-final f w.at w.inside (λ y. d (e ∙ y))))

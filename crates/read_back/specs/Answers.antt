@@ -1,5 +1,5 @@
 -- What the calls that read a list back answer, for any bytes. Definitions only.
-use Rattle.std.specs.Prelude.{Bool, true, false, not, cond, List, [], ℕ, eqb, leb, ltb, ℤ, pos, length}
+use Rattle.std.specs.Prelude.{not, cond, Result, List, [], ℕ, eqb, leb, ltb, ℤ, pos, length}
 use Rattle.std.proofs.Math.Option.{Option, none, some}
 use Rattle.std.proofs.lemmas.List.Edits.{sets}
 use Rattle.tropical_weight.specs.Limits.{list_limit}
@@ -7,7 +7,8 @@ use Rattle.tropical_weight.specs.Tropical.{Tropical, fin, inf}
 use Rattle.sheet.specs.Machine.{Machine, machine}
 use Rattle.machine.specs.Readings.{reading_of, reading_cost}
 use Rattle.shortest_path.specs.Outcome.{tested_number}
-use Rattle.read_back.specs.declared.count.Counted.{Counted}
+use Rattle.sheet.specs.declared.refusal.Refusal.{Refusal}
+use Rattle.sheet.specs.Refusals.{answer}
 use Rattle.read_back.specs.declared.reading.Told.{Told}
 use Rattle.read_back.specs.Way.{count_in, is_list, way_of}
 use Rattle.read_back.specs.Follows.{if_reading}
@@ -17,12 +18,8 @@ use Rattle.read_back.specs.Follows.{if_reading}
 unfoldable pub count_number : List ℕ → ℕ → ℕ → ℕ → ℕ
 count_number result n nodes links = cond (ltb list_limit n) 7 (cond (not (is_list result nodes links n)) 30 0)
 
-abbrev pub count_by : Bool → ℕ → ℕ → Counted
-count_by true count k = Counted.Readings count
-count_by false count k = Counted.Refused k
-
-abbrev pub count_answer : List ℕ → ℕ → ℕ → ℕ → Counted
-count_answer result n nodes links = count_by (eqb (count_number result n nodes links) 0) (count_in result nodes links n) (count_number result n nodes links)
+abbrev pub count_answer : List ℕ → ℕ → ℕ → ℕ → Result ℕ Refusal
+count_answer result n nodes links = answer (count_in result nodes links n) (count_number result n nodes links)
 
 -- ---- one of them
 -- the units of a cost: a reading's is finite
@@ -52,27 +49,22 @@ reading_number sheet n result nodes links k room = tested_number sheet n (held_n
 
 -- a reading's links are counted, its cost is in units, and it ends at a node
 abbrev pub reading_told : Machine → List ℕ → Told
-reading_told m run = Told.Reading (length run) (units_in (reading_cost m (reading_of m run))) (reading_of m run).end
+reading_told m run = record { links = length run; cost = units_in (reading_cost m (reading_of m run)); end = (reading_of m run).end }
 
 abbrev pub run_in : Option (List ℕ) → List ℕ
 run_in none = []
 run_in (some run) = run
 
-abbrev pub told_by : Bool → Machine → List ℕ → ℕ → Told
-told_by true m run k = reading_told m run
-told_by false m run k = Told.Refused k
-
 -- of one that is there: 30 or 21, else what it is, and the area of the run afterwards
-abbrev pub held_told : Machine → Option (List ℕ) → ℕ → Told
-held_told m held room = told_by (eqb (room_number held room) 0) m (run_in held) (room_number held room)
+abbrev pub held_told : Machine → Option (List ℕ) → ℕ → Result Told Refusal
+held_told m held room = answer (reading_told m (run_in held)) (room_number held room)
 
 abbrev pub held_after : Option (List ℕ) → List ℕ → List ℕ
 held_after held run = cond (eqb (room_number held (length run)) 0) (sets run 0 (run_in held)) run
 
-abbrev pub reading_answer : List ℕ → ℕ → List ℕ → ℕ → ℕ → ℕ → ℕ → Told
+abbrev pub reading_answer : List ℕ → ℕ → List ℕ → ℕ → ℕ → ℕ → ℕ → Result Told Refusal
 reading_answer sheet n result nodes links k room =
-    let number = reading_number sheet n result nodes links k room in
-    told_by (eqb number 0) (machine sheet) (run_in (held_reading (machine sheet) result n nodes links k)) number
+    answer (reading_told (machine sheet) (run_in (held_reading (machine sheet) result n nodes links k))) (reading_number sheet n result nodes links k room)
 
 -- the area of the run afterwards: the numbers of its links, and then what was there; where it is refused, just that
 abbrev pub run_after : List ℕ → ℕ → List ℕ → ℕ → ℕ → ℕ → List ℕ → List ℕ

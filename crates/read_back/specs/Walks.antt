@@ -1,36 +1,19 @@
 -- Mirrors the code: a walk over the links of a sheet, link by link. A reader need not believe it: laws tie it to Follows (proofs/Follow).
 -- Definitions only.
-use Rattle.std.specs.Prelude.{◌≡◌, true, false, cond, List, ℕ, ◌+◌, ◌≤◌, ◌<◌, eqb, length}
+use Rattle.std.specs.Prelude.{◌≡◌, true, false, cond, List, ℕ, ◌+◌, eqb, length, Option as Maybe, Some, None}
 use Rattle.std.proofs.Math.Option.{Option, none, some}
-use Rattle.sheet.specs.Sheet.{no_start, stated_links, stated_nodes}
-use Rattle.sheet.specs.Records.{first_link}
-use Rattle.sheet.specs.Machine.{machine}
-use Rattle.machine.specs.Readings.{link}
-use Rattle.machine.specs.Input.{input_number}
+use Rattle.sheet.specs.Sheet.{no_start}
+use Rattle.sheet.specs.Machine.{Machine, machine}
+use Rattle.machine.specs.Readings.{link, IsReading, reading_of}
 use Rattle.read_back.specs.declared.walk.Walk.{Walk}
-use Rattle.read_back.specs.declared.way.Shape.{Shape}
-use Rattle.read_back.specs.Way.{last_state, links_before, way_from}
-use Rattle.read_back.specs.Follows.{goes_by, follows, ends_at}
-use Rattle.sheet.specs.Machine.{Machine}
+use Rattle.read_back.specs.declared.way.HeldList.{HeldList}
+use Rattle.read_back.specs.Way.{last_state, only_link, falls, way_from, way_of}
+use Rattle.read_back.specs.Follows.{goes_by, follows, ends_at, if_reading}
+use Rattle.read_back.specs.Answers.{run_in}
 
--- a walk that has come to a node of an accepted sheet, over fewer links than there are nodes below it
-pub record Walking (sheet : List ℕ) (w : Walk) : Type 0 where
-  pub accepted : input_number sheet ≡ 0
-  pub inside : w.at < stated_nodes sheet
-  pub first-is : w.first ≡ first_link sheet (stated_links sheet) w.at
-  pub few : w.count ≤ w.at
-
--- a walk that does not go on
-abbrev pub lost : Walk → Walk
-lost w = record { good = false; at = w.at; first = w.first; count = w.count }
-
--- a walk to node v, one link longer
-abbrev pub on_to : List ℕ → Walk → ℕ → Walk
-on_to sheet w v = record { good = true; at = v; first = first_link sheet (stated_links sheet) v; count = w.count + 1 }
-
--- a walk and a number that a result tells: where that is none it stays, else it goes on by that link
-abbrev pub went_on : List ℕ → Walk → ℕ → Walk
-went_on sheet w l = cond (eqb l no_start) w (cond (goes_by (machine sheet) w.at l) (on_to sheet w (link (machine sheet) l).next) (lost w))
+-- the place that a walk comes to by a number that a result tells, as how many links it has taken and the node: where the number is none it stays, else it goes on by that link
+abbrev pub goes_to : Machine → ℕ → ℕ → ℕ → Option (ℕ × ℕ)
+goes_to m u count l = cond (eqb l no_start) (some (count, u)) (cond (goes_by m u l) (some (count + 1, (link m l).next)) none)
 
 -- the links of a reading from here on, with those before them, and the node where it ends
 abbrev pub ended_by : ℕ → List ℕ → Option ℕ → Option (ℕ × ℕ)
@@ -41,15 +24,34 @@ abbrev pub outcome : Machine → ℕ → ℕ → Option (List ℕ) → Option (�
 outcome m u count none = none
 outcome m u count (some run) = ended_by count run (ends_at m (follows m u run))
 
--- the machine of a result, read as a list for n
-abbrev pub shape_of : List ℕ → ℕ → ℕ → ℕ → Shape
-shape_of result n nodes links = record { nodes = nodes; links = links; before = links_before result nodes links n; last = last_state n }
+-- a walk over this sheet that has come to this place
+abbrev pub Comes : List ℕ → Option (ℕ × ℕ) → Maybe Walk → Type 0
+Comes sheet place None = place ≡ none
+Comes sheet place (Some w) = (w.machine.sheet.bytes.now ≡ sheet) × (place ≡ some (w.count, w.at))
 
--- a way through it
-abbrev pub way_in : List ℕ → Shape → ℕ → Option (List ℕ)
-way_in result s q = way_from result s.nodes s.links s.before s.last s.nodes q
+-- ---- the list for n that a result holds
+-- a way through its machine
+abbrev pub way_in : HeldList → ℕ → Option (List ℕ)
+way_in l q = way_from l.res.now l.nodes l.links l.before (last_state l.n) l.nodes q
 
--- what a walk came to
-abbrev pub Found : Option (ℕ × ℕ) → Walk → Type 0
-Found none w = w.good ≡ false
-Found (some x) w = (w.good ≡ true) × (w.count ≡ x.0) × (w.at ≡ x.1)
+-- the only link of a state above the last, where it leads to a lower state
+abbrev pub FallsBy : HeldList → ℕ → Maybe ℕ → Type 0
+FallsBy l q None = falls l.res.now l.nodes l.links l.before (last_state l.n) q ≡ false
+FallsBy l q (Some only) = (falls l.res.now l.nodes l.links l.before (last_state l.n) q ≡ true) × (only ≡ only_link l.res.now l.nodes l.links l.before (last_state l.n) q)
+
+-- the way of reading k
+abbrev pub way_to : HeldList → ℕ → Option (List ℕ)
+way_to l k = way_of l.res.now l.nodes l.links l.n k
+
+-- a way that is a reading, as a walk counted it and where it came to
+pub record Follows (m : Machine) (way : Option (List ℕ)) (w : Walk) : Type 0 where
+  pub is : way ≡ some (run_in way)
+  pub held : if_reading m way ≡ some (run_in way)
+  pub counts : w.count ≡ length (run_in way)
+  pub reading : IsReading m (reading_of m (run_in way))
+  pub ends : w.at ≡ (reading_of m (run_in way)).end
+
+-- the walk along the way of reading k, from the start of the sheet, where it is a reading
+abbrev pub Walked : List ℕ → Option (List ℕ) → Maybe Walk → Type 0
+Walked sheet way None = if_reading (machine sheet) way ≡ none
+Walked sheet way (Some w) = (w.machine.sheet.bytes.now ≡ sheet) × Follows (machine sheet) way w

@@ -1,38 +1,34 @@
 // The cost of a reading of an accepted sheet.
-ghost use Rattle.std.specs.Prelude.{◌≡◌, ℕ, ◌+◌, ◌*◌, ◌≤◌, ◌<◌, length, get_or, take};
+ghost use Rattle.std.specs.Prelude.{◌≡◌, ℕ, ◌<◌, length, get_or};
 ghost use Rattle.tropical_weight.specs.Tropical.{fin};
-ghost use Rattle.sheet.specs.Sheet.{stated_links};
 ghost use Rattle.sheet.specs.Machine.{machine as machine_for};
 ghost use Rattle.machine.specs.Readings.{IsReading, reading_of, reading_cost};
-ghost use Rattle.machine.specs.Input.{input_number};
 ghost use Rattle.read_back.specs.Costs.{run_sum};
 
-use sheet::words::word;
+use crate::walk::Walk;
+use sheet::accepted::Sheet;
 
-// The sum of the weights of the first links of a run.
-fn run_sum(sheet: &[u8], run: &[u32], count: u32) -> f32
-    requires { (count ≤ length run.now) × ((i : ℕ) → i < count → 16 * get_or run.now i 0 + 16 ≤ length sheet.now) }
-    ensures { result ≡ run_sum sheet.now (take count run.now) }
+// The sum of the weights of the links of a run.
+fn run_sum(sheet: &Sheet, run: &[u32]) -> f32
+    requires { (i : ℕ) → i < length run.now → get_or run.now i 0 < sheet.now.links }
+    ensures { result ≡ run_sum sheet.now.bytes.now run.now }
 {
     let mut sum = tropical_weight::one();
-    let mut i = 0u32;
-    while i < count {
-        let at = 16 * (run[i as usize] as usize);
-        let weight = tropical_weight::from_bits(word(sheet, at + 8));
+    for l in run {
+        let weight = tropical_weight::from_bits(sheet.link_bits(*l));
         sum = tropical_weight::times(sum, weight);
-        i += 1;
     }
     sum
 }
 
-// The cost of a reading that ends at a node: the sum of its weights and the final weight.
-pub fn cost_of(sheet: &[u8], links: u32, run: &[u32], count: u32, end: u32) -> i32
-    requires sheet_value { (input_number sheet.now ≡ 0) × (links ≡ stated_links sheet.now) × (count ≤ length run.now) }
-    requires reading { IsReading (machine_for sheet.now) (reading_of (machine_for sheet.now) (take count run.now)) }
-    requires end_value { end ≡ (reading_of (machine_for sheet.now) (take count run.now)).end }
-    ensures { fin result ≡ reading_cost (machine_for sheet.now) (reading_of (machine_for sheet.now) (take count run.now)) }
+// The cost of the reading that a walk has come to the end of: the sum of its weights and the final weight.
+pub fn cost_of(w: &Walk, run: &[u32]) -> i32
+    requires reading { IsReading (machine_for w.now.machine.sheet.bytes.now) (reading_of (machine_for w.now.machine.sheet.bytes.now) run.now) }
+    requires end_value { w.now.at ≡ (reading_of (machine_for w.now.machine.sheet.bytes.now) run.now).end }
+    ensures { fin result ≡ reading_cost (machine_for w.now.machine.sheet.bytes.now) (reading_of (machine_for w.now.machine.sheet.bytes.now) run.now) }
 {
-    let sum = run_sum(sheet, run, count);
-    let node = sheet::tr::node_at(sheet, links as usize, end as usize);
-    tropical_weight::cost(tropical_weight::times(sum, node.weight))
+    let sheet = &w.machine.sheet;
+    let sum = run_sum(sheet, run);
+    let last = tropical_weight::from_bits(sheet.final_bits(w.at));
+    tropical_weight::cost(tropical_weight::times(sum, last))
 }

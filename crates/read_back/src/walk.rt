@@ -1,96 +1,91 @@
-// A walk over the links of an accepted sheet, by their numbers.
-ghost use Rattle.std.specs.Prelude.{◌≡◌, true, ◌+◌, ◌*◌, ◌≤◌, length};
-ghost use Rattle.sheet.specs.Sheet.{stated_links};
+// A walk over the links of a machine, by their numbers.
+ghost use Rattle.std.specs.Prelude.{◌≡◌, ◌≤◌, ◌<◌};
 ghost use Rattle.sheet.specs.Records.{first_link};
-ghost use Rattle.sheet.specs.Machine.{machine as machine_for};
-ghost use Rattle.machine.specs.Readings.{link, final};
-ghost use Rattle.read_back.specs.Follows.{leaves, is_ending};
-ghost use Rattle.read_back.specs.Walks.{Walking, lost as lost_by, on_to, went_on};
 
+use machine::climbing::Machine;
 use sheet::tr::BARRED;
-use sheet::words::word;
 use slots::NOTHING;
 
-// The node that it has come to, the number of that node's first link, and how many links it has taken;
-// not good where one did not leave the node that was reached, or was barred.
+// The node that it has come to, the number of that node's first link, and how many links it has taken.
 #[derive(Clone, Copy)]
-pub struct Walk {
-    pub good: bool,
+pub struct Walk<'a> {
+    pub machine: Machine<'a>,
     pub at: u32,
     pub first: u32,
     pub count: u32,
+    pub ghost inside: { at < machine.sheet.nodes },
+    pub ghost first_is: { first ≡ first_link machine.sheet.bytes.now machine.sheet.links at },
+    pub ghost few: { count ≤ at },
 }
 
-// The number of node v's first link, from that of a node u below it.
-pub fn first_of(sheet: &[u8], links: u32, u: u32, first: u32, v: u32) -> u32
-    requires { (16 * links + 12 * v ≤ length sheet.now) × (u ≤ v) × (first ≡ first_link sheet.now links u) × (first_link sheet.now links v ≤ links) }
-    ensures { result ≡ first_link sheet.now links v }
-{
-    let mut next = first;
-    let mut i = u;
-    while i < v {
-        next += word(sheet, 16 * (links as usize) + 12 * (i as usize));
-        i += 1;
-    }
-    next
-}
+impl<'a> Walk<'a> {
+    ghost use Rattle.std.specs.Prelude.{Some};
+    ghost use Rattle.std.proofs.Math.Option.{some};
+    ghost use Rattle.sheet.specs.Machine.{machine as machine_for};
+    ghost use Rattle.machine.specs.Readings.{final};
+    ghost use Rattle.read_back.specs.Follows.{is_ending};
+    ghost use Rattle.read_back.specs.Walks.{goes_to, Comes};
 
-// The walk where it does not go on.
-pub fn lost(w: Walk) -> Walk
-    ensures { result ≡ lost_by w }
-{
-    Walk {
-        good: false,
-        at: w.at,
-        first: w.first,
-        count: w.count,
+    // The walk before its first link, at a node of the machine.
+    pub fn begin(machine: &Machine<'a>, at: u32) -> Walk<'a>
+        requires { at < machine.now.sheet.nodes }
+        ensures { Comes machine.now.sheet.bytes.now (some (0, at)) (Some result) }
+    {
+        let lowest = Walk {
+            machine: *machine,
+            at: 0,
+            first: 0,
+            count: 0,
+        };
+        lowest.moved(at, 0)
     }
-}
 
-// The walk on by a link, from the node that it leaves to the one it leads to.
-fn on_by(sheet: &[u8], links: u32, w: Walk, l: u32) -> Walk
-    requires { Walking sheet.now w × (links ≡ stated_links sheet.now) × (leaves (machine_for sheet.now) w.at l ≡ true) }
-    ensures { result ≡ on_to sheet.now w (link (machine_for sheet.now) l).next }
-{
-    let next = word(sheet, 16 * (l as usize) + 12);
-    Walk {
-        good: true,
-        at: next,
-        first: first_of(sheet, links, w.at, w.first, next),
-        count: w.count + 1,
+    // The walk at a node that is no lower, by so many links in all.
+    fn moved(&self, to: u32, count: u32) -> Walk<'a>
+        requires { (self.now.at ≤ to) × (to < self.now.machine.sheet.nodes) × (count ≤ to) }
+        ensures { Comes self.now.machine.sheet.bytes.now (some (count, to)) (Some result) }
+    {
+        let mut first = self.first;
+        for v in self.at..to {
+            first += self.machine.sheet.count(v);
+        }
+        Walk {
+            machine: self.machine,
+            at: to,
+            first,
+            count,
+        }
     }
-}
 
-// The walk after a number that a result tells: it stays where that is none, and else goes on by the link,
-// unless it leaves another node or is barred.
-pub fn goes_on(sheet: &[u8], links: u32, w: Walk, l: u32) -> Walk
-    requires { Walking sheet.now w × (links ≡ stated_links sheet.now) }
-    ensures { result ≡ went_on sheet.now w l }
-{
-    if l == NOTHING {
-        return w;
+    // The walk after a number that a result tells: it stays where that is none, and else goes on by the
+    // link, unless it leaves another node or is barred.
+    pub fn goes_on(&self, l: u32) -> Option<Walk<'a>>
+        ensures { Comes self.now.machine.sheet.bytes.now (goes_to (machine_for self.now.machine.sheet.bytes.now) self.now.at self.now.count l) result }
+    {
+        if l == NOTHING {
+            return Some(*self);
+        }
+        let sheet = &self.machine.sheet;
+        if l < self.first {
+            return None;
+        }
+        if self.first + sheet.count(self.at) <= l {
+            return None;
+        }
+        if sheet.link_bits(l) == BARRED {
+            return None;
+        }
+        Some(self.moved(sheet.next(l), self.count + 1))
     }
-    let count = word(sheet, 16 * (links as usize) + 12 * (w.at as usize));
-    if l < w.first {
-        return lost(w);
-    }
-    if w.first + count <= l {
-        return lost(w);
-    }
-    if word(sheet, 16 * (l as usize) + 8) == BARRED {
-        return lost(w);
-    }
-    on_by(sheet, links, w, l)
-}
 
-// Whether a reading may end at the node that it has come to: it has mark 1, and is not barred.
-pub fn at_final(sheet: &[u8], links: u32, w: Walk) -> bool
-    requires { Walking sheet.now w × (links ≡ stated_links sheet.now) }
-    ensures { result ≡ is_ending (final (machine_for sheet.now) w.at) }
-{
-    let node = 16 * (links as usize) + 12 * (w.at as usize);
-    if word(sheet, node + 4) == 0 {
-        return false;
+    // Whether a reading may end at the node that it has come to: it has mark 1, and is not barred.
+    pub fn at_final(&self) -> bool
+        ensures { result ≡ is_ending (final (machine_for self.now.machine.sheet.bytes.now) self.now.at) }
+    {
+        let sheet = &self.machine.sheet;
+        if sheet.mark(self.at) == 0 {
+            return false;
+        }
+        sheet.final_bits(self.at) != BARRED
     }
-    word(sheet, node + 8) != BARRED
 }

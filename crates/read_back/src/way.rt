@@ -1,133 +1,178 @@
-// The way of a reading through the machine of a result: walked, and its numbers stored.
-ghost use Rattle.std.specs.Prelude.{◌≡◌, true, [], ◌+◌, ◌-◌, ◌≤◌, ◌<◌, length};
-ghost use Rattle.std.proofs.Math.Option.{some};
+// The list that a result area holds: how many readings, and the way of each through its machine.
+ghost use Rattle.std.specs.Prelude.{◌≡◌, ◌+◌, ◌≤◌, length};
 ghost use Rattle.std.proofs.lemmas.List.Edits.{sets};
-ghost use Rattle.sheet.specs.Sheet.{stated_links};
-ghost use Rattle.sheet.specs.Machine.{machine as machine_for};
-ghost use Rattle.read_back.specs.Way.{told, answer_bytes, number_at, falls, first_state};
-ghost use Rattle.read_back.specs.Answers.{run_in};
-ghost use Rattle.read_back.specs.Walks.{Walking, outcome, Found, shape_of, way_in};
+ghost use Rattle.read_back.specs.Way.{answer_bytes, links_before, told};
 
-use crate::walk::{Walk, at_final, goes_on, lost};
+use crate::walk::Walk;
+use sheet::refusal::Refusal;
 use sheet::tr::TRAILER;
 use sheet::words::word;
 use slots::NOTHING;
+use tropical_weight::LIST_LIMIT;
 
-// The machine of a result: how many nodes and links it has, the state that a way ends at, and the links
-// that stand before the only links of the states above it.
+// A result that is long enough for a list for n whose machine has so many nodes and links, and for its
+// words; and how many links stand before the only links of the states above the last.
 #[derive(Clone, Copy)]
-pub struct Shape {
+pub struct HeldList<'a> {
+    pub res: &'a [u8],
+    pub n: u32,
     pub nodes: u32,
     pub links: u32,
     pub before: u32,
-    pub last: u32,
+    pub ghost long: { answer_bytes res.now nodes links ≤ length res.now },
+    pub ghost before_is: { before ≡ links_before res.now nodes links n },
 }
 
-// That of a list for n.
-pub fn shape_of(res: &[u8], n: u32, nodes: u32, links: u32) -> Shape
-    requires { answer_bytes res.now nodes links ≤ length res.now }
-    ensures { result ≡ shape_of res.now n nodes links }
-{
-    if n == 1 {
-        return Shape {
+impl<'a> HeldList<'a> {
+    ghost use Rattle.std.specs.Prelude.{◌-◌, ◌<◌, IfOk};
+    ghost use Rattle.sheet.specs.Refusals.{number_in};
+    ghost use Rattle.std.proofs.Math.Option.{some};
+    ghost use Rattle.sheet.specs.Machine.{machine as machine_for};
+    ghost use Rattle.read_back.specs.Way.{next_at, number_at, count_in, last_state, first_state};
+    ghost use Rattle.read_back.specs.Answers.{count_number, run_in};
+    ghost use Rattle.read_back.specs.Walks.{outcome, Comes, FallsBy, way_to};
+
+    // 7, then 30 where there are too few bytes, or more readings than were asked for.
+    pub fn new(res: &'a [u8], n: u32, nodes: u32, links: u32) -> Result<HeldList<'a>, Refusal>
+        ensures number { number_in result ≡ count_number res.now n nodes links }
+        ensures same { IfOk result (λ l. (l.res ≡ res.entry) × (l.n ≡ n) × (l.nodes ≡ nodes) × (l.links ≡ links)) }
+    {
+        if LIST_LIMIT < n {
+            return Err(Refusal::Count);
+        }
+        let count = links as usize;
+        if res.len() < 16 * count + 12 * (nodes as usize) + TRAILER + 4 * count {
+            return Err(Refusal::NoAnswer);
+        }
+        let before = if n == 1 { 0 } else { word(res, 16 * count) };
+        let list = HeldList {
+            res,
+            n,
             nodes,
             links,
-            before: 0,
-            last: 0,
+            before,
         };
-    }
-    Shape {
-        nodes,
-        links,
-        before: word(res, 16 * (links as usize)),
-        last: 1,
-    }
-}
-
-// The state where the way of reading k begins.
-pub fn first_state(res: &[u8], n: u32, nodes: u32, links: u32, k: u32) -> u32
-    requires { answer_bytes res.now nodes links ≤ length res.now }
-    ensures { result ≡ first_state res.now nodes links n k }
-{
-    if n == 1 {
-        return word(res, 16 * (links as usize) + 12 * (nodes as usize) + 16);
-    }
-    if k < links {
-        return word(res, 16 * (k as usize) + 12);
-    }
-    0
-}
-
-// The only link of a state above the last.
-fn only_link(s: Shape, q: u32) -> usize
-    requires { s.last < q }
-    ensures { result ≡ s.before + (q - 1 - s.last) }
-{
-    (s.before as usize) + ((q - 1 - s.last) as usize)
-}
-
-// Whether that link is there and leads to a lower state.
-fn falls_from(res: &[u8], s: Shape, q: u32) -> bool
-    requires { (answer_bytes res.now s.nodes s.links ≤ length res.now) × (s.last < q) }
-    ensures { result ≡ falls res.now s.nodes s.links s.before s.last q }
-{
-    if s.nodes <= q {
-        return false;
-    }
-    let only = only_link(s, q);
-    if (s.links as usize) <= only {
-        return false;
-    }
-    word(res, 16 * only + 12) < q
-}
-
-// The number of the input link that link l repeats.
-fn number_of(res: &[u8], s: Shape, l: usize) -> u32
-    requires { (answer_bytes res.now s.nodes s.links ≤ length res.now) × (l < s.links) }
-    ensures { result ≡ number_at res.now s.nodes s.links l }
-{
-    word(
-        res,
-        16 * (s.links as usize) + 12 * (s.nodes as usize) + TRAILER + 4 * l,
-    )
-}
-
-// A walk's end at the last state: good where a reading may end at its node.
-fn ended(sheet: &[u8], links: u32, w: Walk) -> Walk
-    requires { Walking sheet.now w × (links ≡ stated_links sheet.now) × (w.good ≡ true) }
-    ensures { Found (outcome (machine_for sheet.now) w.at w.count (some [])) result }
-{
-    if at_final(sheet, links, w) {
-        return w;
-    }
-    lost(w)
-}
-
-// A walk over the sheet along the way from a state on: where it comes to, by as many links as the way
-// tells.
-pub fn walk(sheet: &[u8], links: u32, begun: Walk, res: &[u8], s: Shape, from: u32) -> Walk
-    requires walking { Walking sheet.now begun × (links ≡ stated_links sheet.now) × (begun.good ≡ true) }
-    requires links_in_bounds { answer_bytes res.now s.nodes s.links ≤ length res.now }
-    ensures { Found (outcome (machine_for sheet.now) begun.at begun.count (way_in res.now s from)) result }
-{
-    let last = s.last;
-    let mut w = begun;
-    let mut q = from;
-    while last < q {
-        if !falls_from(res, s, q) {
-            return lost(w);
+        if n < list.count() {
+            return Err(Refusal::NoAnswer);
         }
-        let only = only_link(s, q);
-        w = goes_on(sheet, links, w, number_of(res, s, only));
-        if !w.good {
-            return w;
+        Ok(list)
+    }
+
+    // How many readings it says that it holds.
+    pub fn count(&self) -> u32
+        ensures { result ≡ count_in self.now.res.now self.now.nodes self.now.links self.now.n }
+    {
+        if self.nodes == 0 {
+            return 0;
         }
-        q = word(res, 16 * only + 12);
+        if self.n == 1 {
+            return 1;
+        }
+        self.before
     }
-    if q < last {
-        return lost(w);
+
+    // The state that a way ends at.
+    fn last(&self) -> u32
+        ensures { result ≡ last_state self.now.n }
+    {
+        if self.n == 1 { 0 } else { 1 }
     }
-    ended(sheet, links, w)
+
+    // The state where the way of reading k begins.
+    pub fn first_state(&self, k: u32) -> u32
+        ensures { result ≡ first_state self.now.res.now self.now.nodes self.now.links self.now.n k }
+    {
+        if self.n == 1 {
+            return word(
+                self.res,
+                16 * (self.links as usize) + 12 * (self.nodes as usize) + 16,
+            );
+        }
+        if k < self.links {
+            return self.next(k as usize);
+        }
+        0
+    }
+
+    // The state that link l leads to.
+    fn next(&self, l: usize) -> u32
+        requires { l < self.now.links }
+        ensures { result ≡ next_at self.now.res.now l }
+    {
+        word(self.res, 16 * l + 12)
+    }
+
+    // The number of the input link that link l repeats.
+    fn number(&self, l: usize) -> u32
+        requires { l < self.now.links }
+        ensures { result ≡ number_at self.now.res.now self.now.nodes self.now.links l }
+    {
+        word(
+            self.res,
+            16 * (self.links as usize) + 12 * (self.nodes as usize) + TRAILER + 4 * l,
+        )
+    }
+
+    // The only link of a state above the last.
+    fn only_link(&self, q: u32) -> usize
+        requires { last_state self.now.n < q }
+        ensures { result ≡ self.now.before + (q - 1 - last_state self.now.n) }
+    {
+        (self.before as usize) + ((q - 1 - self.last()) as usize)
+    }
+
+    // That link, where it is there and leads to a lower state.
+    fn falls_by(&self, q: u32) -> Option<usize>
+        requires { last_state self.now.n < q }
+        ensures { FallsBy self.now q result }
+    {
+        let only = self.only_link(q);
+        if self.nodes <= q {
+            return None;
+        }
+        if (self.links as usize) <= only {
+            return None;
+        }
+        if q <= self.next(only) {
+            return None;
+        }
+        Some(only)
+    }
+
+    // A walk along the way of reading k: where it comes to, by as many links as the way tells, where a
+    // reading may end there.
+    pub fn walk<'s>(&self, begun: &Walk<'s>, k: u32) -> Option<Walk<'s>>
+        ensures { Comes begun.now.machine.sheet.bytes.now (outcome (machine_for begun.now.machine.sheet.bytes.now) begun.now.at begun.now.count (way_to self.now k)) result }
+    {
+        let last = self.last();
+        let mut w = *begun;
+        let mut q = self.first_state(k);
+        while last < q {
+            let only = self.falls_by(q)?;
+            w = w.goes_on(self.number(only))?;
+            q = self.next(only);
+        }
+        if q < last {
+            return None;
+        }
+        if w.at_final() { Some(w) } else { None }
+    }
+
+    // Stores the numbers along the way of reading k, which there is.
+    pub fn store_way(&self, k: u32, run: &mut [u32])
+        requires way { way_to self.now k ≡ some (run_in (way_to self.now k)) }
+        requires room { length (run_in (way_to self.now k)) ≤ length run.old }
+        ensures { run.new ≡ sets run.old 0 (run_in (way_to self.now k)) }
+    {
+        let last = self.last();
+        let mut count = 0usize;
+        let mut q = self.first_state(k);
+        while last < q {
+            let only = self.only_link(q);
+            count = put_number(self.number(only), count, run);
+            q = self.next(only);
+        }
+    }
 }
 
 // Stores a number behind so many, where it is one, and answers how many there are then.
@@ -140,19 +185,4 @@ fn put_number(number: u32, count: usize, run: &mut [u32]) -> usize
     }
     run[count] = number;
     count + 1
-}
-
-// Stores the numbers along a way from a state on.
-pub fn store_way(res: &[u8], s: Shape, from: u32, run: &mut [u32])
-    requires { (answer_bytes res.now s.nodes s.links ≤ length res.now) × (way_in res.now s from ≡ some (run_in (way_in res.now s from))) × (length (run_in (way_in res.now s from)) ≤ length run.old) }
-    ensures { run.new ≡ sets run.old 0 (run_in (way_in res.now s from)) }
-{
-    let last = s.last;
-    let mut count = 0usize;
-    let mut q = from;
-    while last < q {
-        let only = only_link(s, q);
-        count = put_number(number_of(res, s, only), count, run);
-        q = word(res, 16 * only + 12);
-    }
 }

@@ -6,10 +6,9 @@ use mathlib.Core.List.{List, ◌++◌, flat_map}
 use Prim.Native.Nat.{ℕ, ◌+◌, ◌*◌, ◌≤◌, ◌<◌}
 use native.Mathlib.Decide.{ℕ_discrete}
 use native.Mathlib.Omega.{arith}
-use lib.Dec.{leb, eqb}
 use lib.ListN.{length, take, drop, get_or, take-append-drop}
 use lib.Seq.{take_all, take_at}
-use borrow.Author.Tests.{lt-ltb, le-ltb, lt-leb, le-leb, eqb-true, eq-eqb}
+use borrow.Author.Tests.{le-ltb, lt-leb, eq-eqb}
 use Rattle.tropical_weight.specs.Limits.{node_limit, weight_limit, sum_limit}
 use Rattle.tropical_weight.specs.Tropical.{Within}
 use Rattle.tropical_weight.proofs.Sums.{limits}
@@ -25,25 +24,18 @@ use Rattle.machine.proofs.Reached.{height-le}
 use Rattle.machine.proofs.SheetFields.{fields-own}
 use Rattle.distance.specs.Written.{written}
 use Rattle.distance.proofs.Written.{length-written, value-at}
-use Rattle.shortest_distance.specs.declared.Distances.TheVariants.{Count}
-use Rattle.shortest_distance.specs.Outcome.{answer_of, distance_number, distances_by, distance_answer, result_after}
+use Rattle.shortest_distance.specs.Outcome.{answer_of, distance_number, distance_answer, result_after}
 use Rattle.shortest_distance.proofs.Outcomes.{number-input}
-use Rattle.read_distance.specs.declared.DistanceTold.TheVariants.{Refused}
+use Rattle.std.specs.Prelude.{Ok, Err}
+use Rattle.sheet.proofs.Refusals.{answer-some}
+use Rattle.sheet.specs.declared.refusal.Refusal.TheVariants.{NoAnswer, Absent}
 use Rattle.read_distance.specs.Told.{words_tell, distance_told}
 use Rattle.read_distance.specs.Promise.{as_told, Holds}
 use Rattle.read_distance.proofs.Patterns.{written-told}
 
--- ---- the answer by its tests, in their order
-module _ (result : List ℕ) (values node : ℕ) where
-  pub told-short : length result < 8 * values → Refused 30 ≡ distance_told result values node
-  told-short h = sym (ap (λ (b : Bool). cond b (Refused 30) (cond (leb values node) (Refused 31) (words_tell (word result (8 * node)) (word result (8 * node + 4))))) (lt-ltb (length result) (8 * values) h))
-
-  module _ (long : 8 * values ≤ length result) where
-    pub told-absent : values ≤ node → Refused 31 ≡ distance_told result values node
-    told-absent h = sym (λ i. cond (le-ltb (length result) (8 * values) long i) (Refused 30) (cond (le-leb values node h i) (Refused 31) (words_tell (word result (8 * node)) (word result (8 * node + 4)))))
-
-    pub told-words : node < values → words_tell (word result (8 * node)) (word result (8 * node + 4)) ≡ distance_told result values node
-    told-words h = sym (λ i. cond (le-ltb (length result) (8 * values) long i) (Refused 30) (cond (lt-leb values node h i) (Refused 31) (words_tell (word result (8 * node)) (word result (8 * node + 4)))))
+-- ---- the answer past its tests
+pub told-words : (result : List ℕ) (values node : ℕ) → 8 * values ≤ length result → node < values → words_tell (word result (8 * node)) (word result (8 * node + 4)) ≡ distance_told result values node
+told-words result values node long h = sym (λ i. cond (le-ltb (length result) (8 * values) long i) (Err NoAnswer) (cond (lt-leb values node h i) (Err Absent) (words_tell (word result (8 * node)) (word result (8 * node + 4)))))
 
 -- ---- the bytes of an answer
 answer-length : (sheet : List ℕ) → length (answer_of sheet) ≡ 8 * length (distances (machine sheet))
@@ -57,7 +49,7 @@ module _ (sheet : List ℕ) (values : ℕ) (result : List ℕ) (h : Holds sheet 
   sized : length (take (8 * values) result) ≡ 8 * values
   sized = ap length h.begins ∙ answer-length sheet ∙ ap (λ (n : ℕ). 8 * n) (sym h.count)
 
-  long : 8 * values ≤ length result
+  pub long : 8 * values ≤ length result
   long = go (split_at (length result) (8 * values))
     where
       go : (length result < 8 * values) ⊎ (8 * values ≤ length result) → 8 * values ≤ length result
@@ -94,16 +86,12 @@ module _ (sheet : List ℕ) (values : ℕ) (result : List ℕ) (h : Holds sheet 
         ∙ written-told (distance m v) within
 
 -- ---- the call for distances leaves one
-module _ (sheet : List ℕ) (words : ℕ) (old : List ℕ) (values : ℕ) (answer : distance_answer sheet words (length old) ≡ Count values) where
+module _ (sheet : List ℕ) (words : ℕ) (old : List ℕ) (values : ℕ) (answer : distance_answer sheet words (length old) ≡ Ok values) where
   abbrev number : ℕ
   number = distance_number sheet words (length old)
 
   counted : (number ≡ 0) × (values ≡ length (distances (machine sheet)))
-  counted = go (eqb number 0) refl answer
-    where
-      go : (b : Bool) → eqb number 0 ≡ b → distances_by b (length (distances (machine sheet))) number ≡ Count values → (number ≡ 0) × (values ≡ length (distances (machine sheet)))
-      go true q e = (eqb-true number 0 q, cc)
-      go false q e = let z : ◌≡◌ {A = ℕ} 0 1 = cc in absurd (omega arith)
+  counted = answer-some (length (distances (machine sheet))) number values (sym answer)
 
   pub holds_after : Holds sheet values (result_after sheet words old)
   holds_after = record {

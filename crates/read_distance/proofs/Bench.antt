@@ -5,7 +5,8 @@ use Prim.Native.Nat.{ℕ}
 use lib.IntN.{pos, negsuc}
 use Rattle.sheet.specs.Words.{word, bytes_of_all}
 use Rattle.tropical_weight.specs.Grid.{units_of, grid_bits}
-use Rattle.read_distance.specs.declared.DistanceTold.TheVariants.{Reached, Unreached, Refused}
+use Rattle.std.specs.Prelude.{Some, None, Ok, Err}
+use Rattle.sheet.specs.declared.refusal.Refusal.TheVariants.{NoAnswer, Absent}
 use Rattle.read_distance.specs.Told.{words_tell, distance_told}
 
 -- what the call for distances writes of Sheet A: reached at 0, 1, 0.5 and 1.25
@@ -13,21 +14,21 @@ unfoldable values_a : List ℕ
 unfolding bytes_of_all
 values_a = bytes_of_all (1 ∷ 0 ∷ 1 ∷ 0x3f80_0000 ∷ 1 ∷ 0x3f00_0000 ∷ 1 ∷ 0x3fa0_0000 ∷ [])
 
-read-A : (distance_told values_a 4 0 ≡ Reached (pos 0)) × (distance_told values_a 4 1 ≡ Reached (pos 64)) × (distance_told values_a 4 2 ≡ Reached (pos 32)) × (distance_told values_a 4 3 ≡ Reached (pos 80))
+read-A : (distance_told values_a 4 0 ≡ Ok (Some (pos 0))) × (distance_told values_a 4 1 ≡ Ok (Some (pos 64))) × (distance_told values_a 4 2 ≡ Ok (Some (pos 32))) × (distance_told values_a 4 3 ≡ Ok (Some (pos 80)))
 unfolding values_a word grid_bits units_of
 read-A = (refl, refl, refl, refl)
 
 -- no node has the number 4; a result of four values has no five, whatever the node; what follows is not looked at
-limits-A : (distance_told values_a 4 4 ≡ Refused 31) × (distance_told values_a 5 0 ≡ Refused 30) × (distance_told values_a 5 5 ≡ Refused 30) × (distance_told (values_a ++ 7 ∷ []) 4 3 ≡ Reached (pos 80))
+limits-A : (distance_told values_a 4 4 ≡ Err Absent) × (distance_told values_a 5 0 ≡ Err NoAnswer) × (distance_told values_a 5 5 ≡ Err NoAnswer) × (distance_told (values_a ++ 7 ∷ []) 4 3 ≡ Ok (Some (pos 80)))
 unfolding values_a word grid_bits units_of
 limits-A = (refl, refl, refl, refl)
 
 -- 0 and 0, a unit below 0, and 2 ^ 24 units, the limit of sums
-words : (words_tell 0 0 ≡ Unreached) × (words_tell 1 0xbc80_0000 ≡ Reached (negsuc 0)) × (words_tell 1 0x4880_0000 ≡ Reached (pos 16777216))
+words : (words_tell 0 0 ≡ Ok None) × (words_tell 1 0xbc80_0000 ≡ Ok (Some (negsuc 0))) × (words_tell 1 0x4880_0000 ≡ Ok (Some (pos 16777216)))
 unfolding grid_bits units_of
 words = (refl, refl, refl)
 
 -- a second word with the mark 0, a mark above 1, negative zero, infinity, a NaN, half a unit, and two units above the limit
-no_distance : (words_tell 0 1 ≡ Refused 30) × (words_tell 2 0 ≡ Refused 30) × (words_tell 1 0x8000_0000 ≡ Refused 30) × (words_tell 1 0x7f80_0000 ≡ Refused 30) × (words_tell 1 0x7fc0_0000 ≡ Refused 30) × (words_tell 1 0x3c00_0000 ≡ Refused 30) × (words_tell 1 0x4880_0001 ≡ Refused 30)
+no_distance : (words_tell 0 1 ≡ Err NoAnswer) × (words_tell 2 0 ≡ Err NoAnswer) × (words_tell 1 0x8000_0000 ≡ Err NoAnswer) × (words_tell 1 0x7f80_0000 ≡ Err NoAnswer) × (words_tell 1 0x7fc0_0000 ≡ Err NoAnswer) × (words_tell 1 0x3c00_0000 ≡ Err NoAnswer) × (words_tell 1 0x4880_0001 ≡ Err NoAnswer)
 unfolding grid_bits units_of
 no_distance = (refl, refl, refl, refl, refl, refl, refl)

@@ -10,7 +10,7 @@ use lib.IntN.{ℤ, nat_abs}
 use lib.ListN.{get_or}
 use lib.Ieee.{binary32, is_nan, of_bits, to_bits}
 use lib.Ieee.Bits.{of_bits-fits, to_bits-of_bits}
-use borrow.Author.Tests.{eqb-true, eq-eqb, ne_eqb}
+use borrow.Author.Tests.{eqb-true}
 use Rattle.tropical_weight.specs.Limits.{unit, sum_limit}
 use Rattle.tropical_weight.specs.Tropical.{fin, Within}
 use Rattle.tropical_weight.specs.Grid.{of_k, units_of, grid_bits}
@@ -22,7 +22,8 @@ use Rattle.sheet.proofs.Apart.{both}
 use Rattle.sheet.proofs.Encoding.{bits-lt}
 use Rattle.machine.specs.Distance.{Distance, reached, unreached, as_weight}
 use Rattle.distance.specs.Written.{written}
-use Rattle.read_distance.specs.declared.DistanceTold.TheVariants.{Reached, Unreached, Refused}
+use Rattle.std.specs.Prelude.{Some, None, Ok, Err}
+use Rattle.sheet.specs.declared.refusal.Refusal.TheVariants.{NoAnswer}
 use Rattle.read_distance.specs.Told.{pattern_tells, words_tell}
 use Rattle.read_distance.specs.Promise.{as_told}
 
@@ -30,8 +31,8 @@ module _ (bits : ℕ) (fits : bits < 2 ^ 32) where
   abbrev units : ℤ
   units = units_of unit (of_bits binary32 bits)
 
-  by-grid : (b : Bool) → grid_bits unit sum_limit bits ≡ b → cond b (Reached units) (Refused 30) ≡ pattern_tells bits
-  by-grid b e = sym (ap (λ (t : Bool). cond t (Reached units) (Refused 30)) e)
+  by-grid : (b : Bool) → grid_bits unit sum_limit bits ≡ b → cond b (Ok (Some units)) (Err NoAnswer) ≡ pattern_tells bits
+  by-grid b e = sym (ap (λ (t : Bool). cond t (Ok (Some units)) (Err NoAnswer)) e)
 
   whole : grid_bits unit sum_limit bits ≡ true → Whole unit sum_limit (of_bits binary32 bits)
   unfolding grid_bits
@@ -45,17 +46,17 @@ module _ (bits : ℕ) (fits : bits < 2 ^ 32) where
       ap (to_bits binary32) (sym w.is) ∙ to_bits-of_bits binary32 bits fits number
 
   -- the pattern of so many units tells them
-  pub pattern-told : (k : ℤ) → nat_abs k ≤ sum_limit → to_bits binary32 (of_k unit k) ≡ bits → Reached k ≡ pattern_tells bits
+  pub pattern-told : (k : ℤ) → nat_abs k ≤ sum_limit → to_bits binary32 (of_k unit k) ≡ bits → Ok (Some k) ≡ pattern_tells bits
   pattern-told k few is =
       let value : of_bits binary32 bits ≡ of_k unit k = ap (of_bits binary32) (sym is) ∙ bits_back unit covered (fin k) in
-      ap Reached (sym (ap (units_of unit) value ∙ units_of-of_k unit covered k few))
+      ap (λ (z : ℤ). Ok (Some z)) (sym (ap (units_of unit) value ∙ units_of-of_k unit covered k few))
       ∙ by-grid true ((grid_bits-means unit covered sum_limit (le_refl sum_limit) bits fits).1 (k, few, is))
 
   -- and no other pattern tells of a distance
   pub pattern-only : (d : Distance) → pattern_tells bits ≡ as_told d → (1 ∷ bits ∷ [] ≡ written d) × Within sum_limit (as_weight d)
   pattern-only d h = go (grid_bits unit sum_limit bits) refl d (by-grid (grid_bits unit sum_limit bits) refl ∙ h)
     where
-      go : (b : Bool) → grid_bits unit sum_limit bits ≡ b → (d : Distance) → cond b (Reached units) (Refused 30) ≡ as_told d → (1 ∷ bits ∷ [] ≡ written d) × Within sum_limit (as_weight d)
+      go : (b : Bool) → grid_bits unit sum_limit bits ≡ b → (d : Distance) → cond b (Ok (Some units)) (Err NoAnswer) ≡ as_told d → (1 ∷ bits ∷ [] ≡ written d) × Within sum_limit (as_weight d)
       go true e (reached k) h =
           let same : units ≡ k = cc in
           (λ i. 1 ∷ (sym (again e) ∙ ap (λ (z : ℤ). to_bits binary32 (of_k unit z)) same) i ∷ [], subst (λ (z : ℤ). nat_abs z ≤ sum_limit) same (whole e).few)
@@ -64,10 +65,10 @@ module _ (bits : ℕ) (fits : bits < 2 ^ 32) where
       go false e unreached h = let z : ◌≡◌ {A = ℕ} 0 1 = cc in absurd (omega arith)
 
   -- nor does one that is off the grid
-  refused : (grid_bits unit sum_limit bits ≡ true → ⊥) → Refused 30 ≡ pattern_tells bits
+  refused : (grid_bits unit sum_limit bits ≡ true → ⊥) → Err NoAnswer ≡ pattern_tells bits
   refused n = go (grid_bits unit sum_limit bits) refl
     where
-      go : (b : Bool) → grid_bits unit sum_limit bits ≡ b → Refused 30 ≡ pattern_tells bits
+      go : (b : Bool) → grid_bits unit sum_limit bits ≡ b → Err NoAnswer ≡ pattern_tells bits
       go true e = absurd (n e)
       go false e = by-grid false e
 
@@ -76,28 +77,11 @@ module _ (bits : ℕ) (fits : bits < 2 ^ 32) where
     cost-is : grid_bits unit sum_limit bits ≡ true → units ≡ k
     cost-is g = sym (c.exact units (whole g).few (whole g).is)
 
-    pub too_many : sum_limit < nat_abs k → Refused 30 ≡ pattern_tells bits
+    pub too_many : sum_limit < nat_abs k → Err NoAnswer ≡ pattern_tells bits
     too_many h = refused (λ g. let few : nat_abs k ≤ sum_limit = subst (λ (z : ℤ). nat_abs z ≤ sum_limit) (cost-is g) (whole g).few in omega (arith, h))
 
-    pub other-pattern : (to_bits binary32 (of_k unit k) ≡ bits → ⊥) → Refused 30 ≡ pattern_tells bits
+    pub other-pattern : (to_bits binary32 (of_k unit k) ≡ bits → ⊥) → Err NoAnswer ≡ pattern_tells bits
     other-pattern n = refused (λ g. n (ap (λ (z : ℤ). to_bits binary32 (of_k unit z)) (sym (cost-is g)) ∙ again g))
-
--- ---- two words
-pub mark-one : (mark bits : ℕ) → mark ≡ 1 → pattern_tells bits ≡ words_tell mark bits
-mark-one mark bits e = sym (ap (λ (b : Bool). cond b (pattern_tells bits) (cond (eqb mark 0 && eqb bits 0) Unreached (Refused 30))) (eq-eqb mark 1 e))
-
-module _ (mark bits : ℕ) where
-  by_tests : (a b c : Bool) → eqb mark 1 ≡ a → eqb mark 0 ≡ b → eqb bits 0 ≡ c → cond a (pattern_tells bits) (cond (b && c) Unreached (Refused 30)) ≡ words_tell mark bits
-  by_tests a b c x y z = sym (λ i. cond (x i) (pattern_tells bits) (cond (y i && z i) Unreached (Refused 30)))
-
-  pub mark-other : (mark ≡ 1 → ⊥) → (mark ≡ 0 → ⊥) → Refused 30 ≡ words_tell mark bits
-  mark-other n z = by_tests false false (eqb bits 0) (ne_eqb mark 1 n) (ne_eqb mark 0 z) refl
-
-  pub bits_left : mark ≡ 0 → (bits ≡ 0 → ⊥) → Refused 30 ≡ words_tell mark bits
-  bits_left z n = by_tests false true false (ne_eqb mark 1 (λ e. omega (arith, z, e))) (eq-eqb mark 0 z) (ne_eqb bits 0 n)
-
-  pub both_zero : mark ≡ 0 → bits ≡ 0 → Unreached ≡ words_tell mark bits
-  both_zero z w = by_tests false true true (ne_eqb mark 1 (λ e. omega (arith, z, e))) (eq-eqb mark 0 z) (eq-eqb bits 0 w)
 
 -- ---- what is written is told
 pub written-told : (d : Distance) → Within sum_limit (as_weight d) → words_tell (get_or (written d) 0 0) (get_or (written d) 1 0) ≡ as_told d
@@ -108,12 +92,12 @@ written-told unreached h = refl
 pub told-written : (mark bits : ℕ) → bits < 2 ^ 32 → (d : Distance) → words_tell mark bits ≡ as_told d → (mark ∷ bits ∷ [] ≡ written d) × Within sum_limit (as_weight d)
 told-written mark bits fits d h = by-mark (eqb mark 1) refl h
   where
-    zeros : (t : Bool) → eqb mark 0 && eqb bits 0 ≡ t → (d : Distance) → cond t Unreached (Refused 30) ≡ as_told d → (mark ∷ bits ∷ [] ≡ written d) × Within sum_limit (as_weight d)
+    zeros : (t : Bool) → eqb mark 0 && eqb bits 0 ≡ t → (d : Distance) → cond t (Ok None) (Err NoAnswer) ≡ as_told d → (mark ∷ bits ∷ [] ≡ written d) × Within sum_limit (as_weight d)
     zeros true e unreached h = let z = both (eqb mark 0) (eqb bits 0) e in (λ i. eqb-true mark 0 z.0 i ∷ eqb-true bits 0 z.1 i ∷ [], tt)
     zeros true e (reached k) h = let z : ◌≡◌ {A = ℕ} 0 1 = cc in absurd (omega arith)
     zeros false e (reached k) h = let z : ◌≡◌ {A = ℕ} 0 1 = cc in absurd (omega arith)
     zeros false e unreached h = let z : ◌≡◌ {A = ℕ} 0 1 = cc in absurd (omega arith)
 
-    by-mark : (t : Bool) → eqb mark 1 ≡ t → cond t (pattern_tells bits) (cond (eqb mark 0 && eqb bits 0) Unreached (Refused 30)) ≡ as_told d → (mark ∷ bits ∷ [] ≡ written d) × Within sum_limit (as_weight d)
+    by-mark : (t : Bool) → eqb mark 1 ≡ t → cond t (pattern_tells bits) (cond (eqb mark 0 && eqb bits 0) (Ok None) (Err NoAnswer)) ≡ as_told d → (mark ∷ bits ∷ [] ≡ written d) × Within sum_limit (as_weight d)
     by-mark true e h = let only = pattern-only bits fits d h in (ap (λ (k : ℕ). k ∷ bits ∷ []) (eqb-true mark 1 e) ∙ only.0, only.1)
     by-mark false e h = zeros (eqb mark 0 && eqb bits 0) refl d h

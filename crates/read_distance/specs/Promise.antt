@@ -1,16 +1,15 @@
 -- Of a result that begins with the distances of an accepted sheet, each node's own distance is told. Definitions only.
-use Rattle.std.specs.Prelude.{◌≡◌, List, ℕ, ◌*◌, ◌<◌, length, take}
+use Rattle.std.specs.Prelude.{◌≡◌, Some, None, Ok, List, ℕ, ◌*◌, ◌<◌, length, take}
 use Rattle.sheet.specs.Machine.{machine}
 use Rattle.machine.specs.Distance.{Distance, reached, unreached, distance, distances}
 use Rattle.machine.specs.Input.{input_number}
 use Rattle.shortest_distance.specs.Outcome.{answer_of}
-use Rattle.read_distance.specs.declared.DistanceTold.{DistanceTold}
-use Rattle.read_distance.specs.declared.DistanceTold.TheVariants.{Reached, Unreached}
+use Rattle.read_distance.specs.Told.{Told}
 
 -- a distance, as it is told
-abbrev pub as_told : Distance → DistanceTold
-as_told (reached k) = Reached k
-as_told unreached = Unreached
+abbrev pub as_told : Distance → Told
+as_told (reached k) = Ok (Some k)
+as_told unreached = Ok None
 
 -- The result begins with the distances of a sheet, which are so many. The call for distances leaves such a one, as is proved.
 pub record Holds (sheet : List ℕ) (values : ℕ) (result : List ℕ) : Type 0 where
@@ -19,5 +18,5 @@ pub record Holds (sheet : List ℕ) (values : ℕ) (result : List ℕ) : Type 0 
   pub begins : take (8 * values) result ≡ answer_of sheet
 
 -- of a node below the count nothing is refused: what is told is its distance
-abbrev pub ReadBack : List ℕ → ℕ → ℕ → DistanceTold → Type 0
+abbrev pub ReadBack : List ℕ → ℕ → ℕ → Told → Type 0
 ReadBack result values node r = (sheet : List ℕ) → Holds sheet values result → node < values → r ≡ as_told (distance (machine sheet) node)

@@ -6,61 +6,49 @@ ghost use Rattle.read_distance.specs.Told.{pattern_tells, words_tell, distance_t
 ghost use Rattle.read_distance.specs.Promise.{ReadBack};
 
 use distance::WRITTEN;
+use sheet::refusal::Refusal;
 use sheet::words::word;
-use sheet_fields::refusal;
-
-// What is told of a node: reached at so many units, unreached, or the number of the refusal.
-#[derive(Clone, Copy)]
-pub enum DistanceTold {
-    Reached(i32),
-    Unreached,
-    Refused(u32),
-}
 
 // The most units of a sum, either way.
 const SUM_LIMIT: u32 = 1 << 24;
 
 // The distance of a reached node by its second word: the pattern of so many units within the limit.
-fn reached_at(bits: u32) -> DistanceTold
+fn reached_at(bits: u32) -> Result<Option<i32>, Refusal>
     ensures { result ≡ pattern_tells bits }
 {
     let units = tropical_weight::cost(tropical_weight::from_bits(bits));
-    if SUM_LIMIT < tropical_weight::magnitude(units) {
-        return DistanceTold::Refused(refusal::NO_ANSWER);
+    if SUM_LIMIT < units.unsigned_abs() {
+        return Err(Refusal::NoAnswer);
     }
     if tropical_weight::to_bits(tropical_weight::from_units(units)) != bits {
-        return DistanceTold::Refused(refusal::NO_ANSWER);
+        return Err(Refusal::NoAnswer);
     }
-    DistanceTold::Reached(units)
+    Ok(Some(units))
 }
 
-// The distance that two words say.
-fn distance_of(mark: u32, bits: u32) -> DistanceTold
+// The distance that two words say: the units of a reached node, or none of another.
+fn distance_of(mark: u32, bits: u32) -> Result<Option<i32>, Refusal>
     ensures { result ≡ words_tell mark bits }
 {
-    if mark == 1 {
-        return reached_at(bits);
+    match (mark, bits) {
+        (1, _) => reached_at(bits),
+        (0, 0) => Ok(None),
+        _ => Err(Refusal::NoAnswer),
     }
-    if mark != 0 {
-        return DistanceTold::Refused(refusal::NO_ANSWER);
-    }
-    if bits != 0 {
-        return DistanceTold::Refused(refusal::NO_ANSWER);
-    }
-    DistanceTold::Unreached
 }
 
-// The distance of a node, from a result that is said to hold so many values: 30 where it is shorter, 31
-// where the node is not among them, 30 where its two words are no distance.
-pub fn distance_at(res: &[u8], values: u32, node: u32) -> DistanceTold
+// The distance of a node, or none of an unreached one, from a result that is said to hold so many values:
+// refused where the result is shorter, where the node is not among them, and where its words are no
+// distance.
+pub fn distance_at(res: &[u8], values: u32, node: u32) -> Result<Option<i32>, Refusal>
     ensures value { result ≡ distance_told res.now values node }
     ensures read_back { ReadBack res.now values node result }
 {
     if res.len() < WRITTEN * (values as usize) {
-        return DistanceTold::Refused(refusal::NO_ANSWER);
+        return Err(Refusal::NoAnswer);
     }
     if values <= node {
-        return DistanceTold::Refused(refusal::ABSENT);
+        return Err(Refusal::Absent);
     }
     let at = WRITTEN * (node as usize);
     distance_of(word(res, at), word(res, at + 4))

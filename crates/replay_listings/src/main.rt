@@ -4,11 +4,10 @@
 #![tactic(auto)]
 
 use std::io;
+use stored_cases::areas;
 use stored_cases::areas::RESULT_MARK;
-use stored_cases::bytes::bytes_of;
-use stored_cases::input::{read_full, zeros};
-use stored_cases::lines::{field, line_end};
-use stored_cases::{areas, tally};
+use stored_cases::lines::Line;
+use stored_cases::replay::replay;
 
 // Whether the program, reading this, prints this text and nothing more.
 fn prints(read: &[u8], text: &[u8]) -> bool {
@@ -18,30 +17,12 @@ fn prints(read: &[u8], text: &[u8]) -> bool {
 }
 
 // Whether the case of a line holds.
-fn holds(line: &[u8]) -> bool {
+fn holds(line: Line<'_>) -> bool {
     let mut read = [0u8; 65536];
     let mut text = [0u8; 49152];
-    let n = bytes_of(line, 0, &mut read);
-    let end = bytes_of(line, field(line, 1), &mut text);
-    prints(&read[..n], &text[..end])
-}
-
-// Replays each line of a text.
-fn replay(rt: &impl Print, text: &[u8]) -> io::Result<()> {
-    let mut told = tally::none();
-    let mut at = 0usize;
-    while at < text.len() {
-        let end = line_end(text, at);
-        let held = holds(&text[at..end]);
-        told = tally::counted(told, held);
-        tally::tell(rt, told, held)?;
-        at = end + 1;
-    }
-    tally::print(rt, told)
+    prints(line.bytes(0, &mut read), line.bytes(1, &mut text))
 }
 
 fn main(rt: HostRuntime) -> io::Result<()> {
-    let mut text = zeros::<524288>();
-    let n = read_full(&mut rt.stdin(), &mut text)?;
-    replay(&rt, &text[..n])
+    replay::<524288, _, _, _>(&rt, &mut rt.stdin(), holds)
 }

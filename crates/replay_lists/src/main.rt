@@ -9,12 +9,12 @@
 ghost use Rattle.std.specs.Prelude.{◌≡◌, ◌+◌, ◌*◌};
 
 use list_answer::Listed;
+use sheet::refusal::Refusal;
+use shortest_path::shortest_path;
 use std::io;
-use stored_cases::areas::{RESULT_MARK, WORK_MARK};
-use stored_cases::bytes::bytes_of;
-use stored_cases::input::{read_full, zeros};
-use stored_cases::lines::{field, line_end, number};
-use stored_cases::{areas, tally};
+use stored_cases::areas::{RESULT_MARK, WORK_MARK, result_left, work_left};
+use stored_cases::lines::Line;
+use stored_cases::replay::replay;
 use tropical_weight::{LINK_LIMIT, NODE_LIMIT};
 
 // Words of the work area: for two nodes with as many links as there may be, n = 2.
@@ -27,8 +27,8 @@ const RESULT: usize = 32 * (NODE_LIMIT + 4);
 const SHEET: usize = 16 * (LINK_LIMIT + 4);
 
 // Whether the field behind so many spaces has this number.
-fn says(line: &[u8], spaces: u8, n: u32) -> bool {
-    number(line, spaces) == (n as usize)
+fn says(line: Line<'_>, spaces: usize, n: u32) -> bool {
+    line.number(spaces) == (n as usize)
 }
 
 // The bytes of an answer: a sheet of so many nodes and links, and a word per link.
@@ -40,86 +40,55 @@ fn length_of(nodes: u32, links: u32) -> usize
 
 // Whether the call answered what the line says: 0 with the counts, or its number alone, and so many
 // bytes.
-fn answered(answer: Listed, line: &[u8], bytes: usize) -> bool {
+fn answered(answer: Result<Listed, Refusal>, line: Line<'_>, bytes: usize) -> bool {
     match answer {
-        Listed::Made(nodes, links, taken) => {
+        Ok(list) => {
             says(line, 0, 0)
-                && says(line, 5, nodes)
-                && says(line, 6, links)
-                && says(line, 7, taken)
-                && bytes == length_of(nodes, links)
+                && says(line, 5, list.nodes)
+                && says(line, 6, list.links)
+                && says(line, 7, list.taken)
+                && bytes == length_of(list.nodes, list.links)
         }
-        Listed::Refused(k) => says(line, 0, k) && 0 < k && bytes == 0,
+        Err(refusal) => says(line, 0, u32::from(refusal)) && bytes == 0,
     }
 }
 
-// The call for a list with so many words and bytes of the areas; no refusal has the number 0.
+// The call for a list with as many words and bytes of the areas as the line says, none where there are
+// fewer.
 fn call(
+    line: Line<'_>,
     sheet: &[u8],
-    n: u32,
     work: &mut [u32],
-    words: usize,
     res: &mut [u8],
-    room: usize,
-) -> Listed {
-    if work.len() < words {
-        return Listed::Refused(0);
-    }
-    if res.len() < room {
-        return Listed::Refused(0);
-    }
-    shortest_path::shortest_path(sheet, n, &mut work[..words], &mut res[..room])
+) -> Option<Result<Listed, Refusal>> {
+    let work = work.get_mut(..line.number(2))?;
+    let res = res.get_mut(..line.number(3))?;
+    Some(shortest_path(sheet, line.number(1) as u32, work, res))
 }
 
 // Whether the call on this sheet does what the line says.
-fn does(line: &[u8], sheet: &[u8]) -> bool {
+fn does(line: Line<'_>, sheet: &[u8]) -> bool {
     let mut work = [WORK_MARK; WORK];
     let mut result = [RESULT_MARK; RESULT];
     let mut bytes = [0u8; RESULT];
-    let answer = call(
-        sheet,
-        number(line, 1) as u32,
-        &mut work,
-        number(line, 2),
-        &mut result,
-        number(line, 3),
-    );
-    let n = bytes_of(line, field(line, 10), &mut bytes);
-    if !answered(answer, line, n) {
-        return false;
+    let bytes = line.bytes(10, &mut bytes);
+    match call(line, sheet, &mut work, &mut result) {
+        Some(answer) => {
+            answered(answer, line, bytes.len())
+                && result_left(&result, bytes)
+                && work_left(&work, line.number(4))
+        }
+        None => false,
     }
-    if !areas::result_left(&result, &bytes[..n]) {
-        return false;
-    }
-    areas::work_left(&work, number(line, 4))
 }
 
 // Whether the case of a line holds.
-fn holds(line: &[u8]) -> bool {
+fn holds(line: Line<'_>) -> bool {
     let mut sheet = [0u8; SHEET];
-    let n = bytes_of(line, field(line, 9), &mut sheet);
-    if n != number(line, 8) {
-        return false;
-    }
-    does(line, &sheet[..n])
-}
-
-// Replays each line of a text.
-fn replay(rt: &impl Print, text: &[u8]) -> io::Result<()> {
-    let mut told = tally::none();
-    let mut at = 0usize;
-    while at < text.len() {
-        let end = line_end(text, at);
-        let held = holds(&text[at..end]);
-        told = tally::counted(told, held);
-        tally::tell(rt, told, held)?;
-        at = end + 1;
-    }
-    tally::print(rt, told)
+    let sheet = line.bytes(9, &mut sheet);
+    sheet.len() == line.number(8) && does(line, sheet)
 }
 
 fn main(rt: HostRuntime) -> io::Result<()> {
-    let mut text = zeros::<655360>();
-    let n = read_full(&mut rt.stdin(), &mut text)?;
-    replay(&rt, &text[..n])
+    replay::<655360, _, _, _>(&rt, &mut rt.stdin(), holds)
 }

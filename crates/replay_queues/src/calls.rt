@@ -1,115 +1,134 @@
-// The open calls on a queue's record by their numbers in the stored cases, and what they answer as a
-// kind and a value.
-use state_order_queue::{Changed, Emptiness, Found, Node, Queue, Tested};
+// The open calls on a queue's record by their numbers in the stored cases, and what they answer.
+ghost use Rattle.std.specs.Prelude.{◌+◌, ◌≤◌, length};
 
-// The calls.
-const ENQUEUE: u32 = 0;
+use sheet::words::word;
+use state_order_queue::{Answered, Queue};
 
-const DEQUEUE: u32 = 1;
-
-const HEAD: u32 = 2;
-
-const UPDATE: u32 = 3;
-
-const IS_EMPTY: u32 = 4;
-
-const CLEAR: u32 = 5;
-
-// The kinds of answers: done, a node, none, the number of the refusal, and a test, 0 or 1.
-const DONE: u32 = 0;
-
-const NODE: u32 = 1;
-
-const NONE: u32 = 2;
-
-const REFUSED: u32 = 3;
-
-const TEST: u32 = 4;
-
-// What a call answers, and the record that it hands back.
+// The calls, by their numbers.
 #[derive(Clone, Copy)]
-pub struct Outcome {
-    pub kind: u32,
-    pub value: u32,
-    pub queue: Queue,
+pub enum Call {
+    Enqueue,
+    Dequeue,
+    Head,
+    Update,
+    IsEmpty,
+    Clear,
+    IsValid,
 }
 
-fn one_if(test: bool) -> u32 {
-    if test { 1 } else { 0 }
+// What a call answers: that it is done, a node, none, the number of the refusal, or a test.
+#[derive(Clone, Copy, PartialEq, Eq)]
+pub enum Answer {
+    Done,
+    Node(u32),
+    None,
+    Refused(u32),
+    Test(bool),
 }
 
-fn of_changed(c: Changed) -> Outcome {
-    let kind = if c.number == 0 { DONE } else { REFUSED };
-    let queue = c.queue;
-    Outcome {
-        kind,
-        value: c.number,
-        queue,
-    }
-}
+// A number that stands for no call, or a kind and a value that stand for no answer.
+#[derive(Clone, Copy)]
+pub struct Unknown;
 
-fn of_found(f: Found) -> Outcome {
-    let node = f.node;
-    let queue = f.queue;
-    match node {
-        Node::None => Outcome {
-            kind: NONE,
-            value: 0,
-            queue,
-        },
-        Node::At(v) => Outcome {
-            kind: NODE,
-            value: v,
-            queue,
-        },
-        Node::Refused(k) => Outcome {
-            kind: REFUSED,
-            value: k,
-            queue,
-        },
-    }
-}
+impl TryFrom<u32> for Call {
+    type Error = Unknown;
 
-fn of_tested(t: Tested) -> Outcome {
-    let emptiness = t.emptiness;
-    let queue = t.queue;
-    match emptiness {
-        Emptiness::Is(test) => Outcome {
-            kind: TEST,
-            value: one_if(test),
-            queue,
-        },
-        Emptiness::Refused(k) => Outcome {
-            kind: REFUSED,
-            value: k,
-            queue,
-        },
+    fn try_from(number: u32) -> Result<Call, Unknown> {
+        Ok(match number {
+            0 => Call::Enqueue,
+            1 => Call::Dequeue,
+            2 => Call::Head,
+            3 => Call::Update,
+            4 => Call::IsEmpty,
+            5 => Call::Clear,
+            6 => Call::IsValid,
+            _ => return Err(Unknown),
+        })
     }
 }
 
-// The call of this number, with a node where it takes one.
-pub fn call(q: Queue, which: u32, node: u32) -> Outcome {
-    if which == ENQUEUE {
-        return of_changed(state_order_queue::enqueue(q, node));
+// By a kind and a value.
+impl TryFrom<(u32, u32)> for Answer {
+    type Error = Unknown;
+
+    fn try_from(told: (u32, u32)) -> Result<Answer, Unknown> {
+        Ok(match told {
+            (0, 0) => Answer::Done,
+            (1, node) => Answer::Node(node),
+            (2, 0) => Answer::None,
+            (3, number) => Answer::Refused(number),
+            (4, 0) => Answer::Test(false),
+            (4, 1) => Answer::Test(true),
+            _ => return Err(Unknown),
+        })
     }
-    if which == DEQUEUE {
-        return of_found(state_order_queue::dequeue(q));
+}
+
+impl From<()> for Answer {
+    fn from(_done: ()) -> Answer {
+        Answer::Done
     }
-    if which == HEAD {
-        return of_found(state_order_queue::head(q));
+}
+
+impl From<Option<u32>> for Answer {
+    fn from(node: Option<u32>) -> Answer {
+        match node {
+            Some(v) => Answer::Node(v),
+            None => Answer::None,
+        }
     }
-    if which == UPDATE {
-        return of_changed(state_order_queue::update(q, node));
+}
+
+impl From<bool> for Answer {
+    fn from(test: bool) -> Answer {
+        Answer::Test(test)
     }
-    if which == IS_EMPTY {
-        return of_tested(state_order_queue::is_empty(q));
+}
+
+// A stored call: which one, its node where it takes one, and the answer that it must give.
+#[derive(Clone, Copy)]
+pub struct Made {
+    call: Call,
+    node: u32,
+    answer: Answer,
+}
+
+// What a call answered, and the record that it handed back.
+fn told<T: Into<Answer>>(answered: Answered<T>) -> (Answer, Queue) {
+    let queue = answered.queue;
+    match answered.answer {
+        Ok(given) => (given.into(), queue),
+        Err(refusal) => (Answer::Refused(u32::from(refusal)), queue),
     }
-    if which == CLEAR {
-        return of_changed(state_order_queue::clear(q));
+}
+
+impl Made {
+    // The call that stands at an index, four words.
+    pub fn at(words: &[u8], at: usize) -> Result<Made, Unknown>
+        requires { at + 16 ≤ length words.now }
+    {
+        Ok(Made {
+            call: Call::try_from(word(words, at))?,
+            node: word(words, at + 4),
+            answer: Answer::try_from((word(words, at + 8), word(words, at + 12)))?,
+        })
     }
-    Outcome {
-        kind: TEST,
-        value: one_if(state_order_queue::is_valid(q)),
-        queue: q,
+
+    // The record that it hands back, where it gives its answer.
+    pub fn on(&self, q: Queue) -> Option<Queue> {
+        let (answer, queue) = match self.call {
+            Call::Enqueue => told(q.enqueue(self.node)),
+            Call::Dequeue => told(q.dequeue()),
+            Call::Head => told(q.head()),
+            Call::Update => told(q.update(self.node)),
+            Call::IsEmpty => told(q.is_empty()),
+            Call::Clear => told(q.clear()),
+            Call::IsValid => (Answer::Test(q.is_valid()), q),
+        };
+        if answer == self.answer {
+            Some(queue)
+        } else {
+            None
+        }
     }
 }

@@ -5,93 +5,59 @@
 // Prints the lines that differ, and how many there were.
 #![tactic(auto)]
 
-use rows::converted::Converted;
-use sheet::words::word;
+use rows::to_rows::{rows_bytes, sheet_to_rows};
+use rows::to_sheet::{rows_to_sheet, sheet_bytes};
+use sheet::refusal::Refusal;
 use std::io;
-use stored_cases::areas::RESULT_MARK;
-use stored_cases::bytes::bytes_of;
-use stored_cases::input::{read_full, zeros};
-use stored_cases::lines::{field, line_end, number};
-use stored_cases::{areas, tally};
+use stored_cases::areas::{RESULT_MARK, result_left};
+use stored_cases::lines::Line;
+use stored_cases::replay::replay;
 
 // Whether a call answered this length, with the number 0, or its number alone.
-fn answered(answer: Converted, refusal: usize, length: usize) -> bool {
+fn answered(answer: Result<usize, Refusal>, said: usize, length: usize) -> bool {
     match answer {
-        Converted::Length(n) => refusal == 0 && n == length,
-        Converted::Refused(k) => refusal == (k as usize) && 0 < k && length == 0,
+        Ok(n) => said == 0 && n == length,
+        Err(refusal) => said == (u32::from(refusal) as usize) && length == 0,
     }
 }
 
 // The length that the line tells, eight bytes.
-fn length_told(line: &[u8]) -> usize {
+fn length_told(line: Line<'_>) -> usize {
     let mut bytes = [0u8; 8];
-    bytes_of(line, field(line, 3), &mut bytes);
-    (word(&bytes, 0) as usize) + 0x1_0000_0000 * (word(&bytes, 4) as usize)
+    line.bytes(3, &mut bytes);
+    u64::from_le_bytes(bytes) as usize
 }
 
-// What the call for the length answers, by the case's kind.
-fn length_of(kind: usize, given: &[u8]) -> Converted {
-    if kind == 0 {
-        return rows::to_sheet::sheet_bytes(given);
-    }
-    rows::to_rows::rows_bytes(given)
-}
-
-// What the conversion answers, by the case's kind.
-fn converted(kind: usize, given: &[u8], res: &mut [u8]) -> Converted {
-    if kind == 0 {
-        return rows::to_sheet::rows_to_sheet(given, res);
-    }
-    rows::to_rows::sheet_to_rows(given, res)
-}
-
-// The conversion into so many bytes of the area; no refusal has the number 0.
-fn call(kind: usize, given: &[u8], res: &mut [u8], room: usize) -> Converted {
-    if res.len() < room {
-        return Converted::Refused(0);
-    }
-    converted(kind, given, &mut res[..room])
-}
-
-// Whether the conversion of this text or sheet answers and leaves what the line says.
-fn converts(line: &[u8], given: &[u8]) -> bool {
+// Whether the conversion of this text or sheet into as many bytes of the area as the line says answers
+// and leaves what it says.
+fn converts<C>(line: Line<'_>, given: &[u8], converted: C) -> bool
+where
+    C: FnOnce(&[u8], &mut [u8]) -> Result<usize, Refusal>,
+    requires { C.IsAlwaysCallable converted }
+{
     let mut result = [RESULT_MARK; 16384];
     let mut bytes = [0u8; 16384];
-    let answer = call(number(line, 0), given, &mut result, number(line, 1));
-    let n = bytes_of(line, field(line, 6), &mut bytes);
-    answered(answer, number(line, 4), n) && areas::result_left(&result, &bytes[..n])
+    let bytes = line.bytes(6, &mut bytes);
+    match result.get_mut(..line.number(1)) {
+        Some(res) => {
+            let answer = converted(given, res);
+            answered(answer, line.number(4), bytes.len()) && result_left(&result, bytes)
+        }
+        None => false,
+    }
 }
 
 // Whether the case of a line holds.
-fn holds(line: &[u8]) -> bool {
+fn holds(line: Line<'_>) -> bool {
     let mut given = [0u8; 8192];
-    let n = bytes_of(line, field(line, 5), &mut given);
-    if !answered(
-        length_of(number(line, 0), &given[..n]),
-        number(line, 2),
-        length_told(line),
-    ) {
-        return false;
-    }
-    converts(line, &given[..n])
-}
-
-// Replays each line of a text.
-fn replay(rt: &impl Print, text: &[u8]) -> io::Result<()> {
-    let mut told = tally::none();
-    let mut at = 0usize;
-    while at < text.len() {
-        let end = line_end(text, at);
-        let held = holds(&text[at..end]);
-        told = tally::counted(told, held);
-        tally::tell(rt, told, held)?;
-        at = end + 1;
-    }
-    tally::print(rt, told)
+    let given = line.bytes(5, &mut given);
+    let (length, converted) = match line.number(0) {
+        0 => (sheet_bytes(given), converts(line, given, rows_to_sheet)),
+        _ => (rows_bytes(given), converts(line, given, sheet_to_rows)),
+    };
+    converted && answered(length, line.number(2), length_told(line))
 }
 
 fn main(rt: HostRuntime) -> io::Result<()> {
-    let mut text = zeros::<262144>();
-    let n = read_full(&mut rt.stdin(), &mut text)?;
-    replay(&rt, &text[..n])
+    replay::<262144, _, _, _>(&rt, &mut rt.stdin(), holds)
 }

@@ -1,9 +1,8 @@
 -- What a link reader must give, by the links that a stored case tells. Definitions only.
-use Rattle.std.specs.Prelude.{◌≡◌, List, ℕ, ◌+◌, ◌*◌, ◌≤◌, length}
+use Rattle.std.specs.Prelude.{◌≡◌, List, ℕ, ◌+◌, ◌*◌, ◌≤◌, length, Option, Some, None}
 use Rattle.std.specs.Float.{binary32}
 use Rattle.std.specs.Float.Ieee.{to_bits}
 use Rattle.sheet.specs.declared.tr.Link.{Link}
-use Rattle.sheet.specs.declared.reader.Step.{Step}
 use Rattle.sheet.specs.Words.{word}
 use Rattle.sheet.specs.Reading.{next_link, place_at}
 
@@ -12,9 +11,9 @@ abbrev pub SameFields : Link → List ℕ → ℕ → Type 0
 SameFields k links at = (k.ilabel ≡ word links at) × (k.olabel ≡ word links (at + 4)) × (to_bits binary32 k.weight ≡ word links (at + 8)) × (k.nextstate ≡ word links (at + 12))
 
 -- the link whose fields stand at an index, or none where the links end there
-abbrev pub Given : Step → List ℕ → ℕ → Type 0
-Given (Step.Link k) links at = (at + 16 ≤ length links) × SameFields k links at
-Given Step.End links at = length links ≡ at
+abbrev pub Given : Option Link → List ℕ → ℕ → Type 0
+Given (Some k) links at = (at + 16 ≤ length links) × SameFields k links at
+Given None links at = length links ≡ at
 
 -- one by one, from the first link to the end: what a reader gives that went on k times
 abbrev pub Reads : List ℕ → List ℕ → Type 0

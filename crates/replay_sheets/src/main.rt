@@ -7,23 +7,18 @@
 ghost use Rattle.std.specs.Prelude.{◌≡◌, true, ◌+◌, ◌≤◌, length};
 ghost use Rattle.replay_sheets.specs.Given.{SameFields, Given, Reads};
 
-mod readers;
-
-use sheet::read::Tested;
-use sheet::reader::Step;
+use sheet::reader::Reader;
 use sheet::tr::Link;
 use sheet::words::word;
 use std::io;
-use stored_cases::bytes::bytes_of;
-use stored_cases::input::{read_full, zeros};
-use stored_cases::lines::{field, line_end, number};
-use stored_cases::tally;
+use stored_cases::lines::Line;
+use stored_cases::replay::replay;
 
 // What reading answers, as the case has it.
 fn answer(sheet: &[u8]) -> u32 {
     match sheet::read::read(sheet) {
-        Tested::Accepted(_) => 0,
-        Tested::Refused(k) => k,
+        Ok(_) => 0,
+        Err(refusal) => u32::from(refusal),
     }
 }
 
@@ -32,31 +27,20 @@ fn same_fields(link: Link, links: &[u8], at: usize) -> bool
     requires { at + 16 ≤ length links.now }
     ensures { result ≡ true → SameFields link links.now at }
 {
-    if link.ilabel != word(links, at) {
-        return false;
-    }
-    if link.olabel != word(links, at + 4) {
-        return false;
-    }
-    if tropical_weight::to_bits(link.weight) != word(links, at + 8) {
-        return false;
-    }
-    link.nextstate == word(links, at + 12)
+    link.ilabel == word(links, at)
+        && link.olabel == word(links, at + 4)
+        && tropical_weight::to_bits(link.weight) == word(links, at + 8)
+        && link.nextstate == word(links, at + 12)
 }
 
 // Whether a reader gave the link whose fields stand at an index, or none where the links end there.
-fn given(step: Step, links: &[u8], at: usize) -> bool
+fn given(link: Option<Link>, links: &[u8], at: usize) -> bool
     requires { at ≤ length links.now }
-    ensures { result ≡ true → Given step links.now at }
+    ensures { result ≡ true → Given link links.now at }
 {
-    match step {
-        Step::Link(link) => {
-            if links.len() - at < 16 {
-                return false;
-            }
-            same_fields(link, links, at)
-        }
-        Step::End => links.len() == at,
+    match link {
+        Some(link) => 16 <= links.len() - at && same_fields(link, links, at),
+        None => links.len() == at,
     }
 }
 
@@ -64,49 +48,28 @@ fn given(step: Step, links: &[u8], at: usize) -> bool
 fn reads(sheet: &[u8], links: &[u8]) -> bool
     ensures { result ≡ true → Reads sheet.now links.now }
 {
-    let mut place = readers::started(sheet);
-    let mut at = 0usize;
-    while 16 <= links.len() - at {
-        if !given(readers::link_of(sheet, place), links, at) {
+    let mut reader = Reader::new(sheet);
+    let count = links.len() / 16;
+    for k in 0..count {
+        let link = reader.next();
+        if !given(link, links, 16 * k) {
             return false;
         }
-        place = readers::moved(sheet, place);
-        at += 16;
     }
-    if !given(readers::link_of(sheet, place), links, at) {
-        return false;
-    }
-    readers::moved(sheet, place) == place
+    let end = reader.next;
+    let none = reader.next();
+    given(none, links, 16 * count) && reader.next == end
 }
 
 // Whether the bytes of a line are read as it says.
-fn holds(line: &[u8]) -> bool {
+fn holds(line: Line<'_>) -> bool {
     let mut sheet = [0u8; 256];
     let mut links = [0u8; 256];
-    let n = bytes_of(line, field(line, 1), &mut sheet);
-    let l = bytes_of(line, field(line, 2), &mut links);
-    if (answer(&sheet[..n]) as usize) != number(line, 0) {
-        return false;
-    }
-    reads(&sheet[..n], &links[..l])
-}
-
-// Replays each line of a text.
-fn replay(rt: &impl Print, text: &[u8]) -> io::Result<()> {
-    let mut told = tally::none();
-    let mut at = 0usize;
-    while at < text.len() {
-        let end = line_end(text, at);
-        let held = holds(&text[at..end]);
-        told = tally::counted(told, held);
-        tally::tell(rt, told, held)?;
-        at = end + 1;
-    }
-    tally::print(rt, told)
+    let sheet = line.bytes(1, &mut sheet);
+    let links = line.bytes(2, &mut links);
+    (answer(sheet) as usize) == line.number(0) && reads(sheet, links)
 }
 
 fn main(rt: HostRuntime) -> io::Result<()> {
-    let mut text = zeros::<524288>();
-    let n = read_full(&mut rt.stdin(), &mut text)?;
-    replay(&rt, &text[..n])
+    replay::<524288, _, _, _>(&rt, &mut rt.stdin(), holds)
 }

@@ -14,10 +14,14 @@ use Rattle.sheet.specs.Below.{sum_below}
 use Rattle.sheet.specs.Words.{word}
 use Rattle.sheet.specs.Records.{count_at, first_link, mark_at, final_at}
 use Rattle.slots.specs.Slots.{nothing}
-use Rattle.distance.specs.declared.Distance.{Distance}
+use Rattle.distance.specs.Held.{Distance}
 use Rattle.distance.specs.Held.{weight_in, distance_in, with_distance}
 use Rattle.machine.specs.Finals.{final_count}
 use Rattle.reversed_machine.specs.ReverseWords.{heads_cleared, chained, links_put, links_reversed, finals_reversed, least_total, least_distance, chains_put, reversed_words}
+use Rattle.sheet.specs.Accepted.{trailer_in}
+use Rattle.sheet.specs.Machine.{machine}
+use Rattle.machine.specs.declared.climbing.Machine.{Machine}
+use Rattle.machine.proofs.SheetFields.{SheetFields, fields-for}
 
 -- ---- heads
 pub cleared-next : (nodes q : ℕ) (part : List ℕ) → heads_cleared nodes (q + 1) part ≡ set (set (heads_cleared nodes q part) (nodes + 8 * q + 2) nothing) (nodes + 8 * q + 3) 0
@@ -91,3 +95,7 @@ unfolding reversed_words chains_put
 passes-made bytes nodes links N T part a b d new least ea eb ed el ew =
     let put : d ≡ chains_put bytes nodes links N T part = ed ∙ ap (finals_reversed bytes nodes links T N) (eb ∙ ap (links_reversed bytes nodes links T N) ea) in
     ew ∙ λ i. with_distance (put i) nodes ((el ∙ ap (least_distance bytes nodes T N) put) i)
+
+-- ---- what a machine's value gives
+pub machine-fields : (m : Machine) → SheetFields m.sheet.bytes.now m.sheet.links m.sheet.nodes (machine m.sheet.bytes.now)
+machine-fields m = let s = m.sheet in fields-for s.bytes.now m.climbs (trailer_in s.links s.nodes s.start) s.stated

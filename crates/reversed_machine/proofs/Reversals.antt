@@ -13,7 +13,7 @@ use Rattle.sheet.specs.Records.{trailer_at}
 use Rattle.sheet.specs.Machine.{Machine, machine_of}
 use Rattle.sheet.proofs.Below.{split_at}
 use Rattle.machine.specs.Distance.{distance}
-use Rattle.distance.specs.declared.Distance.{Distance}
+use Rattle.distance.specs.Held.{Distance}
 use Rattle.distance.specs.Held.{held, distance_in, with_distance}
 use Rattle.distance.proofs.Words.{same-words, put_back, put_word, put_other, put-length}
 use Rattle.machine.specs.Input.{input_number}

@@ -14,8 +14,7 @@ use Rattle.search.specs.Reversed.{Back}
 use Rattle.machine.specs.Readings.{marked}
 use Rattle.machine.specs.Finals.{finals_at, final_count}
 use Rattle.slots.specs.Slots.{nothing}
-use Rattle.distance.specs.declared.Distance.{Distance}
-use Rattle.distance.specs.Held.{weight_in, distance_from, distance_in, with_distance}
+use Rattle.distance.specs.Held.{Distance, weight_in, distance_from, distance_in, with_distance}
 use Rattle.search_slots.specs.Slots.{next_word, weight_word, chain_word}
 
 -- ---- heads

@@ -1,7 +1,7 @@
 -- No node has two final rows, by passes that keep the least final nodes: what a pass finds, and what all of them say. Assumes nothing.
-use mathlib.Core.Path.{◌≡◌, refl, sym, ap, subst, ◌∙◌}
+use mathlib.Core.Path.{◌≡◌, refl, sym, ap, ◌∙◌}
 use mathlib.Core.Bool.{Bool, true, false, not, ◌&&◌, ◌||◌, cond, false≢true}
-use mathlib.Core.Option.{Option, none, some}
+use Rattle.std.proofs.Common.{Option, None, Some}
 use mathlib.Core.List.{List, [], ◌∷◌}
 use mathlib.Core.Logic.{◌⊎◌, inl, inr}
 use Prim.Native.Nat.{ℕ, suc, ◌^◌, ◌≤◌, ◌<◌}
@@ -13,13 +13,11 @@ use Rattle.sheet.proofs.Apart.{both, or_left, or_right}
 use Rattle.text_rows.specs.Fields.{Weight, and_then}
 use Rattle.text_rows.specs.Rows.{Row, link, final, any_final, finals_once}
 use Rattle.row_reader.specs.Places.{rows_left}
-use Rattle.row_reader.specs.RowReading.{row_at}
-use Rattle.row_reader.specs.Surveying.{end_of}
+use Rattle.row_reader.specs.RowReading.{row_read}
 use Rattle.row_reader.specs.FinalRows.{once_in, most, falling, has, inserted, Going, twice, on, with_new, with_less, with_final, with_read, go_on, pass_rows, pass_from}
-use Rattle.row_reader.specs.declared.row.Read.{Read}
-use Rattle.row_reader.specs.declared.finals.Seen.{Seen}
-use Rattle.row_reader.proofs.Steps.{step-none, step-link, step-final}
-use Rattle.row_reader.proofs.Kept.{falling-long, Falls, among, among-inserted, none_above, none_below, has-among, inserted-falls, inserted-long}
+use Rattle.row_reader.specs.declared.row.Row as Code
+use Rattle.row_reader.proofs.Steps.{Stepped}
+use Rattle.row_reader.proofs.Kept.{falling-long, Falls, among, among-inserted, none_above, none_below, has-among, inserted-falls}
 use Rattle.text_rows.proofs.RowFits.{AllFit}
 use Rattle.row_reader.proofs.LeftFits.{left-fit}
 use Rattle.text_rows.proofs.HasRows.{or-false}
@@ -79,107 +77,35 @@ module _ (first v : ℕ) (l : List ℕ) (count limit : ℕ) where
         pub final-less : v < get_or l n 0 → with_final first v (falling l count) limit ≡ with_new v (falling l n) (get_or l n 0)
         final-less k = final-by ∙ less_by true (lt-ltb v (get_or l n 0) k)
 
--- ---- no more nodes than there is room for
-abbrev Long : Going → Type 0
-Long twice = Unit {0}
-Long (on xs limit) = length xs ≤ most
-
-new-long : (v : ℕ) (xs : List ℕ) (limit : ℕ) → length xs < most → Long (with_new v xs limit)
-new-long v xs limit h = go (has v xs)
-  where
-    go : (b : Bool) → Long (cond b twice (on (inserted v xs) limit))
-    go true = tt
-    go false = let one = inserted-long v xs in omega (arith, one, h)
-
-less-long : (v : ℕ) (xs : List ℕ) (limit : ℕ) → length xs ≤ most → Long (with_less v xs limit)
-less-long v [] limit h = h
-less-long v (x ∷ xs) limit h = go (ltb v x)
-  where
-    fewer : length xs < most
-    fewer = omega (arith, h)
-
-    go : (b : Bool) → Long (cond b (with_new v xs x) (on xs x))
-    go true = new-long v xs x fewer
-    go false = omega (arith, fewer)
-
-final-long : (first v : ℕ) (xs : List ℕ) (limit : ℕ) → length xs ≤ most → Long (with_final first v xs limit)
-final-long first v xs limit h = go (ltb v first) (ltb v limit) (ltb (length xs) most) refl
-  where
-    go : (b c d : Bool) → ltb (length xs) most ≡ d → Long (cond b (on xs limit) (cond c (cond d (with_new v xs limit) (with_less v xs limit)) (on xs limit)))
-    go true c d e = h
-    go false true true e = new-long v xs limit (ltb-true (length xs) most e)
-    go false true false e = less-long v xs limit h
-    go false false d e = h
-
-read-long : (first : ℕ) (xs : List ℕ) (limit : ℕ) (r : Read) → length xs ≤ most → Long (with_read first xs limit r)
-read-long first xs limit (Read.Link s t i o w end) h = h
-read-long first xs limit (Read.Final v w end) h = final-long first v xs limit h
-read-long first xs limit Read.Unreadable h = tt
-
-pub count_most : (first : ℕ) (l : List ℕ) (count limit : ℕ) (r : Read) → count ≤ most → (l' : List ℕ) (n limit' : ℕ)
-    → on (falling l' n) limit' ≡ with_read first (falling l count) limit r → n ≤ most
-count_most first l count limit r h l' n limit' e =
-    let long : length (falling l count) ≤ most = omega (arith, h, falling-long l count) in
-    let long' : length (falling l' n) ≤ most = subst Long (sym e) (read-long first (falling l count) limit r long) in
-    omega (arith, long', falling-long l' n)
-
 -- ---- the pass at a place of a text where a row begins
-pub record Passes (text : List ℕ) (at first : ℕ) (xs : List ℕ) (limit : ℕ) (r : Read) (ys : List ℕ) (less : ℕ) : Type 0 where
-  pub same : pass_from first xs limit (rows_left text at) ≡ pass_from first ys less (rows_left text (end_of r at))
-  pub later : at < end_of r at
-  pub inside : end_of r at ≤ length text
-
-pub pass-none : (first : ℕ) (l : List ℕ) (limit : ℕ) (o : Option (List Row)) → pass_from first (falling l 0) limit o ≡ pass_from first [] limit o
+pub pass-begin : (first : ℕ) (l : List ℕ) (count limit : ℕ) (o : Option (List Row)) → count ≡ 0 → limit ≡ 2 ^ 32 → pass_from first (falling l count) limit o ≡ pass_from first [] (2 ^ 32) o
 unfolding falling
-pass-none first l limit o = refl
+pass-begin first l count limit o p q = λ j. pass_from first (falling l (p j)) (q j) o
 
 module _ (first : ℕ) (xs : List ℕ) (limit : ℕ) where
   -- what the rest of the rows comes to
-  abbrev Rest : Option (List Row) → Going → Seen
+  abbrev Rest : Option (List Row) → Going → Option ℕ
   Rest rest g = go_on g (λ ys l. pass_from first ys l rest)
 
-  pull-link : (s t i o : ℕ) (w : Weight) (rest : Option (List Row)) → pass_from first xs limit (and_then rest (λ rs. some (link s t i o w ∷ rs))) ≡ pass_from first xs limit rest
-  unfolding pass_rows
-  pull-link s t i o w none = refl
-  pull-link s t i o w (some rs) = refl
-
-  pull-none : (g : Going) → Seen.Twice ≡ go_on g (λ ys l. Seen.Twice)
+  pull-none : (g : Going) → None ≡ go_on g (λ ys l. None)
   pull-none twice = refl
   pull-none (on ys l) = refl
 
-  pull-final : (v : ℕ) (w : Weight) (rest : Option (List Row)) → pass_from first xs limit (and_then rest (λ rs. some (final v w ∷ rs))) ≡ Rest rest (with_final first v xs limit)
+  pull : (row : Row) (rest : Option (List Row)) → pass_from first xs limit (and_then rest (λ rs. Some (row ∷ rs))) ≡ Rest rest (with_read first xs limit (row_read row))
   unfolding pass_rows
-  pull-final v w none = pull-none (with_final first v xs limit)
-  pull-final v w (some rs) = refl
+  pull (link s t i o w) None = refl
+  pull (link s t i o w) (Some rs) = refl
+  pull (final v w) None = pull-none (with_final first v xs limit)
+  pull (final v w) (Some rs) = refl
 
-  pub pass-end : (o : Option (List Row)) → o ≡ some [] → pass_from first xs limit o ≡ Seen.Next limit
+  pub pass-end : (o : Option (List Row)) → o ≡ Some [] → pass_from first xs limit o ≡ Some limit
   unfolding pass_rows
   pass-end o e = ap (pass_from first xs limit) e
 
-  module _ (text : List ℕ) (at : ℕ) (inside : at < length text) where
-    pub pass_step : (r : Read) → r ≡ row_at text at → (ys : List ℕ) (l : ℕ) → on ys l ≡ with_read first xs limit r → Passes text at first xs limit r ys l
-    pass_step (Read.Link s t i o w end) e ys l q =
-        let st = step-link text at inside s t i o w end (sym e) in
-        record {
-          same = ap (pass_from first xs limit) st.rows ∙ pull-link s t i o st.weight (rows_left text end) ∙ sym (ap (Rest (rows_left text end)) q);
-          later = st.later;
-          inside = st.within;
-        }
-    pass_step (Read.Final v w end) e ys l q =
-        let st = step-final text at inside v w end (sym e) in
-        record {
-          same = ap (pass_from first xs limit) st.rows ∙ pull-final v st.weight (rows_left text end) ∙ sym (ap (Rest (rows_left text end)) q);
-          later = st.later;
-          inside = st.within;
-        }
-    pass_step Read.Unreadable e ys l q = let z : ◌≡◌ {A = ℕ} 0 1 = cc in absurd (omega arith)
-
-    pub pass-twice : (r : Read) → r ≡ row_at text at → twice ≡ with_read first xs limit r → pass_from first xs limit (rows_left text at) ≡ Seen.Twice
-    pass-twice (Read.Link s t i o w end) e q = let z : ◌≡◌ {A = ℕ} 0 1 = cc in absurd (omega arith)
-    pass-twice (Read.Final v w end) e q =
-        let st = step-final text at inside v w end (sym e) in
-        ap (pass_from first xs limit) st.rows ∙ pull-final v st.weight (rows_left text end) ∙ sym (ap (Rest (rows_left text end)) q)
-    pass-twice Read.Unreadable e q = ap (pass_from first xs limit) (step-none text at inside (sym e))
+  pub pass_step : (text : List ℕ) (at : ℕ) (r : Code.Row) (end : ℕ) → Stepped text at r end → (g : Going) → g ≡ with_read first xs limit r
+      → pass_from first xs limit (rows_left text at) ≡ go_on g (λ ys l. pass_from first ys l (rows_left text end))
+  pass_step text at r end st g q =
+      ap (pass_from first xs limit) st.rows ∙ pull st.row (rows_left text end) ∙ ap (Rest (rows_left text end)) (sym (q ∙ ap (with_read first xs limit) st.is))
 
 -- ---- what a final row does to the kept nodes
 record Step (first v : ℕ) (xs : List ℕ) (limit : ℕ) (ys : List ℕ) (less : ℕ) : Type 0 where
@@ -210,7 +136,7 @@ module _ (first v : ℕ) (xs : List ℕ) (limit : ℕ) (falls : Falls first limi
     falls = falls;
     stay = λ u h t. t;
     new = λ h k. out s h k;
-    apart = λ u h t z. not-both (among v xs) (ap (λ (n : ℕ). among n xs) z ∙ t) (none s);
+    apart = λ u h t z. not-both (among v xs) (ap (λ (n : ℕ). among n xs) z ∙ t) (absent s);
     old = λ u t e. absurd (not-both (among u xs) t e);
   }
     where
@@ -218,9 +144,9 @@ module _ (first v : ℕ) (xs : List ℕ) (limit : ℕ) (falls : Falls first limi
       out (inl a) h k = absurd (omega (arith, a, h))
       out (inr a) h k = absurd (omega (arith, a, k))
 
-      none : (v < first) ⊎ (limit ≤ v) → among v xs ≡ false
-      none (inl a) = none_below first limit xs v falls a
-      none (inr a) = none_above first limit xs v falls a
+      absent : (v < first) ⊎ (limit ≤ v) → among v xs ≡ false
+      absent (inl a) = none_below first limit xs v falls a
+      absent (inr a) = none_above first limit xs v falls a
 
   good_new : first ≤ v → v < limit → Good first v xs limit (with_new v xs limit)
   good_new h k = go (has v xs) refl
@@ -228,14 +154,14 @@ module _ (first v : ℕ) (xs : List ℕ) (limit : ℕ) (falls : Falls first limi
       go : (b : Bool) → has v xs ≡ b → Good first v xs limit (cond b twice (on (inserted v xs) limit))
       go true e = sym (has-among first limit xs v falls) ∙ e
       go false e =
-          let none : among v xs ≡ false = sym (has-among first limit xs v falls) ∙ e in
+          let absent : among v xs ≡ false = sym (has-among first limit xs v falls) ∙ e in
           record {
             least = omega arith;
             later = more;
-            falls = inserted-falls first limit xs v falls h k none;
+            falls = inserted-falls first limit xs v falls h k absent;
             stay = λ u c t. among-inserted u v xs ∙ or_right (eqb v u) (among u xs) t;
             new = λ c d. among-inserted v v xs ∙ or_left (eqb v v) (among v xs) (eq-eqb v v refl);
-            apart = λ u c t z. not-both (among v xs) (ap (λ (n : ℕ). among n xs) z ∙ t) none;
+            apart = λ u c t z. not-both (among v xs) (ap (λ (n : ℕ). among n xs) z ∙ t) absent;
             old = λ u t q. (sym (eqb-true v u (or_new (eqb v u) (among u xs) (sym (among-inserted u v xs) ∙ t) q)), h);
           }
 
@@ -312,13 +238,13 @@ module _ (first v : ℕ) (w : Weight) (xs : List ℕ) (limit : ℕ) (rs : List R
         either : (b : Bool) → ltb v first ≡ b → (c : Bool) → ltb v n ≡ c → (ltb v first || not (any_final v rs)) ≡ (ltb v n || not (any_final v rs))
         either true p c q = let less = ltb-true v first p in λ j. (p ∙ sym (lt-ltb v n (omega (arith, less, later)))) j || not (any_final v rs)
         either false p true q =
-            let none = alone (ltb-false v first p) (ltb-true v n q) in
-            clear_or (ltb v first) (any_final v rs) none ∙ sym (clear_or (ltb v n) (any_final v rs) none)
+            let once = alone (ltb-false v first p) (ltb-true v n q) in
+            clear_or (ltb v first) (any_final v rs) once ∙ sym (clear_or (ltb v n) (any_final v rs) once)
         either false p false q = λ j. (p ∙ sym q) j || not (any_final v rs)
 
-  next-by : (n : ℕ) (g : Going) → Good first v xs limit g → go_on g (λ ys l. pass_rows first ys l rs) ≡ Seen.Next n
-      → ((ys : List ℕ) (l : ℕ) → Falls first l ys → first < l → pass_rows first ys l rs ≡ Seen.Next n → Next first ys l n rs) → Next first xs limit n (final v w ∷ rs)
-  next-by n twice s e later = let z : ◌≡◌ {A = ℕ} 0 1 = cc in absurd (omega arith)
+  next-by : (n : ℕ) (g : Going) → Good first v xs limit g → go_on g (λ ys l. pass_rows first ys l rs) ≡ Some n
+      → ((ys : List ℕ) (l : ℕ) → Falls first l ys → first < l → pass_rows first ys l rs ≡ Some n → Next first ys l n rs) → Next first xs limit n (final v w ∷ rs)
+  next-by n twice s e later = absurd (cc)
   next-by n (on ys l) s e later =
       let p = later ys l s.falls s.later e in
       record {
@@ -352,34 +278,34 @@ module _ (first v : ℕ) (w : Weight) (xs : List ℕ) (limit : ℕ) (rs : List R
         go true e = rest-unseen u e
         go false e = let is = s.old u t e in ap (λ (n : ℕ). any_final n rs) is.0 ∙ alone is.1
 
-    twice-by : (g : Going) → Good first v xs limit g → go_on g (λ ys l. pass_rows first ys l rs) ≡ Seen.Twice
-        → ((ys : List ℕ) (l : ℕ) → Falls first l ys → first < l → pass_rows first ys l rs ≡ Seen.Twice → once_from first rs ≡ true → Unseen ys rs → ⊥) → ⊥
+    twice-by : (g : Going) → Good first v xs limit g → go_on g (λ ys l. pass_rows first ys l rs) ≡ None
+        → ((ys : List ℕ) (l : ℕ) → Falls first l ys → first < l → pass_rows first ys l rs ≡ None → once_from first rs ≡ true → Unseen ys rs → ⊥) → ⊥
     twice-by twice s e later = not-kept s
     twice-by (on ys l) s e later = later ys l s.falls s.later e rest-once (unseen-new ys l s)
 
 -- a pass that goes on: of the nodes from `first` on, those before the next one have one final row each at most
-goes : (first : ℕ) (xs : List ℕ) (limit n : ℕ) (rs : List Row) → Falls first limit xs → first < limit → pass_rows first xs limit rs ≡ Seen.Next n → Next first xs limit n rs
+goes : (first : ℕ) (xs : List ℕ) (limit n : ℕ) (rs : List Row) → Falls first limit xs → first < limit → pass_rows first xs limit rs ≡ Some n → Next first xs limit n rs
 unfolding pass_rows once_from any_final
 goes first xs limit n [] f more e = let is : limit ≡ n = cc in record { least = omega arith; later = omega arith; unseen = λ u h t. refl; same = refl }
 goes first xs limit n (link s t i o w ∷ rs) f more e = let p = goes first xs limit n rs f more e in record { least = p.least; later = p.later; unseen = p.unseen; same = p.same }
 goes first xs limit n (final v w ∷ rs) f more e = next-by first v w xs limit rs n (with_final first v xs limit) (good-final first v xs limit f more) e (λ ys l. goes first ys l n rs)
 
 -- a pass that finds a node twice
-finds : (first : ℕ) (xs : List ℕ) (limit : ℕ) (rs : List Row) → Falls first limit xs → first < limit → pass_rows first xs limit rs ≡ Seen.Twice → once_from first rs ≡ true → Unseen xs rs → ⊥
+finds : (first : ℕ) (xs : List ℕ) (limit : ℕ) (rs : List Row) → Falls first limit xs → first < limit → pass_rows first xs limit rs ≡ None → once_from first rs ≡ true → Unseen xs rs → ⊥
 unfolding pass_rows once_from any_final
-finds first xs limit [] f more e once un = let y : ◌≡◌ {A = ℕ} 0 1 = cc in absurd (omega arith)
+finds first xs limit [] f more e once un = absurd (cc)
 finds first xs limit (link s t i o w ∷ rs) f more e once un = finds first xs limit rs f more e once un
 finds first xs limit (final v w ∷ rs) f more e once un =
     twice-by first v w xs limit rs once un (with_final first v xs limit) (good-final first v xs limit f more) e (λ ys l. finds first ys l rs)
 
 -- ---- the passes together
 abbrev pub once_from_in : ℕ → Option (List Row) → Bool
-once_from_in first none = false
-once_from_in first (some rs) = once_from first rs
+once_from_in first None = false
+once_from_in first (Some rs) = once_from first rs
 
 pub from-begin : (o : Option (List Row)) → once_from_in 0 o ≡ once_in o
-from-begin none = refl
-from-begin (some rs) = from_zero rs
+from-begin None = refl
+from-begin (Some rs) = from_zero rs
 
 nothing-kept : (rs : List Row) → Unseen [] rs
 unfolding among
@@ -387,9 +313,9 @@ nothing-kept rs u t = absurd (false≢true t)
 
 module _ (first : ℕ) (more : first < 2 ^ 32) where
   -- a node twice from `first` on
-  pub once-twice : (o : Option (List Row)) → pass_from first [] (2 ^ 32) o ≡ Seen.Twice → once_from_in first o ≡ false
-  once-twice none e = refl
-  once-twice (some rs) e = go (once_from first rs) refl
+  pub once-twice : (o : Option (List Row)) → pass_from first [] (2 ^ 32) o ≡ None → once_from_in first o ≡ false
+  once-twice None e = refl
+  once-twice (Some rs) e = go (once_from first rs) refl
     where
       go : (b : Bool) → once_from first rs ≡ b → once_from first rs ≡ false
       go true q = absurd (finds first [] (2 ^ 32) rs tt more e q (nothing-kept rs))
@@ -401,11 +327,11 @@ module _ (first : ℕ) (more : first < 2 ^ 32) where
     pub same : once_from_in first o ≡ once_from_in n o
     pub ends : 2 ^ 32 ≤ n → once_from_in n o ≡ true
 
-  pub once-next : (text : List ℕ) (n : ℕ) → pass_from first [] (2 ^ 32) (rows_left text 0) ≡ Seen.Next n → GoesOn n (rows_left text 0)
+  pub once-next : (text : List ℕ) (n : ℕ) → pass_from first [] (2 ^ 32) (rows_left text 0) ≡ Some n → GoesOn n (rows_left text 0)
   once-next text n e = go (rows_left text 0) refl e
     where
-      go : (o : Option (List Row)) → rows_left text 0 ≡ o → pass_from first [] (2 ^ 32) o ≡ Seen.Next n → GoesOn n o
-      go none q e = let z : ◌≡◌ {A = ℕ} 0 1 = cc in absurd (omega arith)
-      go (some rs) q e =
+      go : (o : Option (List Row)) → rows_left text 0 ≡ o → pass_from first [] (2 ^ 32) o ≡ Some n → GoesOn n o
+      go None q e = absurd (cc)
+      go (Some rs) q e =
           let p = goes first [] (2 ^ 32) n rs tt more e in
           record { later = p.later; same = p.same; ends = λ h. past_all n rs h (left-fit text 0 rs q) }

@@ -40,7 +40,7 @@ none-on (c ∷ cs) e = ap (λ (b : Bool). cond b (suc (run_of not_blank cs)) 0) 
 
 pub fields-run : (xs : List ℕ) → goes_on xs ≡ true → fields_of xs ≡ take (run_of not_blank xs) xs ∷ fields_of (drop (run_of not_blank xs) xs)
 unfolding fields_of run_of
-fields-run [] e = let z : ◌≡◌ {A = ℕ} 0 1 = cc in absurd (omega arith)
+fields-run [] e = absurd (cc)
 fields-run (c ∷ cs) e = first (is_blank c) e (on (goes_on cs) refl (fields-run cs))
   where
     on : (b : Bool) → goes_on cs ≡ b → (goes_on cs ≡ true → fields_of cs ≡ take (run_of not_blank cs) cs ∷ fields_of (drop (run_of not_blank cs) cs))
@@ -52,5 +52,5 @@ fields-run (c ∷ cs) e = first (is_blank c) e (on (goes_on cs) refl (fields-run
 
     first : (b : Bool) → not b ≡ true → cond (goes_on cs) (onto_first c (fields_of cs)) ((c ∷ []) ∷ fields_of cs) ≡ (c ∷ take (run_of not_blank cs) cs) ∷ fields_of (drop (run_of not_blank cs) cs)
         → cond b (fields_of cs) (cond (goes_on cs) (onto_first c (fields_of cs)) ((c ∷ []) ∷ fields_of cs)) ≡ take (cond (not b) (suc (run_of not_blank cs)) 0) (c ∷ cs) ∷ fields_of (drop (cond (not b) (suc (run_of not_blank cs)) 0) (c ∷ cs))
-    first true q l = let z : ◌≡◌ {A = ℕ} 0 1 = cc in absurd (omega arith)
+    first true q l = absurd (cc)
     first false q l = l

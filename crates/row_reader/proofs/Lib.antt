@@ -1,14 +1,12 @@
 pub mod Runs
 pub mod Lexing
-pub mod Grids
-pub mod Same
-pub mod Weighing
-pub mod Signs
 pub mod Places
+pub mod Grids
+pub mod Weighing
 pub mod Rowing
 pub mod Steps
-pub mod ReadBench
 pub mod Surveys
 pub mod LeftFits
 pub mod Kept
 pub mod FinalRows
+pub mod ReadBench

@@ -1,7 +1,7 @@
 -- Rows and fields at places: a row's next field, its end, and the rows from there on. Assumes nothing.
 use mathlib.Core.Path.{◌≡◌, refl, sym, ap, ◌∙◌}
 use mathlib.Core.Bool.{Bool, true, false, not, ◌&&◌, cond}
-use mathlib.Core.Option.{Option, none, some}
+use Rattle.std.proofs.Common.{Option, None, Some}
 use mathlib.Core.List.{List, [], ◌∷◌}
 use Prim.Native.Nat.{ℕ, zero, suc, ◌+◌, ◌-◌, ◌≤◌, ◌<◌}
 use native.Mathlib.Omega.{arith}
@@ -213,52 +213,52 @@ module _ (text : List ℕ) (at : ℕ) (inside : at < length text) where
       ∙ ap finished (drop-drop (suc (run_of not_newline (drop at text))) at text ∙ ap (λ (k : ℕ). drop k text) (let z : at + suc (run_of not_newline (drop at text)) ≡ line_end text at + 1 = omega arith in z))
 
   abbrev stepped : Option (List Row)
-  stepped = and_then (row_of (line_of (drop at text))) (λ r. and_then (rows_left text (line_end text at + 1)) (λ rs. some (r ∷ rs)))
+  stepped = and_then (row_of (line_of (drop at text))) (λ r. and_then (rows_left text (line_end text at + 1)) (λ rs. Some (r ∷ rs)))
 
   -- the step of every pass over the rows
-  pub rows_step : rows_left text at ≡ cond (ltb (line_end text at) (length text)) stepped none
+  pub rows_step : rows_left text at ≡ cond (ltb (line_end text at) (length text)) stepped None
   unfolding all_rows
   rows_step = go (ltb (line_end text at) (length text)) refl
     where
       both : (b : Bool) (o : Option Row) (rest : Option (List Row))
-          → cond b (and_then o (λ r. and_then rest (λ rs. some (r ∷ rs)))) none ≡ and_then o (λ r. and_then (cond b rest none) (λ rs. some (r ∷ rs)))
+          → cond b (and_then o (λ r. and_then rest (λ rs. Some (r ∷ rs)))) None ≡ and_then o (λ r. and_then (cond b rest None) (λ rs. Some (r ∷ rs)))
       both true o rest = refl
-      both false none rest = refl
-      both false (some r) rest = refl
+      both false None rest = refl
+      both false (Some r) rest = refl
 
-      go : (b : Bool) → ltb (line_end text at) (length text) ≡ b → rows_left text at ≡ cond b stepped none
+      go : (b : Bool) → ltb (line_end text at) (length text) ≡ b → rows_left text at ≡ cond b stepped None
       go true e =
           let h = ltb-true (line_end text at) (length text) e in
-          (λ i. cond (finished-at h i) (all_rows (rows_at h i)) none)
+          (λ i. cond (finished-at h i) (all_rows (rows_at h i)) None)
           ∙ both (finished (drop (line_end text at + 1) text)) (row_of (line_of (drop at text))) (all_rows (rows_of (drop (line_end text at + 1) text)))
       go false e =
           let h = ltb-false (line_end text at) (length text) e in
-          ap (λ (b : Bool). cond b (all_rows (rows_of (drop at text))) none) (open_at ∙ ended-none (drop at text) (omega (arith, length-drop at text)))
+          ap (λ (b : Bool). cond b (all_rows (rows_of (drop at text))) None) (open_at ∙ ended-none (drop at text) (omega (arith, length-drop at text)))
 
 -- at the text's end there are no rows left
-pub rows_end : (text : List ℕ) (at : ℕ) → length text ≤ at → rows_left text at ≡ some []
+pub rows_end : (text : List ℕ) (at : ℕ) → length text ≤ at → rows_left text at ≡ Some []
 unfolding all_rows rows_of
-rows_end text at h = ap (λ (l : List ℕ). cond (finished l) (all_rows (rows_of l)) none) (drop_of_length-le text {i = at} h)
+rows_end text at h = ap (λ (l : List ℕ). cond (finished l) (all_rows (rows_of l)) None) (drop_of_length-le text {i = at} h)
 
 -- the rows of a text are those from its beginning on, where it has any
-pub rows-begin : (text : List ℕ) → read_rows text ≡ cond (ltb 0 (length text)) (and_then (rows_left text 0) (λ rs. cond (finals_once rs) (some rs) none)) none
+pub rows-begin : (text : List ℕ) → read_rows text ≡ cond (ltb 0 (length text)) (and_then (rows_left text 0) (λ rs. cond (finals_once rs) (Some rs) None)) None
 unfolding read_rows ended
 rows-begin [] = refl
-rows-begin (c ∷ cs) = go (ended (c ∷ cs)) ∙ sym (ap (λ (b : Bool). cond b (and_then (rows_left (c ∷ cs) 0) (λ rs. cond (finals_once rs) (some rs) none)) none) (lt-ltb 0 (length (c ∷ cs)) (omega arith)))
+rows-begin (c ∷ cs) = go (ended (c ∷ cs)) ∙ sym (ap (λ (b : Bool). cond b (and_then (rows_left (c ∷ cs) 0) (λ rs. cond (finals_once rs) (Some rs) None)) None) (lt-ltb 0 (length (c ∷ cs)) (omega arith)))
   where
-    go : (b : Bool) → cond b (and_then (all_rows (rows_of (c ∷ cs))) (λ rs. cond (finals_once rs) (some rs) none)) none ≡ and_then (cond b (all_rows (rows_of (c ∷ cs))) none) (λ rs. cond (finals_once rs) (some rs) none)
+    go : (b : Bool) → cond b (and_then (all_rows (rows_of (c ∷ cs))) (λ rs. cond (finals_once rs) (Some rs) None)) None ≡ and_then (cond b (all_rows (rows_of (c ∷ cs))) None) (λ rs. cond (finals_once rs) (Some rs) None)
     go true = refl
     go false = refl
 
 -- the rows from the beginning on
-pub begins : (text : List ℕ) (rs : List Row) → read_rows text ≡ some rs → (0 < length text) × (rows_left text 0 ≡ some rs)
+pub begins : (text : List ℕ) (rs : List Row) → read_rows text ≡ Some rs → (0 < length text) × (rows_left text 0 ≡ Some rs)
 begins text rs e = go (ltb 0 (length text)) refl (rows_left text 0) refl (sym (rows-begin text) ∙ e)
   where
-    go : (b : Bool) → ltb 0 (length text) ≡ b → (left : Option (List Row)) → rows_left text 0 ≡ left → cond b (and_then left (λ rs. cond (finals_once rs) (some rs) none)) none ≡ some rs → (0 < length text) × (rows_left text 0 ≡ some rs)
-    go false p left q e = let z : ◌≡◌ {A = ℕ} 0 1 = cc in absurd (omega arith)
-    go true p none q e = let z : ◌≡◌ {A = ℕ} 0 1 = cc in absurd (omega arith)
-    go true p (some qs) q e = by (finals_once qs) e
+    go : (b : Bool) → ltb 0 (length text) ≡ b → (left : Option (List Row)) → rows_left text 0 ≡ left → cond b (and_then left (λ rs. cond (finals_once rs) (Some rs) None)) None ≡ Some rs → (0 < length text) × (rows_left text 0 ≡ Some rs)
+    go false p left q e = absurd (cc)
+    go true p None q e = absurd (cc)
+    go true p (Some qs) q e = by (finals_once qs) e
       where
-        by : (c : Bool) → cond c (some qs) none ≡ some rs → (0 < length text) × (rows_left text 0 ≡ some rs)
-        by false e = let z : ◌≡◌ {A = ℕ} 0 1 = cc in absurd (omega arith)
+        by : (c : Bool) → cond c (Some qs) None ≡ Some rs → (0 < length text) × (rows_left text 0 ≡ Some rs)
+        by false e = absurd (cc)
         by true e = (ltb-true 0 (length text) p, q ∙ e)

@@ -1,7 +1,7 @@
 -- The survey of rows: a row more, and all of them. Assumes nothing.
 use mathlib.Core.Path.{◌≡◌, refl, sym, ap, ◌∙◌}
 use mathlib.Core.Bool.{Bool, true, false, ◌&&◌, cond}
-use mathlib.Core.Option.{Option, none, some}
+use Rattle.std.proofs.Common.{Option, None, Some}
 use mathlib.Core.List.{List, [], ◌∷◌}
 use Prim.Native.Nat.{ℕ, ◌+◌, ◌≤◌, ◌<◌, max}
 use native.Mathlib.Omega.{arith}
@@ -13,13 +13,14 @@ use Rattle.text_rows.specs.Rows.{Row, link, final, first_node, highest, highest_
 use Rattle.text_rows.specs.Convert.{links_in, is_link}
 use Rattle.row_reader.specs.Places.{rows_left}
 use Rattle.row_reader.specs.Reading.{weight_read}
-use Rattle.row_reader.specs.RowReading.{row_at}
-use Rattle.row_reader.specs.Surveying.{passes, is_read, end_of, survey_read, survey_row, survey_onto, survey_from, survey_rows, surveyed, node_of}
+use Rattle.row_reader.specs.RowReading.{row_read, row_at}
+use Rattle.row_reader.specs.Surveying.{passes, survey_read, survey_row, survey_onto, survey_from, survey_rows, surveyed, first_of, node_of}
 use Rattle.row_reader.specs.declared.values.Weight.{Weight}
+use Rattle.row_reader.specs.declared.row.Row as Code
+use Rattle.row_reader.specs.declared.row.Row.TheVariants.{Link, Final}
 use Rattle.row_reader.specs.declared.row.Read.{Read}
 use Rattle.row_reader.specs.declared.survey.Survey.{Survey}
-use Rattle.row_reader.specs.declared.survey.Surveyed.{Surveyed}
-use Rattle.row_reader.proofs.Steps.{step-none, step-link, step-final}
+use Rattle.row_reader.proofs.Steps.{Stepped, step-none, step_is}
 
 -- ---- the fold is what the definitions say
 and-true : (b : Bool) → b ≡ (b && true)
@@ -51,8 +52,8 @@ abbrev pub nothing : Survey
 nothing = record { passing = true; highest = 0; links = 0 }
 
 pub from_is : (o : Option (List Row)) → survey_from nothing o ≡ survey_rows o
-from_is none = refl
-from_is (some rs) = ap Surveyed.Rows (onto-is nothing rs ∙ (λ j. record { passing = weights_pass rs; highest = high j; links = more j }))
+from_is None = refl
+from_is (Some rs) = ap Some (onto-is nothing rs ∙ (λ j. record { passing = weights_pass rs; highest = high j; links = more j }))
   where
     high : max 0 (highest rs) ≡ highest rs
     high = omega arith
@@ -61,87 +62,64 @@ from_is (some rs) = ap Surveyed.Rows (onto-is nothing rs ∙ (λ j. record { pas
     more = omega arith
 
 -- ---- a row more
-pull : (x : Survey) (r : Row) (o : Option (List Row)) → survey_from x (and_then o (λ rs. some (r ∷ rs))) ≡ survey_from (survey_row x r) o
+pull : (x : Survey) (r : Row) (o : Option (List Row)) → survey_from x (and_then o (λ rs. Some (r ∷ rs))) ≡ survey_from (survey_row x r) o
 unfolding survey_onto
-pull x r none = refl
-pull x r (some rs) = refl
+pull x r None = refl
+pull x r (Some rs) = refl
 
-weight-passes : (w : Weight) (x : Fields.Weight) → w ≡ weight_read (some x) → weight_passes x ≡ passes w
-weight-passes w x e = by x ∙ sym (ap passes e)
+passes-is : (w : Fields.Weight) → passes (weight_read w) ≡ weight_passes w
+passes-is barred = refl
+passes-is (finite z) = go (on_grid z)
   where
-    by : (x : Fields.Weight) → weight_passes x ≡ passes (weight_read (some x))
-    by (finite z) = go (on_grid z)
-      where
-        go : (b : Bool) → b ≡ passes (cond b (Weight.Units (units_of z)) Weight.Off)
-        go true = refl
-        go false = refl
-    by barred = refl
+    go : (b : Bool) → passes (cond b (Weight.Units (units_of z)) Weight.Off) ≡ b
+    go true = refl
+    go false = refl
 
-pub links-most : (x : Survey) (r : Read) → (survey_read x r).links ≤ x.links + 1
-links-most x (Read.Link s t i o w end) = omega arith
-links-most x (Read.Final v w end) = omega arith
-links-most x Read.Unreadable = omega arith
+-- by the code's answer and by the definition
+survey-row : (x : Survey) (r : Row) → survey_read x (row_read r) ≡ survey_row x r
+survey-row x (link s t i o w) = ap (λ (g : Bool). record { passing = x.passing && g; highest = max x.highest (max s t); links = x.links + 1 }) (passes-is w)
+survey-row x (final v w) =
+    let same : x.links ≡ x.links + 0 = omega arith in
+    λ j. record { passing = x.passing && passes-is w j; highest = max x.highest v; links = same j }
 
-pub record Goes (text : List ℕ) (at : ℕ) (x : Survey) (r : Read) : Type 0 where
-  pub same : survey_from x (rows_left text at) ≡ survey_from (survey_read x r) (rows_left text (end_of r at))
-  pub later : at < end_of r at
-  pub within : end_of r at ≤ length text
+pub links-most : (x : Survey) (r : Code.Row) → (survey_read x r).links ≤ x.links + 1
+links-most x (Link l) = omega arith
+links-most x (Final v w) = omega arith
 
-module _ (text : List ℕ) (at : ℕ) (inside : at < length text) (x : Survey) where
-  pub survey-none : (r : Read) → r ≡ row_at text at → is_read r ≡ false → survey_from x (rows_left text at) ≡ Surveyed.Unreadable
-  survey-none (Read.Link s t i o w end) e b = let z : ◌≡◌ {A = ℕ} 0 1 = cc in absurd (omega arith)
-  survey-none (Read.Final v w end) e b = let z : ◌≡◌ {A = ℕ} 0 1 = cc in absurd (omega arith)
-  survey-none Read.Unreadable e b = ap (survey_from x) (step-none text at inside (sym e))
+-- where the rows give a row
+pub survey_step : (text : List ℕ) (at : ℕ) (x : Survey) (r : Code.Row) (end : ℕ) → Stepped text at r end → survey_from x (rows_left text at) ≡ survey_from (survey_read x r) (rows_left text end)
+survey_step text at x r end st =
+    ap (survey_from x) st.rows
+    ∙ pull x st.row (rows_left text end)
+    ∙ ap (λ (s : Survey). survey_from s (rows_left text end)) (sym (ap (survey_read x) st.is ∙ survey-row x st.row))
 
-  pub survey-step : (r : Read) → r ≡ row_at text at → is_read r ≡ true → Goes text at x r
-  survey-step (Read.Link s t i o w end) e b =
-      let st = step-link text at inside s t i o w end (sym e) in
-      let z = st.weight in
-      record {
-        same =
-            ap (survey_from x) st.rows ∙ pull x (link s t i o z) (rows_left text end)
-            ∙ ap (λ (g : Bool). survey_from (record { passing = x.passing && g; highest = max x.highest (max s t); links = x.links + 1 }) (rows_left text end)) (weight-passes w z st.weighs);
-        later = st.later;
-        within = st.within;
-      }
-  survey-step (Read.Final v w end) e b =
-      let st = step-final text at inside v w end (sym e) in
-      let z = st.weight in
-      let more : x.links + 0 ≡ x.links = omega arith in
-      record {
-        same =
-            ap (survey_from x) st.rows ∙ pull x (final v z) (rows_left text end)
-            ∙ (λ j. survey_from (record { passing = x.passing && weight-passes w z st.weighs j; highest = max x.highest v; links = more j }) (rows_left text end));
-        later = st.later;
-        within = st.within;
-      }
-  survey-step Read.Unreadable e b = let z : ◌≡◌ {A = ℕ} 0 1 = cc in absurd (omega arith)
-
-pub survey-end : (text : List ℕ) (x : Survey) (o : Option (List Row)) → o ≡ some [] → survey_from x o ≡ Surveyed.Rows x
+pub survey-end : (x : Survey) (o : Option (List Row)) → o ≡ Some [] → survey_from x o ≡ Some x
 unfolding survey_onto
-survey-end text x o e = ap (survey_from x) e
+survey-end x o e = ap (survey_from x) e
 
-pub survey-eq : {g g' : Bool} {h h' : ℕ} (l : ℕ) → g ≡ g' → h ≡ h' → ◌≡◌ {A = Survey} (record { passing = g; highest = h; links = l }) (record { passing = g'; highest = h'; links = l })
-survey-eq l p q = λ j. record { passing = p j; highest = q j; links = l }
-
-pub surveyed-none : (text : List ℕ) → length text ≡ 0 → surveyed text ≡ Surveyed.Unreadable
-surveyed-none text e = ap (λ (b : Bool). cond b (survey_rows (rows_left text 0)) Surveyed.Unreadable) (le-ltb 0 (length text) (omega arith))
+pub surveyed-none : (text : List ℕ) → length text ≡ 0 → surveyed text ≡ None
+surveyed-none text e = ap (λ (b : Bool). cond b (survey_rows (rows_left text 0)) None) (le-ltb 0 (length text) (omega arith))
 
 pub surveyed-some : (text : List ℕ) → (length text ≡ 0 → ⊥) → survey_from nothing (rows_left text 0) ≡ surveyed text
 surveyed-some text ne =
     from_is (rows_left text 0)
-    ∙ sym (ap (λ (b : Bool). cond b (survey_rows (rows_left text 0)) Surveyed.Unreadable) (lt-ltb 0 (length text) (omega (arith, ne))))
+    ∙ sym (ap (λ (b : Bool). cond b (survey_rows (rows_left text 0)) None) (lt-ltb 0 (length text) (omega (arith, ne))))
 
 -- ---- the start: the first row's first node, where all rows are read
-pub start_first : (text : List ℕ) → 0 < length text → (rs : List Row) → rows_left text 0 ≡ some rs → node_of (row_at text 0) ≡ first_node rs
+first-is : (r : Row) → first_of (row_read r) ≡ first_node (r ∷ [])
+first-is (link s t i o w) = refl
+first-is (final v w) = refl
+
+pub start_first : (text : List ℕ) → 0 < length text → (rs : List Row) → rows_left text 0 ≡ Some rs → node_of (row_at text 0) ≡ first_node rs
 start_first text inside rs e = go (row_at text 0) refl
   where
-    head : (r : Row) (o : Option (List Row)) → and_then o (λ xs. some (r ∷ xs)) ≡ some rs → first_node (r ∷ []) ≡ first_node rs
-    head r none q = let z : ◌≡◌ {A = ℕ} 0 1 = cc in absurd (omega arith)
-    head (link s t i o w) (some xs) q = let z : link s t i o w ∷ xs ≡ rs = cc in ap first_node z
-    head (final v w) (some xs) q = let z : final v w ∷ xs ≡ rs = cc in ap first_node z
+    head : (r : Row) (o : Option (List Row)) → and_then o (λ xs. Some (r ∷ xs)) ≡ Some rs → first_node (r ∷ []) ≡ first_node rs
+    head r None q = absurd (cc)
+    head (link s t i o w) (Some xs) q = let z : link s t i o w ∷ xs ≡ rs = cc in ap first_node z
+    head (final v w) (Some xs) q = let z : final v w ∷ xs ≡ rs = cc in ap first_node z
 
-    go : (r : Read) → row_at text 0 ≡ r → node_of r ≡ first_node rs
-    go (Read.Link s t i o w end) q = let st = step-link text 0 inside s t i o w end q in head (link s t i o st.weight) (rows_left text end) (sym st.rows ∙ e)
-    go (Read.Final v w end) q = let st = step-final text 0 inside v w end q in head (final v st.weight) (rows_left text end) (sym st.rows ∙ e)
-    go Read.Unreadable q = let none_left = step-none text 0 inside q in let z : ◌≡◌ {A = ℕ} 0 1 = cc in absurd (omega arith)
+    go : (r : Option Read) → row_at text 0 ≡ r → node_of r ≡ first_node rs
+    go (Some r) q =
+        let st = step_is text 0 inside r.row r.end q in
+        ap first_of st.is ∙ first-is st.row ∙ head st.row (rows_left text r.end) (sym st.rows ∙ e)
+    go None q = let none_left = step-none text 0 inside q in absurd (cc)

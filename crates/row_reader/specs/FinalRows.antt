@@ -1,16 +1,14 @@
 -- Mirrors the code: second final rows, found in passes that keep the least final nodes. A reader need not believe it: laws tie it to Rows (proofs/FinalRows). Definitions only.
-use Rattle.std.specs.Prelude.{ℕ, zero, suc, Bool, false, cond, List, [], ◌∷◌, ltb, eqb, length, get_or, set}
-use Rattle.std.proofs.Math.Option.{Option, none, some}
+use Rattle.std.specs.Prelude.{ℕ, zero, suc, Bool, false, cond, List, [], ◌∷◌, ltb, eqb, length, get_or, set, Option, None, Some}
 use Rattle.tropical_weight.specs.Limits.{node_limit}
 use Rattle.text_rows.specs.Rows.{Row, link, final, finals_once}
-use Rattle.row_reader.specs.declared.row.Read.{Read}
-use Rattle.row_reader.specs.declared.finals.Pass.{Pass}
-use Rattle.row_reader.specs.declared.finals.Seen.{Seen}
+use Rattle.row_reader.specs.declared.row.Row as Code
+use Rattle.row_reader.specs.declared.row.Row.TheVariants.{Link, Final}
 
 -- rows that are read have no node with two final rows
 abbrev pub once_in : Option (List Row) → Bool
-once_in none = false
-once_in (some rs) = finals_once rs
+once_in None = false
+once_in (Some rs) = finals_once rs
 
 -- so many nodes are kept in a pass
 abbrev pub most : ℕ
@@ -40,9 +38,10 @@ pub data Going : Type 0 where
   twice : Going
   on : List ℕ → ℕ → Going
 
-abbrev pub told : Pass → List ℕ → Going
-told Pass.Twice l = twice
-told (Pass.On count limit) l = on (falling l count) limit
+-- by the code's answer and what it leaves
+abbrev pub told : {A : Type 0} → Option A → List ℕ → ℕ → Going
+told None xs limit = twice
+told (Some x) xs limit = on xs limit
 
 abbrev pub with_new : ℕ → List ℕ → ℕ → Going
 with_new v xs limit = cond (has v xs) twice (on (inserted v xs) limit)
@@ -56,22 +55,21 @@ abbrev pub with_final : ℕ → ℕ → List ℕ → ℕ → Going
 with_final first v xs limit = cond (ltb v first) (on xs limit) (cond (ltb v limit) (cond (ltb (length xs) most) (with_new v xs limit) (with_less v xs limit)) (on xs limit))
 
 -- a row more, by the code's answer
-abbrev pub with_read : ℕ → List ℕ → ℕ → Read → Going
-with_read first xs limit (Read.Link s t i o w end) = on xs limit
-with_read first xs limit (Read.Final v w end) = with_final first v xs limit
-with_read first xs limit Read.Unreadable = twice
+abbrev pub with_read : ℕ → List ℕ → ℕ → Code.Row → Going
+with_read first xs limit (Link l) = on xs limit
+with_read first xs limit (Final v w) = with_final first v xs limit
 
 -- what the rows behind come to, where the pass goes on
-abbrev pub go_on : Going → (List ℕ → ℕ → Seen) → Seen
-go_on twice f = Seen.Twice
+abbrev pub go_on : Going → (List ℕ → ℕ → Option ℕ) → Option ℕ
+go_on twice f = None
 go_on (on xs limit) f = f xs limit
 
--- ---- a pass over rows
-unfoldable pub pass_rows : ℕ → List ℕ → ℕ → List Row → Seen
-pass_rows first xs limit [] = Seen.Next limit
+-- ---- a pass over rows: where the next one begins, or none where a node's second final row is met
+unfoldable pub pass_rows : ℕ → List ℕ → ℕ → List Row → Option ℕ
+pass_rows first xs limit [] = Some limit
 pass_rows first xs limit (link s t i o w ∷ rs) = pass_rows first xs limit rs
 pass_rows first xs limit (final v w ∷ rs) = go_on (with_final first v xs limit) (λ ys l. pass_rows first ys l rs)
 
-abbrev pub pass_from : ℕ → List ℕ → ℕ → Option (List Row) → Seen
-pass_from first xs limit none = Seen.Twice
-pass_from first xs limit (some rs) = pass_rows first xs limit rs
+abbrev pub pass_from : ℕ → List ℕ → ℕ → Option (List Row) → Option ℕ
+pass_from first xs limit None = None
+pass_from first xs limit (Some rs) = pass_rows first xs limit rs

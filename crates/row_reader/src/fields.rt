@@ -1,64 +1,59 @@
 // The fields of a row.
-ghost use Rattle.std.specs.Prelude.{◌≡◌, ◌+◌, ◌≤◌, length, drop};
+ghost use Rattle.std.specs.Prelude.{◌≡◌, ◌≤◌, length};
+ghost use Rattle.std.specs.List.{prefix_len};
+ghost use Rattle.std.specs.Option.{option_map};
 ghost use Rattle.text_rows.specs.Fields.{is_blank};
-ghost use Rattle.row_reader.specs.Runs.{run_of, in_field};
-ghost use Rattle.row_reader.specs.Places.{Spans};
+ghost use Rattle.row_reader.specs.Runs.{in_field};
+ghost use Rattle.row_reader.specs.Places.{FieldGiven};
 
 fn is_blank(c: u8) -> bool
     ensures { result ≡ is_blank c }
 {
-    if c == b' ' { true } else { c == b'\t' }
+    c == b' ' || c == b'\t'
 }
 
 fn in_field(c: u8) -> bool
     ensures { result ≡ in_field c }
 {
-    if is_blank(c) { false } else { c != b'\n' }
+    !is_blank(c) && c != b'\n'
 }
 
-// Past the blanks from a place on.
-fn past_blanks(text: &[u8], at: usize) -> usize
-    requires { at ≤ length text.now }
-    ensures { (result ≡ at + run_of is_blank (drop at text.now)) × (result ≤ length text.now) }
+// How many blanks a text begins with.
+fn blanks(text: &[u8]) -> usize
+    ensures run { result ≡ prefix_len is_blank text.now }
+    ensures within { result ≤ length text.now }
 {
-    let mut p = at;
-    while p < text.len() {
-        if !is_blank(text[p]) {
-            return p;
-        }
-        p += 1;
-    }
-    p
+    text.iter().take_while(|c| is_blank(**c)).count()
 }
 
-// Where a field that begins here ends: at a blank, a newline or the text's end.
-fn field_end(text: &[u8], at: usize) -> usize
-    requires { at ≤ length text.now }
-    ensures { (result ≡ at + run_of in_field (drop at text.now)) × (result ≤ length text.now) }
+// How long the field at a text's front is: to a blank, a newline or the text's end.
+fn field_length(text: &[u8]) -> usize
+    ensures run { result ≡ prefix_len in_field text.now }
+    ensures within { result ≤ length text.now }
 {
-    let mut p = at;
-    while p < text.len() {
-        if !in_field(text[p]) {
-            return p;
-        }
-        p += 1;
-    }
-    p
+    text.iter().take_while(|c| in_field(**c)).count()
 }
 
-// Where a field begins and ends.
+// The fields of the row that goes on at a place of a text.
 #[derive(Clone, Copy)]
-pub struct Span {
-    pub from: usize,
-    pub to: usize,
+pub struct Fields<'a> {
+    pub text: &'a [u8],
+    pub at: usize,
+    ghost inside: { at ≤ length text.now },
 }
 
-// The row's next field from a place on; an empty one, at the row's end, where it has no more.
-pub fn span_at(text: &[u8], at: usize) -> Span
-    requires { at ≤ length text.now }
-    ensures { Spans text.now at result.from result.to }
-{
-    let from = past_blanks(text, at);
-    let to = field_end(text, from);
-    Span { from, to }
+impl<'a> Fields<'a> {
+    // The next field; none at the row's end, where `at` is then.
+    pub fn next_field(&mut self) -> Option<&'a [u8]>
+        ensures kept { self.new.text ≡ self.old.text }
+        ensures given { FieldGiven self.old.text.now self.old.at (option_map (λ f. f.now) result) self.new.at }
+    {
+        let from = self.at + blanks(&self.text[self.at..]);
+        let to = from + field_length(&self.text[from..]);
+        self.at = to;
+        if from == to {
+            return None;
+        }
+        Some(&self.text[from..to])
+    }
 }

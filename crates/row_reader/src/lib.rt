@@ -4,5 +4,6 @@
 pub mod fields;
 pub mod finals;
 pub mod row;
+pub mod rows;
 pub mod survey;
 pub mod values;

@@ -1,12 +1,11 @@
 // Numbers and weights of fields.
-ghost use Rattle.std.specs.Prelude.{◌≡◌, ◌∷◌, ◌+◌, ◌*◌, ◌^◌, ◌≤◌, ◌<◌, length};
-ghost use Rattle.std.proofs.Math.Option.{some};
+ghost use Rattle.std.specs.Prelude.{◌≡◌, ◌∷◌, ◌≤◌, ◌==◌, position};
+ghost use Rattle.std.specs.Option.{option_map};
 ghost use Rattle.tropical_weight.specs.Limits.{weight_limit};
-ghost use Rattle.text_rows.specs.Fields.{million, number_of, infinity_text, same_text, part_of, magnitude_of, decimal_of, weight_of};
-ghost use Rattle.row_reader.specs.Runs.{run_of, not_point};
-ghost use Rattle.row_reader.specs.Reading.{digits_read, number_read, magnitude_read, weight_read, decimal_read, signed_by, units_in, signed_read};
+ghost use Rattle.text_rows.specs.Fields.{number_of, infinity_text, same_text, part_of, magnitude_of, decimal_of, weight_of};
+ghost use Rattle.row_reader.specs.Reading.{most_millionths, millionths_held, units_read, signed_by, weight_by, decimal_read, weight_read};
 
-use decimals::read::{Digits, HELD, digits_in};
+use decimals::read::{HELD, digits_in};
 use tropical_weight::{UNIT, WEIGHT_LIMIT};
 
 // How many units are 1.
@@ -15,38 +14,19 @@ const UNITS: u64 = 1 << UNIT;
 // How many millionths are 1.
 const MILLION: u64 = 1_000_000;
 
-// A number, or that there is none.
-#[derive(Clone, Copy)]
-pub enum Number {
-    Value(u32),
-    Unreadable,
-}
-
 // A node or a label: digits within 32 bits.
-pub fn number_in(field: &[u8]) -> Number
-    ensures { result ≡ number_read (number_of field.now) }
+pub fn number_in(field: &[u8]) -> Option<u32>
+    ensures { result ≡ number_of field.now }
 {
-    let Digits::Value(value) = digits_in(field) else {
-        return Number::Unreadable;
-    };
-    if HELD <= value {
-        return Number::Unreadable;
-    }
-    Number::Value(value as u32)
+    let value = digits_in(field)?;
+    u32::try_from(value).ok()
 }
 
-// How many bytes stand before the first point.
-fn point_in(field: &[u8]) -> usize
-    ensures { (result ≡ run_of not_point field.now) × (result ≤ length field.now) }
+// Where the first point stands.
+fn point_in(field: &[u8]) -> Option<usize>
+    ensures { result ≡ position (λ c. c == 46) field.now }
 {
-    let mut p = 0usize;
-    while p < field.len() {
-        if field[p] == b'.' {
-            return p;
-        }
-        p += 1;
-    }
-    p
+    field.iter().position(|c| *c == b'.')
 }
 
 // The most decimals of a weight.
@@ -56,67 +36,53 @@ const DECIMALS: usize = 6;
 const SCALE: [u64; 7] = [MILLION, 100_000, 10_000, 1000, 100, 10, 1];
 
 // One to six decimals, in millionths.
-fn part_in(decimals: &[u8]) -> Digits
-    ensures { result ≡ digits_read (part_of (46 ∷ decimals.now)) }
+fn part_in(decimals: &[u8]) -> Option<u64>
+    ensures { result ≡ part_of (46 ∷ decimals.now) }
 {
     let n = decimals.len();
     if DECIMALS < n {
-        return Digits::Unreadable;
+        return None;
     }
-    let Digits::Value(value) = digits_in(decimals) else {
-        return Digits::Unreadable;
-    };
-    Digits::Value(value * SCALE[n])
+    let value = digits_in(decimals)?;
+    Some(value * SCALE[n])
 }
 
-// What a weight without its sign is: so many units, one off the grid or past the limit, or none.
-#[derive(Clone, Copy)]
-pub enum Magnitude {
-    Units(u32),
-    Off,
-    Unreadable,
-}
-
-// So many ones and millionths.
-fn on_grid(whole: u64, part: u64) -> Magnitude
-    requires { (whole ≤ 2 ^ 32) × (part < million) }
-    ensures { result ≡ magnitude_read (some (whole * million + part)) }
+// Digits, and perhaps a point and one to six digits: so many millionths, held where the ones are more than any weight has.
+fn millionths_in(field: &[u8]) -> Option<u64>
+    ensures { result ≡ millionths_held (magnitude_of field.now) }
 {
-    if part * UNITS % MILLION != 0 {
-        return Magnitude::Off;
-    }
-    let units = whole * UNITS + part * UNITS / MILLION;
-    if (WEIGHT_LIMIT as u64) < units {
-        return Magnitude::Off;
-    }
-    Magnitude::Units(units as u32)
+    let Some(p) = point_in(field) else {
+        let whole = digits_in(field)?;
+        return Some(whole * MILLION);
+    };
+    let whole = digits_in(&field[..p])?;
+    let part = part_in(&field[p + 1..])?;
+    let all = whole * MILLION + part;
+    Some(all.min(HELD * MILLION))
 }
 
-// Digits, and perhaps a point and one to six digits.
-fn magnitude_in(field: &[u8]) -> Magnitude
-    ensures { result ≡ magnitude_read (magnitude_of field.now) }
+// So many millionths in units: none off the grid or past the limit.
+fn units_in(millionths: u64) -> Option<u32>
+    requires { millionths ≤ most_millionths }
+    ensures { result ≡ units_read millionths }
 {
-    let p = point_in(field);
-    let Digits::Value(whole) = digits_in(&field[..p]) else {
-        return Magnitude::Unreadable;
-    };
-    if p == field.len() {
-        return on_grid(whole, 0);
+    let scaled = millionths * UNITS;
+    if scaled % MILLION != 0 {
+        return None;
     }
-    let from = p + 1;
-    let Digits::Value(part) = part_in(&field[from..]) else {
-        return Magnitude::Unreadable;
-    };
-    on_grid(whole, part)
+    let units = scaled / MILLION;
+    if u64::from(WEIGHT_LIMIT) < units {
+        return None;
+    }
+    Some(units as u32)
 }
 
-// A weight: a whole number of units within the limit, infinity, one off the grid or past the limit, or none.
-#[derive(Clone, Copy)]
+// A weight: a whole number of units within the limit, infinity, or one off the grid or past the limit.
+#[derive(Clone, Copy, Debug, PartialEq, Eq)]
 pub enum Weight {
     Units(i32),
     Barred,
     Off,
-    Unreadable,
 }
 
 // So many units, by their sign.
@@ -127,56 +93,45 @@ fn by_sign(minus: bool, units: u32) -> i32
     if minus { -(units as i32) } else { units as i32 }
 }
 
-fn signed(minus: bool, m: Magnitude) -> Weight
-    requires { units_in m ≤ weight_limit }
-    ensures { result ≡ signed_read minus m }
+// So many millionths, by their sign.
+fn weight_of(minus: bool, millionths: u64) -> Weight
+    requires { millionths ≤ most_millionths }
+    ensures { result ≡ weight_by minus (units_read millionths) }
 {
-    match m {
-        Magnitude::Units(units) => Weight::Units(by_sign(minus, units)),
-        Magnitude::Off => Weight::Off,
-        Magnitude::Unreadable => Weight::Unreadable,
+    match units_in(millionths) {
+        Some(units) => Weight::Units(by_sign(minus, units)),
+        None => Weight::Off,
     }
 }
 
 // The weight of a field that is not infinity.
-fn decimal_in(field: &[u8]) -> Weight
-    ensures { result ≡ decimal_read (decimal_of field.now) }
+fn decimal_in(field: &[u8]) -> Option<Weight>
+    ensures { result ≡ option_map decimal_read (decimal_of field.now) }
 {
-    if field.len() == 0 {
-        return Weight::Unreadable;
+    if field.first() == Some(&b'-') {
+        let millionths = millionths_in(&field[1..])?;
+        return Some(weight_of(true, millionths));
     }
-    if field[0] == b'-' {
-        return signed(true, magnitude_in(&field[1..]));
-    }
-    signed(false, magnitude_in(field))
+    let millionths = millionths_in(field)?;
+    Some(weight_of(false, millionths))
 }
 
 // How infinity is written.
-const INFINITY: [u8; 8] = [b'I', b'n', b'f', b'i', b'n', b'i', b't', b'y'];
+const INFINITY: [u8; 8] = *b"Infinity";
 
 // Whether a field is infinity.
 fn is_infinity(field: &[u8]) -> bool
     ensures { result ≡ same_text field.now infinity_text }
 {
-    if field.len() != INFINITY.len() {
-        return false;
-    }
-    let mut p = 0usize;
-    while p < INFINITY.len() {
-        if field[p] != INFINITY[p] {
-            return false;
-        }
-        p += 1;
-    }
-    true
+    field == INFINITY.as_slice()
 }
 
 // The weight of a field.
-pub fn weight_in(field: &[u8]) -> Weight
-    ensures { result ≡ weight_read (weight_of field.now) }
+pub fn weight_in(field: &[u8]) -> Option<Weight>
+    ensures { result ≡ option_map weight_read (weight_of field.now) }
 {
     if is_infinity(field) {
-        return Weight::Barred;
+        return Some(Weight::Barred);
     }
     decimal_in(field)
 }

@@ -2,6 +2,5 @@ pub mod Lengths
 pub mod Accepted
 pub mod Fronts
 pub mod Stored
-pub mod SheetWords
 pub mod Weights
 pub mod Measured

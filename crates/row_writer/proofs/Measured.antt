@@ -6,14 +6,11 @@ use Prim.Native.Nat.{ℕ, zero, suc, ◌+◌, ◌≤◌, ◌<◌}
 use native.Mathlib.Numerals.{add-one}
 use native.Mathlib.Omega.{arith}
 use lib.Dec.{eqb}
-use lib.ListN.{length, take, drop, length-append}
-use lib.Seq.{take_at}
+use lib.ListN.{length, length-append}
 use borrow.Author.Tests.{eq-eqb, ne_eqb}
 use Rattle.sheet.specs.Below.{sum_below, list_below}
 use Rattle.sheet.specs.Sheet.{Parts, node_count, count}
 use Rattle.sheet.proofs.Below.{sum_mono, sum_below-same, sum_below-add, sum_below-only, flat-snoc}
-use Rattle.decimals.specs.Stored.{Puts}
-use Rattle.decimals.proofs.Storing.{sets-front}
 use Rattle.text_rows.specs.Written.{link_row, final_row, first_of, node_rows, text_of}
 use Rattle.row_writer.specs.OtherRows.{other_rows}
 
@@ -46,12 +43,6 @@ module _ (f : ℕ → List ℕ) where
   pub next_fits : (i n : ℕ) → i < n → length (texts i) + length (f i) ≤ length (texts n)
   unfolding sum_below
   next_fits i n h = omega (arith, length-texts i, length-texts n, sum_mono (λ j. length (f j)) n (suc i) h)
-
--- ---- a text at the front of an area
-pub text-taken : {old text new : List ℕ} {end : ℕ} → Puts old 0 text new end → end ≤ length old → take end new ≡ text
-text-taken {old} {text} {new} {end} p h =
-    let size : length text ≡ end = omega (arith, p.ends) in
-    ap (take end) (p.stored ∙ sets-front old text (omega (arith, size, h))) ∙ take_at text (drop (length text) old) end size
 
 -- ---- of a sheet
 module _ (p : Parts) where

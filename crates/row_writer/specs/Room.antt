@@ -36,3 +36,7 @@ field_most = 1 + number_most
 -- a link: its source, three more numbers, a weight, and the end of the row
 abbrev pub row_most : ℕ
 row_most = number_most + 3 * field_most + weight_most + 1
+
+-- the area that a row is made in
+abbrev pub room : ℕ
+room = 64

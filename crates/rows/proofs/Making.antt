@@ -1,7 +1,7 @@
 -- The sheet that a text that is not refused leaves in an area: the promise of the call. Assumes nothing.
 use mathlib.Core.Path.{◌≡◌, refl, sym, ap, ◌∙◌}
 use mathlib.Core.Bool.{Bool, true, false, not, cond, true≢false}
-use mathlib.Core.Option.{Option, none, some}
+use Rattle.std.proofs.Common.{Option, None, Some}
 use mathlib.Core.List.{List, ◌++◌}
 use Prim.Native.Nat.{ℕ, ◌*◌, ◌^◌, ◌≤◌, ◌<◌}
 use native.Mathlib.Omega.{arith}
@@ -21,7 +21,8 @@ use Rattle.text_rows.specs.RowMachine.{machine_of_rows}
 use Rattle.text_rows.specs.Written.{has_rows}
 use Rattle.rows.specs.Answers.{sheet_answer, Made, NoText}
 use Rattle.row_reader.specs.Surveying.{survey_in}
-use Rattle.rows.specs.declared.converted.Converted.TheVariants.{Length}
+use Rattle.std.specs.Prelude.{Result, Ok}
+use Rattle.sheet.specs.declared.refusal.Refusal.{Refusal}
 use Rattle.row_reader.specs.declared.survey.Survey.{Survey}
 use Rattle.text_rows.proofs.Filled.{named}
 use Rattle.text_rows.proofs.Judged.{first-named, start_is, records-hold, length-is, verdict-is}
@@ -71,7 +72,7 @@ module _ (text : List ℕ) (s : Survey) (g : Passed text s) where
 
   -- where there is room
   pub made : (old new : List ℕ) → length_of rs ≤ length old → new ≡ sets old 0 (sheet_of_rows text)
-      → (Length (length_of rs) ≡ sheet_answer text (length old)) × ((new ≡ sheet_over text old) × ((size : ℕ) → Length (length_of rs) ≡ Length size → Made text size new))
+      → (Ok (length_of rs) ≡ sheet_answer text (length old)) × ((new ≡ sheet_over text old) × ((size : ℕ) → ◌≡◌ {A = Result ℕ Refusal} (Ok (length_of rs)) (Ok size) → Made text size new))
   made old new room left = (
     answer-long (length old) text s g room,
     (
@@ -87,7 +88,7 @@ module _ (text : List ℕ) (s : Survey) (g : Passed text s) where
       whole : sets old 0 (sheet_of_rows text) ≡ sheet_of_rows text ++ drop (length (sheet_of_rows text)) old
       whole = sets-front old (sheet_of_rows text) (omega (arith, sheet-length))
 
-      front : (size : ℕ) → Length (length_of rs) ≡ Length size → take size new ≡ sheet_of_rows text
+      front : (size : ℕ) → ◌≡◌ {A = Result ℕ Refusal} (Ok (length_of rs)) (Ok size) → take size new ≡ sheet_of_rows text
       front size e = ap (take size) (left ∙ whole) ∙ take_at (sheet_of_rows text) (drop (length (sheet_of_rows text)) old) size (cc sheet-length)
 
 -- ---- no text gives a sheet that has no rows
@@ -96,8 +97,8 @@ unfolding rows_number
 passed-zero text room e = go (read_rows text) refl e
   where
     go : (o : Option (List Row)) → read_rows text ≡ o → number_by o room ≡ 0 → (s : Survey) × Passed text s
-    go none q e = absurd (omega (arith, e))
-    go (some qs) q e = by (fields_hold qs) refl (weights_pass qs) refl e
+    go None q e = absurd (omega (arith, e))
+    go (Some qs) q e = by (fields_hold qs) refl (weights_pass qs) refl e
       where
         by : (b : Bool) → fields_hold qs ≡ b → (c : Bool) → weights_pass qs ≡ c → ◌≡◌ {A = ℕ} (cond (not b) 1 (cond (not c) 4 (cond (ltb room (length_of qs)) 21 0))) 0 → (s : Survey) × Passed text s
         by false x c y e = absurd (omega (arith, e))

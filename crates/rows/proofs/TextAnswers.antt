@@ -4,58 +4,29 @@ use mathlib.Core.Bool.{Bool, true, false, not, ◌&&◌, cond}
 use mathlib.Core.List.{List, ◌++◌}
 use Prim.Native.Nat.{ℕ, ◌≤◌, ◌<◌}
 use native.Mathlib.Omega.{arith}
-use lib.Dec.{T, ltb, eqb}
+use lib.Dec.{ltb, eqb}
 use lib.ListN.{length, take, drop}
-use lib.Seq.{sets}
+use lib.Seq.{sets, take_at}
 use borrow.Author.Tests.{eq-eqb, ne_eqb, lt-ltb, le-ltb, eqb-true}
-use Rattle.sheet.specs.declared.read.Tested.TheVariants as Tested
-use Rattle.sheet.specs.declared.tr.Trailer.{Trailer}
+use Rattle.std.specs.Prelude.{Result, Ok, Err}
+use Rattle.sheet.specs.declared.refusal.Refusal.{Refusal}
+use Rattle.sheet.specs.declared.refusal.Refusal.TheVariants as Refusal
+use Rattle.sheet.specs.Refusals.{number_of, number_in}
+use Rattle.sheet.proofs.Refusals.{number-positive, answer-ok, answer-none}
 use Rattle.sheet.specs.Sheet.{Parts, parts_of, read_number, verdict, sizes_fit, nodes_fit, start_fits, nexts_fit, weights_fit, node_count}
-use Rattle.sheet.specs.Records.{trailer_at}
-use Rattle.sheet.specs.Answers.{tested, tested_by}
 use Rattle.sheet.proofs.Round.{Below}
-use Rattle.rows.specs.declared.converted.Converted.{Converted}
-use Rattle.rows.specs.declared.converted.Converted.TheVariants.{Length, Refused}
 use Rattle.text_rows.specs.Convert.{rows_number, sheet_of_rows}
 use Rattle.text_rows.specs.Written.{has_rows, text_of, text_number, text_over}
-use Rattle.rows.specs.Answers.{converted_by, text_answer, text_measured, Returned, NoText}
-use Rattle.rows.proofs.Making.{no_text}
+use Rattle.rows.specs.Answers.{text_answer, Returned, NoText}
+use Rattle.rows.proofs.Making as Making
 use Rattle.decimals.proofs.Storing.{sets-front}
-use Rattle.row_writer.proofs.Measured.{text-taken}
-use Rattle.text_rows.proofs.Measuring.{in_room, text_in-room}
-use Rattle.text_rows.proofs.RowsBack.{written-number, sheet-back, text-number}
-
--- ---- answers told apart
-length-told : (m size n : ℕ) → converted_by (eqb m 0) size m ≡ Length n → (m ≡ 0) × (n ≡ size)
-length-told m size n e = go (eqb m 0) refl e
-  where
-    go : (b : Bool) → eqb m 0 ≡ b → converted_by b size m ≡ Length n → (m ≡ 0) × (n ≡ size)
-    go true q h = (eqb-true m 0 q, cc)
-    go false q h = let z : ◌≡◌ {A = ℕ} 0 1 = cc in absurd (omega arith)
-
-refused-told : (m size k : ℕ) → converted_by (eqb m 0) size m ≡ Refused k → (m ≡ k) × (k ≡ 0 → ⊥)
-refused-told m size k e = go (eqb m 0) refl e
-  where
-    go : (b : Bool) → eqb m 0 ≡ b → converted_by b size m ≡ Refused k → (m ≡ k) × (k ≡ 0 → ⊥)
-    go true q h = let z : ◌≡◌ {A = ℕ} 0 1 = cc in absurd (omega arith)
-    go false q h = let same : m ≡ k = cc in (same, λ z. absurd (subst T (sym (eq-eqb m 0 (same ∙ z)) ∙ q) tt))
-
-not-length : (k n : ℕ) → Refused k ≡ Length n → ⊥
-not-length k n e = let z : ◌≡◌ {A = ℕ} 0 1 = cc in omega arith
+use Rattle.text_rows.proofs.RowsBack.{sheet-back, text-number}
 
 module _ (bytes : List ℕ) where
   abbrev p : Parts
   p = parts_of bytes
 
-  -- ---- reading
-  pub accepted-told : (t : Trailer) → tested bytes ≡ Tested.Accepted t → (read_number bytes ≡ 0) × (t ≡ trailer_at bytes)
-  accepted-told t e = go (eqb (read_number bytes) 0) refl e
-    where
-      go : (b : Bool) → eqb (read_number bytes) 0 ≡ b → tested_by b bytes (read_number bytes) ≡ Tested.Accepted t → (read_number bytes ≡ 0) × (t ≡ trailer_at bytes)
-      go true q h = (eqb-true (read_number bytes) 0 q, cc)
-      go false q h = let z : ◌≡◌ {A = ℕ} 0 1 = cc in absurd (omega arith)
-
-  -- ---- measuring
+  -- ---- the number by the tests in their order
   module _ (room : ℕ) where
     number_read : (b : Bool) → eqb (read_number bytes) 0 ≡ b → text_number bytes room ≡ cond (not b) (read_number bytes) (cond (not (has_rows p)) 9 (cond (ltb room (length (text_of p))) 21 0))
     unfolding text_number
@@ -64,23 +35,19 @@ module _ (bytes : List ℕ) where
     number-has : read_number bytes ≡ 0 → (b : Bool) → has_rows p ≡ b → text_number bytes room ≡ cond (not b) 9 (cond (ltb room (length (text_of p))) 21 0)
     number-has e b h = number_read true (eq-eqb (read_number bytes) 0 e) ∙ ap (λ (c : Bool). cond (not c) 9 (cond (ltb room (length (text_of p))) 21 0)) h
 
-    answer-by : (m : ℕ) → text_number bytes room ≡ m → text_answer bytes room ≡ converted_by (eqb m 0) (length (text_of p)) m
-    answer-by m e = ap (λ (k : ℕ). converted_by (eqb k 0) (length (text_of p)) k) e
+    -- a sheet that is refused, and one that has no rows
+    pub number-refused : (r : Refusal) → number_of r ≡ read_number bytes → text_number bytes room ≡ number_of r
+    number-refused r e = number_read false (ne_eqb (read_number bytes) 0 (λ z. number-positive r (e ∙ z))) ∙ sym e
 
-  pub measured-refused : (k : ℕ) → tested bytes ≡ Tested.Refused k → Refused k ≡ text_measured bytes
-  measured-refused k e = go (eqb (read_number bytes) 0) refl e
-    where
-      go : (b : Bool) → eqb (read_number bytes) 0 ≡ b → tested_by b bytes (read_number bytes) ≡ Tested.Refused k → Refused k ≡ text_measured bytes
-      go true q h = let z : ◌≡◌ {A = ℕ} 0 1 = cc in absurd (omega arith)
-      go false q h =
-          let same : read_number bytes ≡ k = cc in
-          ap Refused (sym same) ∙ sym (answer-by (length (text_of p)) (read_number bytes) (number_read (length (text_of p)) false q) ∙ ap (λ (b : Bool). converted_by b (length (text_of p)) (read_number bytes)) q)
+    pub number-none : read_number bytes ≡ 0 → has_rows p ≡ false → text_number bytes room ≡ 9
+    number-none e h = number-has e false h
 
-  pub measured-none : read_number bytes ≡ 0 → has_rows p ≡ false → Refused 9 ≡ text_measured bytes
-  measured-none e h = sym (answer-by (length (text_of p)) 9 (number-has (length (text_of p)) e false h))
+    -- one whose text can be written, where there is room and where there is none
+    pub number-fits : read_number bytes ≡ 0 → has_rows p ≡ true → length (text_of p) ≤ room → text_number bytes room ≡ 0
+    number-fits e h enough = number-has e true h ∙ ap (λ (b : Bool). cond b 21 0) (le-ltb room (length (text_of p)) enough)
 
-  pub measured-text : read_number bytes ≡ 0 → has_rows p ≡ true → Length (length (text_of p)) ≡ text_measured bytes
-  measured-text e h = sym (answer-by (length (text_of p)) 0 (number-has (length (text_of p)) e true h ∙ ap (λ (b : Bool). cond b 21 0) (le-ltb (length (text_of p)) (length (text_of p)) (omega arith))))
+    number-short : read_number bytes ≡ 0 → has_rows p ≡ true → room < length (text_of p) → text_number bytes room ≡ 21
+    number-short e h short = number-has e true h ∙ ap (λ (b : Bool). cond b 21 0) (lt-ltb room (length (text_of p)) short)
 
   -- ---- 9 is said of sheets that have no rows, and of no others
   read-most : read_number bytes ≤ 4
@@ -103,56 +70,44 @@ module _ (bytes : List ℕ) where
       go true q true h true s = absurd (omega (arith, sym (number-has room (eqb-true (read_number bytes) 0 q) true h ∙ ap (λ (c : Bool). cond c 21 0) s) ∙ e))
       go true q true h false s = absurd (omega (arith, sym (number-has room (eqb-true (read_number bytes) 0 q) true h ∙ ap (λ (c : Bool). cond c 21 0) s) ∙ e))
 
-  -- ---- writing, by what measuring answered
-  pub passed : (n : ℕ) → text_measured bytes ≡ Length n → (read_number bytes ≡ 0) × (has_rows p ≡ true) × (n ≡ length (text_of p))
-  passed n e =
-      let told = length-told (text_number bytes (length (text_of p))) (length (text_of p)) n e in
-      let r = written-number bytes (length (text_of p)) told.0 in
-      (r.0, r.1, told.1)
-
+  -- ---- writing
   module _ (old : List ℕ) where
     -- what the call promises of its answer, and of the area that it leaves
-    abbrev pub Promise : Converted → List ℕ → Type 0
-    Promise r new = (r ≡ text_answer bytes (length old)) × ((new ≡ text_over bytes old) × (((size : ℕ) → r ≡ Length size → Returned bytes size new) × (r ≡ Refused 9 → NoText bytes)))
+    pub record Promise (r : Result ℕ Refusal) (new : List ℕ) : Type 0 where
+      pub value : r ≡ text_answer bytes (length old)
+      pub res_after : new ≡ text_over bytes old
+      pub by_index : (size : ℕ) → r ≡ Ok size → Returned bytes size new
+      pub no_text : r ≡ Err Refusal.NoRows → NoText bytes
 
-    refused-by : (k : ℕ) → text_number bytes (length old) ≡ k → (k ≡ 0 → ⊥) → Promise (Refused k) old
-    refused-by k e ne = (
-      sym (answer-by (length old) k e ∙ ap (λ (b : Bool). converted_by b (length (text_of p)) k) (ne_eqb k 0 ne)),
-      (
-        sym (ap (λ (b : Bool). cond b (text_of p ++ drop (length (text_of p)) old) old) (ap (λ (m : ℕ). eqb m 0) e ∙ ne_eqb k 0 ne)),
-        (λ size h. absurd (not-length k size h), λ h. no_text bytes (nine (length old) (let same : k ≡ 9 = cc in e ∙ same))),
-      ),
-    )
+    number-by : (r : Result ℕ Refusal) (x : Result ℕ Refusal) → r ≡ x → number_in r ≡ number_in x
+    number-by r x = ap (λ (a : Result ℕ Refusal). number_in a)
 
-    pub promise-refused : (k : ℕ) → text_measured bytes ≡ Refused k → Promise (Refused k) old
-    promise-refused k e =
-        let told = refused-told (text_number bytes (length (text_of p))) (length (text_of p)) k e in
-        refused-by k (text_in-room bytes (length old) ∙ ap (λ (m : ℕ). in_room m (length (text_of p)) (length old)) told.0 ∙ ap (λ (b : Bool). cond (not b) k (cond (ltb (length old) (length (text_of p))) 21 0)) (ne_eqb k 0 told.1)) told.1
+    pub promise-refused : (r : Refusal) → text_number bytes (length old) ≡ number_of r → Promise (Err r) old
+    promise-refused r e = record {
+      value = answer-none (length (text_of p)) (text_number bytes (length old)) r (sym e);
+      res_after = sym (ap (λ (b : Bool). cond b (text_of p ++ drop (length (text_of p)) old) old) (ne_eqb (text_number bytes (length old)) 0 (λ z. number-positive r (sym e ∙ z))));
+      by_index = λ size h. absurd (number-positive r (number-by (Err r) (Ok size) h));
+      no_text = λ h. Making.no_text bytes (nine (length old) (e ∙ number-by (Err r) (Err Refusal.NoRows) h));
+    }
 
     -- by the room for a text that can be written
-    module _ (n : ℕ) (told : text_measured bytes ≡ Length n) where
-      by-room : (b : Bool) → ltb (length old) (length (text_of p)) ≡ b → text_number bytes (length old) ≡ cond b 21 0
-      by-room b e = number-has (length old) (passed n told).0 true (passed n told).1 ∙ ap (λ (c : Bool). cond c 21 0) e
+    module _ (read : read_number bytes ≡ 0) (has : has_rows p ≡ true) where
+      pub promise-short : length old < length (text_of p) → Promise (Err Refusal.Room) old
+      promise-short h = promise-refused Refusal.Room (number-short (length old) read has h)
 
-      pub promise-short : length old < n → Promise (Refused 21) old
-      promise-short h = refused-by 21 (by-room true (lt-ltb (length old) (length (text_of p)) (omega (arith, h, (passed n told).2)))) (λ z. omega (arith, z))
-
-      pub promise-written : (new : List ℕ) → Below 256 bytes → n ≤ length old → new ≡ sets old 0 (text_of p) → Promise (Length n) new
+      pub promise-written : (new : List ℕ) → Below 256 bytes → length (text_of p) ≤ length old → new ≡ sets old 0 (text_of p) → Promise (Ok (length (text_of p))) new
       promise-written new below h left =
-          let size_is = (passed n told).2 in
-          let zero_number = by-room false (le-ltb (length old) (length (text_of p)) (omega (arith, h, size_is))) in (
-            ap Length size_is ∙ sym (answer-by (length old) 0 zero_number),
-            (
-              left ∙ sets-front old (text_of p) (omega (arith, h, size_is)) ∙ sym (ap (λ (m : ℕ). cond (eqb m 0) (text_of p ++ drop (length (text_of p)) old) old) zero_number),
-              (
-                λ size e. record {
-                  accepted = λ room r. ap (λ (text : List ℕ). rows_number text room) (front size e) ∙ text-number bytes below (passed n told).0 (passed n told).1 room ∙ ap (λ (b : Bool). cond b 21 0) (le-ltb room (length bytes) r);
-                  same = ap sheet_of_rows (front size e) ∙ sheet-back bytes below (passed n told).0 (passed n told).1;
-                },
-                λ e. absurd (not-length 9 n (sym e)),
-              ),
-            ),
-          )
+          let zero_number = number-fits (length old) read has h in record {
+            value = sym (answer-ok (length (text_of p)) (text_number bytes (length old)) zero_number);
+            res_after = left ∙ sets-front old (text_of p) h ∙ sym (ap (λ (m : ℕ). cond (eqb m 0) (text_of p ++ drop (length (text_of p)) old) old) zero_number);
+            by_index = λ size e. record {
+              accepted = λ room r. ap (λ (text : List ℕ). rows_number text room) (front size e) ∙ text-number bytes below read has room ∙ ap (λ (b : Bool). cond b 21 0) (le-ltb room (length bytes) r);
+              same = ap sheet_of_rows (front size e) ∙ sheet-back bytes below read has;
+            };
+            no_text = λ e. let z : ◌≡◌ {A = ℕ} 0 9 = number-by (Ok (length (text_of p))) (Err Refusal.NoRows) e in absurd (omega arith);
+          }
         where
-          front : (size : ℕ) → Length n ≡ Length size → take size new ≡ text_of p
-          front size e = let same : n ≡ size = cc in text-taken {end = size} (record { stored = left; ends = omega (arith, same, (passed n told).2) }) (omega (arith, h, same))
+          front : (size : ℕ) → ◌≡◌ {A = Result ℕ Refusal} (Ok (length (text_of p))) (Ok size) → take size new ≡ text_of p
+          front size e =
+              let same : length (text_of p) ≡ size = cc in
+              ap (take size) (left ∙ sets-front old (text_of p) h) ∙ take_at (text_of p) (drop (length (text_of p)) old) size same

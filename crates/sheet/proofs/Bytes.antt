@@ -1,12 +1,13 @@
 -- Fields and their bytes: written and read back, a word is itself; stores one after the other are one run of stores. Assumes nothing.
 use mathlib.Core.Path.{◌≡◌, refl, sym, ap, ◌∙◌}
 use mathlib.Core.List.{List, [], ◌∷◌, ◌++◌, append_assoc}
-use Prim.Native.Nat.{ℕ, suc, ◌+◌, ◌*◌, ◌<◌}
+use Prim.Native.Nat.{ℕ, suc, ◌+◌, ◌*◌, ◌≤◌, ◌<◌}
 use native.Mathlib.Nat.{add-zero}
 use native.Mathlib.Numerals.{add-one}
 use native.Mathlib.Omega.{arith}
-use lib.ListN.{length, take, get_or, set}
-use lib.Seq.{sets, take-suc, length-take-le}
+use lib.ListN.{length, take, drop, get_or, set}
+use lib.Seq.{sets, sets-eq, drop-drop, take-suc, length-take-le}
+use borrow.Rule.Slice.PartMut.{put_mid}
 use Rattle.sheet.specs.Words.{bytes_of, bytes_of_all}
 
 -- ---- a run of stores in two
@@ -39,3 +40,11 @@ sets_word l at ws i h =
     ∙ sym (sets-append l at (bytes_of_all front) (bytes_of (get_or ws i 0)))
     ∙ ap (λ (r : List ℕ). sets l at (bytes_of_all front ++ r)) (sym (bytes_of_all-one (get_or ws i 0)))
     ∙ ap (λ (r : List ℕ). sets l at r) (sym (bytes_of_all-append front (get_or ws i 0 ∷ [])) ∙ ap bytes_of_all (sym (ap (λ (k : ℕ). take k ws) (add-one i) ∙ take-suc ws i 0 h)))
+
+-- ---- bytes copied into a part of a slice are a run of stores
+pub put_mid-sets : (l xs : List ℕ) (at n : ℕ) → n ≡ length xs → at + length xs ≤ length l → put_mid at n l xs ≡ sets l at xs
+put_mid-sets l xs at n e h =
+    ap (λ (k : ℕ). take at l ++ (xs ++ drop k (drop at l))) e
+    ∙ ap (λ (r : List ℕ). take at l ++ (xs ++ r)) (drop-drop (length xs) at l)
+    ∙ sym (append_assoc (take at l) xs (drop (at + length xs) l))
+    ∙ sym (sets-eq xs l at h)

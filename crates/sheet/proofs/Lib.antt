@@ -1,4 +1,5 @@
 pub mod Below
+pub mod Refusals
 pub mod Apart
 pub mod Bytes
 pub mod Passes
@@ -8,4 +9,5 @@ pub mod Round
 pub mod Sources
 pub mod Encoding
 pub mod Reading
+pub mod AcceptedSheet
 pub mod Bench

@@ -1,13 +1,16 @@
 -- What the passes find is what the tests say, and the number that follows is the verdict. Assumes nothing.
 use mathlib.Core.Path.{◌≡◌, refl, sym, ap, ◌∙◌}
+use mathlib.Core.Logic.{inl}
 use mathlib.Core.Bool.{Bool, true, false, not, cond}
 use Prim.Native.Nat.{ℕ, ◌+◌, ◌*◌, ◌≤◌, ◌<◌}
 use native.Mathlib.Numerals.{add-one}
 use native.Mathlib.Omega.{arith}
 use Rattle.sheet.specs.declared.tests.NodeTests.{NodeTests}
 use Rattle.sheet.specs.declared.tests.LinkTests.{LinkTests}
+use Rattle.sheet.specs.declared.refusal.Refusal.TheVariants as Refusal
 use Rattle.sheet.specs.Below.{all_below, sum_below}
 use Rattle.sheet.specs.Tests.{with_node, with_link, node_tests, link_tests}
+use Rattle.sheet.proofs.Refusals.{Known, known, known-cond}
 
 -- ---- one record more, as a turn of the code's loop has it
 pub node-turn : (v : ℕ) (count mark bits : ℕ → ℕ) (t r : NodeTests) (x y z : ℕ)
@@ -51,3 +54,7 @@ module _ (A B C D : Bool) where
 
   pub first-none : A ≡ true → B ≡ true → C ≡ true → D ≡ true → 0 ≡ first_failing
   first-none a b c d = simp (a, b, c, d)
+
+pub first-known : (A B C D : Bool) → Known (first_failing A B C D)
+first-known A B C D =
+    known-cond (not A) 1 _ (known Refusal.Layout) (known-cond (not B) 2 _ (known Refusal.Start) (known-cond (not C) 3 _ (known Refusal.Next) (known-cond (not D) 4 _ (known Refusal.Weight) (inl refl))))

@@ -9,7 +9,7 @@ use lib.Dec.{T as Holds, leb, ltb, leb→le, ltb→lt}
 use lib.ListN.{length}
 use lib.Ieee.Fits.{and_l, and_r}
 use borrow.Author.Tests.{lt-ltb, le-ltb, lt-leb, le-leb, leb-true, leb-false}
-use Rattle.sheet.specs.declared.reader.Step.TheVariants as Step
+use Rattle.std.specs.Prelude.{Some, None}
 use Rattle.sheet.specs.Sheet.{read_number, stated_links, stated_nodes, trailer_length}
 use Rattle.sheet.specs.Records.{link_at}
 use Rattle.sheet.specs.Reading.{has_link, next_by, next_link, place_by, place_after, place_at}
@@ -58,10 +58,10 @@ module _ (bytes : List ℕ) (accepted : read_number bytes ≡ 0) where
       (λ i. le-leb trailer_length (length bytes) (omega (arith, sized)) i && ltb l T && le-leb (16 * T + trailer_length) (length bytes) (omega (arith, sized)) i)
       ∙ and-true (ltb l T)
 
-  pub gives-link : (l : ℕ) → l < T → next_link bytes l ≡ Step.Link (link_at bytes l)
+  pub gives-link : (l : ℕ) → l < T → next_link bytes l ≡ Some (link_at bytes l)
   gives-link l h = ap (λ (b : Bool). next_by b bytes l) (has-accepted l ∙ lt-ltb l T h)
 
-  pub gives-end : (l : ℕ) → T ≤ l → next_link bytes l ≡ Step.End
+  pub gives-end : (l : ℕ) → T ≤ l → next_link bytes l ≡ None
   gives-end l h = ap (λ (b : Bool). next_by b bytes l) (has-accepted l ∙ le-ltb l T h)
 
   -- the places of a reader: 0, 1, .., T, and T from then on
@@ -86,8 +86,8 @@ module _ (bytes : List ℕ) (accepted : read_number bytes ≡ 0) where
       by past false e = place-below (suc k) (leb-false T k e) ∙ let last : suc k ≡ T = omega (arith, h, leb-false T k e) in last
 
   -- so it gives each link once, in order, and then none
-  pub reads-link : (k : ℕ) → k < T → next_link bytes (place_at bytes k) ≡ Step.Link (link_at bytes k)
+  pub reads-link : (k : ℕ) → k < T → next_link bytes (place_at bytes k) ≡ Some (link_at bytes k)
   reads-link k h = ap (next_link bytes) (place-below k (omega (arith, h))) ∙ gives-link k h
 
-  pub reads_end : (k : ℕ) → T ≤ k → next_link bytes (place_at bytes k) ≡ Step.End
+  pub reads_end : (k : ℕ) → T ≤ k → next_link bytes (place_at bytes k) ≡ None
   reads_end k h = ap (next_link bytes) (place-past k h) ∙ gives-end T (omega arith)

@@ -12,7 +12,8 @@ use lib.ListN.{length, take, drop, get_or, length-append}
 use lib.Seq.{sets, sets-eq, take_at, drop-cons, drop-drop, take-add, drop_at, take-length, get_or-drop}
 use lib.Ieee.Fits.{and_l, and_r}
 use borrow.Author.Tests.{eq-eqb, eqb-true, le-leb, lt-ltb, le-ltb}
-use Rattle.sheet.specs.declared.write.Written.TheVariants.{Length}
+use Rattle.std.specs.Prelude.{Result, Ok}
+use Rattle.sheet.specs.declared.refusal.Refusal.{Refusal}
 use Rattle.sheet.specs.Words.{word, words, bytes_of, bytes_of_all}
 use Rattle.sheet.specs.Sheet.{Parts, link_count, node_count, records_fit, verdict, sheet_of, sheet_length, trailer_of, trailer_length, trailer_field, stated_links, stated_nodes, parts_of, sizes_fit, read_number, write_number}
 use Rattle.sheet.specs.Answers.{written, written_over, ReadBack}
@@ -171,7 +172,7 @@ module _ (p : Parts) (e : records_fit p ≡ true) (links-below : Below 429496729
 
   -- so that what writing leaves in an area is read back as the same machine
   pub stored_back : (old new : List ℕ) → sheet_length p ≤ length old → write_number p (length old) ≡ 0 → new ≡ sets old 0 (sheet_of p)
-      → (Length (sheet_length p) ≡ written p (length old)) × ((new ≡ written_over p old) × ((size : ℕ) → Length (sheet_length p) ≡ Length size → ReadBack p size new))
+      → (Ok (sheet_length p) ≡ written p (length old)) × ((new ≡ written_over p old) × ((size : ℕ) → ◌≡◌ {A = Result ℕ Refusal} (Ok (sheet_length p)) (Ok size) → ReadBack p size new))
   unfolding write_number
   stored_back old new room zero_number left =
       let answer = stored p old (length-sheet p e) room zero_number in (
@@ -179,7 +180,7 @@ module _ (p : Parts) (e : records_fit p ≡ true) (links-below : Below 429496729
         (left ∙ answer.1, λ size h. record { accepted = ap read_number (front size h) ∙ number-back ∙ passed; same = ap machine (front size h) ∙ machine-back }),
       )
     where
-      front : (size : ℕ) → Length (sheet_length p) ≡ Length size → take size new ≡ sheet_of p
+      front : (size : ℕ) → ◌≡◌ {A = Result ℕ Refusal} (Ok (sheet_length p)) (Ok size) → take size new ≡ sheet_of p
       front size h =
           ap (take size) (left ∙ sets-eq (sheet_of p) old 0 (omega (arith, length-sheet p e))) ∙ take_at (sheet_of p) (drop (0 + length (sheet_of p)) old) size (cc (length-sheet p e))
 

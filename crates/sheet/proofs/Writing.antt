@@ -9,15 +9,17 @@ use lib.Dec.{T, ltb, eqb, eqb→eq, ltb→lt}
 use lib.ListN.{length, drop, length-append}
 use lib.Seq.{sets, sets-eq}
 use lib.Ieee.Fits.{and_l, and_r}
-use borrow.Author.Tests.{ne_eqb}
-use Rattle.sheet.specs.declared.write.Written.TheVariants.{Length, Refused}
+use Rattle.std.specs.Prelude.{Result, Ok, Err}
+use Rattle.sheet.specs.declared.refusal.Refusal.{Refusal}
 use Rattle.sheet.specs.declared.tests.NodeTests.{NodeTests}
 use Rattle.sheet.specs.declared.tests.LinkTests.{LinkTests}
 use Rattle.sheet.specs.Words.{bytes_of_all}
 use Rattle.sheet.specs.Sheet.{Parts, link_count, node_count, count, mark, final_bits, link_bits, next, records_fit, verdict, write_number, sheet_of, sheet_length, trailer_of}
 use Rattle.sheet.specs.Tests.{node_tests, link_tests, judged}
-use Rattle.sheet.specs.Answers.{written, written_by, written_over, ReadBack}
+use Rattle.sheet.specs.Refusals.{number_of}
+use Rattle.sheet.specs.Answers.{written, written_over, ReadBack}
 use Rattle.sheet.proofs.Apart.{not-zero}
+use Rattle.sheet.proofs.Refusals.{answer-ok, answer-err, number-positive}
 use Rattle.sheet.proofs.Bytes.{sets-append, bytes_of_all-append, length-bytes_of_all}
 use Rattle.sheet.proofs.Fields.{Fields, verdict-judged}
 
@@ -75,17 +77,17 @@ module _ (p : Parts) where
       ∙ ap (λ (x : ℕ). cond (not (eqb x 0)) x (cond (ltb room (sheet_length p)) 21 0)) (verdict-judged p (link_count p) (node_count p) (count p) (mark p) (final_bits p) (link_bits p) (next p) own-fields ∙ sym (number ∙ λ i. judged (nodes i) (links i) (link_count p) (node_count p) p.start))
 
   -- ---- the answer, by the number
-  pub refused : (old : List ℕ) (k : ℕ) → (k ≡ 0 → ⊥) → write_number p (length old) ≡ k
-      → (Refused k ≡ written p (length old)) × ((old ≡ written_over p old) × ((size : ℕ) → Refused k ≡ Length size → ReadBack p size old))
-  refused old k n e = (
-    sym (ap (λ (x : ℕ). written_by (eqb x 0) p x) e ∙ ap (λ (b : Bool). written_by b p k) (ne_eqb k 0 n)),
-    (sym (not-zero (write_number p (length old)) _ old (λ z. n (sym e ∙ z))), λ size z. let no : ◌≡◌ {A = ℕ} 0 1 = cc in absurd (omega arith)),
+  pub refused : (old : List ℕ) (r : Refusal) → write_number p (length old) ≡ number_of r
+      → (Err r ≡ written p (length old)) × ((old ≡ written_over p old) × ((size : ℕ) → ◌≡◌ {A = Result ℕ Refusal} (Err r) (Ok size) → ReadBack p size old))
+  refused old r e = (
+    sym (answer-err (sheet_length p) (write_number p (length old)) r e),
+    (sym (not-zero (write_number p (length old)) _ old (λ z. number-positive r (sym e ∙ z))), λ size z. let no : ◌≡◌ {A = ℕ} 0 1 = cc in absurd (omega arith)),
   )
 
   pub stored : (old : List ℕ) → length (sheet_of p) ≡ sheet_length p → sheet_length p ≤ length old → write_number p (length old) ≡ 0
-      → (Length (sheet_length p) ≡ written p (length old)) × (sets old 0 (sheet_of p) ≡ written_over p old)
+      → (Ok (sheet_length p) ≡ written p (length old)) × (sets old 0 (sheet_of p) ≡ written_over p old)
   stored old s l e = (
-    sym (ap (λ (x : ℕ). written_by (eqb x 0) p x) e),
+    sym (answer-ok (sheet_length p) (write_number p (length old)) e),
     sets-eq (sheet_of p) old 0 (omega arith) ∙ ap (λ (x : ℕ). sheet_of p ++ drop x old) (zero-add (length (sheet_of p)) ∙ s)
         ∙ sym (ap (λ (x : ℕ). cond (eqb x 0) (sheet_of p ++ drop (sheet_length p) old) old) e),
   )

@@ -1,32 +1,23 @@
 -- What the calls answer, by document 01's numbers and values. Definitions only.
-use Rattle.std.specs.Prelude.{◌≡◌, ℕ, Bool, true, false, cond, List, ◌++◌, eqb, length, take, drop}
-use Rattle.sheet.specs.declared.read.Tested.{Tested}
-use Rattle.sheet.specs.declared.read.Tested.TheVariants.{Accepted, Refused}
-use Rattle.sheet.specs.declared.write.Written.{Written}
+use Rattle.std.specs.Prelude.{◌≡◌, ℕ, cond, List, ◌++◌, eqb, length, take, drop, Result}
+use Rattle.sheet.specs.declared.refusal.Refusal.{Refusal}
+use Rattle.sheet.specs.declared.tr.Trailer.{Trailer}
+use Rattle.sheet.specs.Refusals.{answer}
 use Rattle.sheet.specs.Sheet.{Parts, read_number, write_number, sheet_of, sheet_length}
 use Rattle.sheet.specs.Machine.{machine_of, machine}
 use Rattle.sheet.specs.Records.{trailer_at}
 
--- by the number of a refusal, or 0
-abbrev pub tested_by : Bool → List ℕ → ℕ → Tested
-tested_by true bytes k = Accepted (trailer_at bytes)
-tested_by false bytes k = Refused k
-
--- reading a byte string
-abbrev pub tested : List ℕ → Tested
-tested bytes = tested_by (eqb (read_number bytes) 0) bytes (read_number bytes)
+-- reading a byte string: the trailer, or the refusal of the number
+abbrev pub tested : List ℕ → Result Trailer Refusal
+tested bytes = answer (trailer_at bytes) (read_number bytes)
 
 -- the lists and the start that a sheet is written from
 abbrev pub parts : List ℕ → List ℕ → ℕ → Parts
 parts links nodes start = record { links = links; nodes = nodes; start = start }
 
-abbrev pub written_by : Bool → Parts → ℕ → Written
-written_by true p k = Written.Length (sheet_length p)
-written_by false p k = Written.Refused k
-
--- writing them to an area of so many bytes
-abbrev pub written : Parts → ℕ → Written
-written p room = written_by (eqb (write_number p room) 0) p (write_number p room)
+-- writing them to an area of so many bytes: how many are written, or the refusal of the number
+abbrev pub written : Parts → ℕ → Result ℕ Refusal
+written p room = answer (sheet_length p) (write_number p room)
 
 -- the area after that: the sheet and then the bytes that were there, or just those where it is refused
 abbrev pub written_over : Parts → List ℕ → List ℕ

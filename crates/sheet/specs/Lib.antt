@@ -1,4 +1,5 @@
 pub mod Below
+pub mod Refusals
 pub mod Words
 pub mod Sheet
 pub mod Machine
@@ -6,3 +7,5 @@ pub mod Records
 pub mod Tests
 pub mod Answers
 pub mod Reading
+pub mod Readers
+pub mod Accepted

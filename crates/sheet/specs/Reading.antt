@@ -1,7 +1,7 @@
 -- What a link reader gives: the links that the trailer states, by their numbers, and then none. Definitions only.
-use Rattle.std.specs.Prelude.{ℕ, zero, suc, ◌+◌, ◌*◌, Bool, true, false, ◌&&◌, List, leb, ltb, length}
+use Rattle.std.specs.Prelude.{ℕ, zero, suc, ◌+◌, ◌*◌, Bool, true, false, ◌&&◌, List, leb, ltb, length, Option, Some, None}
 use Rattle.sheet.specs.declared.reader.Reader.{Reader}
-use Rattle.sheet.specs.declared.reader.Step.{Step}
+use Rattle.sheet.specs.declared.tr.Link.{Link}
 use Rattle.sheet.specs.Sheet.{stated_links, trailer_length}
 use Rattle.sheet.specs.Records.{link_at}
 
@@ -10,12 +10,12 @@ abbrev pub has_link : List ℕ → ℕ → Bool
 has_link bytes l = leb trailer_length (length bytes) && ltb l (stated_links bytes) && leb (16 * stated_links bytes + trailer_length) (length bytes)
 
 -- by whether there is a link l
-abbrev pub next_by : Bool → List ℕ → ℕ → Step
-next_by true bytes l = Step.Link (link_at bytes l)
-next_by false bytes l = Step.End
+abbrev pub next_by : Bool → List ℕ → ℕ → Option Link
+next_by true bytes l = Some (link_at bytes l)
+next_by false bytes l = None
 
 -- link l, or the end
-abbrev pub next_link : List ℕ → ℕ → Step
+abbrev pub next_link : List ℕ → ℕ → Option Link
 next_link bytes l = next_by (has_link bytes l) bytes l
 
 -- by whether there is a link l

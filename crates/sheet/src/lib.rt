@@ -2,6 +2,8 @@
 // that points back; every field is 32-bit and little-endian.
 #![tactic(auto)]
 
+pub mod accepted;
+pub mod field;
 pub mod read;
 pub mod reader;
 pub mod refusal;

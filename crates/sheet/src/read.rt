@@ -2,16 +2,10 @@
 ghost use Rattle.std.specs.Prelude.{◌≡◌, ◌&&◌, ◌+◌, ◌*◌, eqb};
 ghost use Rattle.sheet.specs.Answers.{tested};
 
-use crate::refusal;
+use crate::field::Bytes;
+use crate::refusal::Refusal;
 use crate::tests::{judge, test_links, test_nodes};
 use crate::tr::{TRAILER, Trailer, trailer_of};
-
-// What reading answers: the trailer of an accepted sheet, or the number of the refusal.
-#[derive(Clone, Copy)]
-pub enum Tested {
-    Accepted(Trailer),
-    Refused(u32),
-}
 
 // Offsets and length as laid out.
 fn sizes_fit(t: Trailer, bytes: usize) -> bool
@@ -29,24 +23,26 @@ fn sizes_fit(t: Trailer, bytes: usize) -> bool
 }
 
 // Tests a byte string as a sheet.
-pub fn read(sheet: &[u8]) -> Tested
+pub fn read(sheet: &[u8]) -> Result<Trailer, Refusal>
     ensures { result ≡ tested sheet.now }
 {
     if sheet.len() < TRAILER {
-        return Tested::Refused(refusal::LAYOUT);
+        return Err(Refusal::Layout);
     }
     let t = trailer_of(sheet);
     if !sizes_fit(t, sheet.len()) {
-        return Tested::Refused(refusal::LAYOUT);
+        return Err(Refusal::Layout);
     }
-    let links = t.links;
-    let nodes = t.nodes;
-    let n = test_nodes(sheet, 16 * (links as usize), nodes);
-    let l = test_links(sheet, links, nodes);
-    let number = judge(n, l, links, nodes, t.start);
-    if number == 0 {
-        Tested::Accepted(t)
-    } else {
-        Tested::Refused(number)
-    }
+    let node_fields = Bytes {
+        bytes: sheet,
+        at: 16 * (t.links as usize),
+    };
+    let link_fields = Bytes {
+        bytes: sheet,
+        at: 0,
+    };
+    let n = test_nodes(&node_fields, t.nodes);
+    let l = test_links(&link_fields, t.links, t.nodes);
+    judge(n, l, t.links, t.nodes, t.start)?;
+    Ok(t)
 }

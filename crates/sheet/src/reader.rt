@@ -1,23 +1,8 @@
-// A link reader: it borrows a sheet, and goes through the sheet's links one by one. The functions
-// over it are thin: each takes it apart and calls one on the bytes and the number.
+// A link reader: it borrows a sheet, accepted or not, and gives the sheet's links one by one.
 ghost use Rattle.std.specs.Prelude.{◌≡◌};
-ghost use Rattle.sheet.specs.Reading.{has_link, next_link, place_after, read_on};
+ghost use Rattle.sheet.specs.Reading.{has_link, next_link, place_after};
 
 use crate::tr::{Link, TRAILER, link_at, trailer_of};
-
-// A link reader: it borrows a sheet and remembers the number of the next link.
-#[derive(Clone, Copy)]
-pub struct Reader<'a> {
-    pub sheet: &'a [u8],
-    pub next: usize,
-}
-
-// What it answers: a link, or that none is left.
-#[derive(Clone, Copy)]
-pub enum Step {
-    Link(Link),
-    End,
-}
 
 // Whether there is a link l: the trailer states it, and the links that it states lie before the
 // trailer.
@@ -37,13 +22,13 @@ fn has_link(sheet: &[u8], l: usize) -> bool
 
 // Link number l of a sheet, or none past the last; on a byte string that is too short for the links
 // that it states there is none.
-pub fn link_or_end(sheet: &[u8], l: usize) -> Step
+pub fn link_or_end(sheet: &[u8], l: usize) -> Option<Link>
     ensures { result ≡ next_link sheet.now l }
 {
     if has_link(sheet, l) {
-        Step::Link(link_at(sheet, l))
+        Some(link_at(sheet, l))
     } else {
-        Step::End
+        None
     }
 }
 
@@ -54,26 +39,35 @@ pub fn place_after(sheet: &[u8], l: usize) -> usize
     if has_link(sheet, l) { l + 1 } else { l }
 }
 
-// A reader at the first link.
-pub fn new<'a>(sheet: &'a [u8]) -> Reader<'a>
-    ensures { (result.sheet ≡ sheet.entry) × (result.next ≡ 0) }
-{
-    Reader { sheet, next: 0 }
+// It remembers the number of the next link.
+#[derive(Clone, Copy)]
+pub struct Reader<'a> {
+    pub sheet: &'a [u8],
+    pub next: usize,
 }
 
-// The next link, or none.
-pub fn next<'a>(r: Reader<'a>) -> Step
-    ensures { result ≡ next_link r.entry.sheet.now r.entry.next }
-{
-    link_or_end(r.sheet, r.next)
+impl<'a> Reader<'a> {
+    // A reader at the first link.
+    pub fn new(sheet: &'a [u8]) -> Reader<'a>
+        ensures { (result.sheet ≡ sheet.entry) × (result.next ≡ 0) }
+    {
+        Reader { sheet, next: 0 }
+    }
 }
 
-// The reader past its next link: it borrows the same sheet.
-pub fn after<'a>(r: Reader<'a>) -> Reader<'a>
-    ensures { result ≡ read_on r.entry }
-{
-    Reader {
-        sheet: r.sheet,
-        next: place_after(r.sheet, r.next),
+impl<'a> Iterator for Reader<'a> {
+    ghost use Rattle.std.specs.Iterator.{at_most};
+    ghost use Rattle.sheet.specs.Readers.{Gives, links_left};
+
+    type Item = Link;
+
+    ghost next_gives = { Gives };
+
+    ghost remaining = { λ r. at_most (links_left r) };
+
+    fn next(&mut self) -> Option<Link> {
+        let link = link_or_end(self.sheet, self.next);
+        self.next = place_after(self.sheet, self.next);
+        link
     }
 }

@@ -1,38 +1,58 @@
-// The numbers of the refusals, each with its condition.
+// The refusals, each with its condition; documents 01 and 02 give the numbers.
+ghost use Rattle.std.specs.Prelude.{◌≡◌};
 
-// Length, offsets, a count or offset too big for its field, marks, an absent final's weight field or
-// the sum of link counts is not as laid out.
-pub const LAYOUT: u32 = 1;
+use std::error::Error;
+use std::fmt;
 
-// The start is neither below N nor none.
-pub const START: u32 = 2;
+#[derive(Clone, Copy, Debug, PartialEq, Eq)]
+pub enum Refusal {
+    // Length, offsets, a count or offset too big for its field, marks, an absent final's weight field
+    // or the sum of link counts is not as laid out.
+    Layout = 1,
+    // The start is neither below N nor none.
+    Start = 2,
+    // A next node is not below N.
+    Next = 3,
+    // A weight is neither on the grid nor barred.
+    Weight = 4,
+    // More nodes or links than the limits.
+    Limits = 5,
+    // A link does not lead to a higher node.
+    Climb = 6,
+    // More readings are asked for than the limit.
+    Count = 7,
+    // A text has no rows, has a row that cannot be read, or has a second final row for a node.
+    Rows = 8,
+    // A sheet has no rows.
+    NoRows = 9,
+    // The work area is shorter than needed.
+    Work = 20,
+    // The result area is shorter than this very answer.
+    Room = 21,
+    // A queue's record is not valid, or a node is put in that is too high for it.
+    Queue = 22,
+    // An area holds no answer.
+    NoAnswer = 30,
+    // The answer has no such node, link or reading.
+    Absent = 31,
+}
 
-// A next node is not below N.
-pub const NEXT: u32 = 3;
+impl From<Refusal> for u32 {
+    ghost use Rattle.sheet.specs.Refusals.{number_of};
 
-// A weight is neither on the grid nor barred.
-pub const WEIGHT: u32 = 4;
+    ghost from_gives = { λ r k. k ≡ number_of r };
 
-// More nodes or links than the limits.
-pub const LIMITS: u32 = 5;
+    fn from(refusal: Refusal) -> u32
+        ensures { result ≡ number_of refusal }
+    {
+        refusal as u32
+    }
+}
 
-// A link does not lead to a higher node.
-pub const CLIMB: u32 = 6;
+impl fmt::Display for Refusal {
+    fn fmt<W: fmt::Write>(&self, f: &mut fmt::Formatter<W>) -> fmt::Result {
+        write!(f, "refused {}", *self as u32)
+    }
+}
 
-// More readings are asked for than the limit.
-pub const COUNT: u32 = 7;
-
-// A text has no rows, has a row that cannot be read, or has a second final row for a node.
-pub const ROWS: u32 = 8;
-
-// A sheet has no rows.
-pub const NO_ROWS: u32 = 9;
-
-// The work area is shorter than needed.
-pub const WORK: u32 = 20;
-
-// The result area is shorter than this very answer.
-pub const RESULT: u32 = 21;
-
-// A queue's record is not valid, or a node is put in that is too high for it.
-pub const QUEUE: u32 = 22;
+impl Error for Refusal {}

@@ -1,16 +1,14 @@
 // Tests 1 to 4 record by record. The reader runs them over bytes, the writer over words, each in one
-// pass over the nodes and one over the links. A pass makes the table of shifts, 256 bytes, once, and
-// lends it.
-ghost use Rattle.std.specs.Prelude.{◌≡◌, ◌&&◌, ◌||◌, ◌+◌, ◌*◌, ◌^◌, ◌≤◌, ◌<◌, eqb, length, get_or};
-ghost use Rattle.tropical_weight.specs.Limits.{unit};
-ghost use Rattle.tropical_weight.specs.Grid.{ShiftTable};
-ghost use Rattle.sheet.specs.Words.{word as word_at};
+// pass over the nodes and one over the links. A pass makes the table of shifts, 256 bytes, once.
+ghost use Rattle.std.specs.Prelude.{◌≡◌, ◌||◌, ◌+◌, ◌*◌, ◌^◌, ◌≤◌, ◌<◌, eqb};
+ghost use Rattle.sheet.specs.Refusals.{answer};
 ghost use Rattle.sheet.specs.Sheet.{well_marked, start_fits, weight_fits};
 ghost use Rattle.sheet.specs.Tests.{with_node, with_link, node_tests, link_tests, judged};
 
-use crate::refusal;
-use crate::tr::BARRED;
-use crate::words::word;
+use crate::field::Fields;
+use crate::refusal::Refusal;
+use crate::tr::{BARRED, NO_START};
+use tropical_weight::shifts::GridShifts;
 
 // What the nodes so far pass: the marks and the weights of absent finals (test 1), the links that
 // they count (test 1), and the final weights (test 4).
@@ -28,12 +26,6 @@ pub struct LinkTests {
     pub weights: bool,
 }
 
-fn both(a: bool, b: bool) -> bool
-    ensures { result ≡ a && b }
-{
-    if a { b } else { false }
-}
-
 fn well_marked(mark: u32, bits: u32) -> bool
     ensures { result ≡ well_marked mark bits }
 {
@@ -41,18 +33,16 @@ fn well_marked(mark: u32, bits: u32) -> bool
 }
 
 // Whether a weight's field bars, or is on the grid.
-fn weight_fits(shifts: &[u8; 256], bits: u32) -> bool
-    requires { ShiftTable unit shifts.now }
+fn weight_fits(shifts: &GridShifts, bits: u32) -> bool
     ensures { result ≡ weight_fits bits }
 {
     if bits == BARRED {
         return true;
     }
-    tropical_weight::on_grid_by(shifts, bits)
+    shifts.on_grid(bits)
 }
 
-fn final_fits(shifts: &[u8; 256], mark: u32, bits: u32) -> bool
-    requires { ShiftTable unit shifts.now }
+fn final_fits(shifts: &GridShifts, mark: u32, bits: u32) -> bool
     ensures { result ≡ eqb mark 0 || weight_fits bits }
 {
     if mark == 0 {
@@ -67,138 +57,93 @@ fn start_fits(start: u32, nodes: u32) -> bool
     if start < nodes {
         return true;
     }
-    start == 0xffff_ffff
+    start == NO_START
 }
 
-// One node more, by the table of shifts that the pass has made.
-fn with_node(shifts: &[u8; 256], t: NodeTests, count: u32, mark: u32, bits: u32) -> NodeTests
-    requires shift_table { ShiftTable unit shifts.now }
-    requires count_bound { t.links + count < 2 ^ 64 }
+// One node more.
+fn with_node(shifts: &GridShifts, t: NodeTests, count: u32, mark: u32, bits: u32) -> NodeTests
+    requires { t.links + count < 2 ^ 64 }
     ensures { result ≡ with_node t count mark bits }
 {
     NodeTests {
-        marked: both(t.marked, well_marked(mark, bits)),
+        marked: t.marked && well_marked(mark, bits),
         links: t.links + (count as u64),
-        weights: both(t.weights, final_fits(shifts, mark, bits)),
+        weights: t.weights && final_fits(shifts, mark, bits),
     }
 }
 
-// One link more, by the table of shifts that the pass has made.
-fn with_link(shifts: &[u8; 256], t: LinkTests, bits: u32, next: u32, nodes: u32) -> LinkTests
-    requires { ShiftTable unit shifts.now }
+// One link more.
+fn with_link(shifts: &GridShifts, t: LinkTests, bits: u32, next: u32, nodes: u32) -> LinkTests
     ensures { result ≡ with_link t bits next nodes }
 {
     LinkTests {
-        nexts: both(t.nexts, next < nodes),
-        weights: both(t.weights, weight_fits(shifts, bits)),
+        nexts: t.nexts && next < nodes,
+        weights: t.weights && weight_fits(shifts, bits),
     }
 }
 
-// The nodes of a sheet, whose fields begin at an offset.
-pub fn test_nodes(sheet: &[u8], at: usize, nodes: u32) -> NodeTests
-    requires { at + 12 * nodes ≤ length sheet.now }
-    ensures { result ≡ node_tests nodes (λ v. word_at sheet.now (at + 12 * v)) (λ v. word_at sheet.now (at + 12 * v + 4)) (λ v. word_at sheet.now (at + 12 * v + 8)) }
+// The nodes, three fields a node.
+pub fn test_nodes<F: Fields>(fields: &F, nodes: u32) -> NodeTests
+    requires { 3 * nodes ≤ F.count fields.now }
+    ensures { result ≡ node_tests nodes (λ v. F.value fields.now (3 * v)) (λ v. F.value fields.now (3 * v + 1)) (λ v. F.value fields.now (3 * v + 2)) }
 {
-    let shifts = tropical_weight::grid_shifts();
+    let shifts = GridShifts::new();
     let mut t = NodeTests {
         marked: true,
         links: 0,
         weights: true,
     };
-    let mut v = 0u32;
-    while v < nodes {
-        let from = at + 12 * (v as usize);
+    for v in 0..nodes {
+        let from = 3 * (v as usize);
         t = with_node(
             &shifts,
             t,
-            word(sheet, from),
-            word(sheet, from + 4),
-            word(sheet, from + 8),
+            fields.field(from),
+            fields.field(from + 1),
+            fields.field(from + 2),
         );
-        v += 1;
     }
     t
 }
 
-// The links of a sheet.
-pub fn test_links(sheet: &[u8], links: u32, nodes: u32) -> LinkTests
-    requires { 16 * links ≤ length sheet.now }
-    ensures { result ≡ link_tests links nodes (λ l. word_at sheet.now (16 * l + 8)) (λ l. word_at sheet.now (16 * l + 12)) }
+// The links, four fields a link.
+pub fn test_links<F: Fields>(fields: &F, links: u32, nodes: u32) -> LinkTests
+    requires { 4 * links ≤ F.count fields.now }
+    ensures { result ≡ link_tests links nodes (λ l. F.value fields.now (4 * l + 2)) (λ l. F.value fields.now (4 * l + 3)) }
 {
-    let shifts = tropical_weight::grid_shifts();
+    let shifts = GridShifts::new();
     let mut t = LinkTests {
         nexts: true,
         weights: true,
     };
-    let mut l = 0u32;
-    while l < links {
-        let from = 16 * (l as usize);
+    for l in 0..links {
+        let from = 4 * (l as usize);
         t = with_link(
             &shifts,
             t,
-            word(sheet, from + 8),
-            word(sheet, from + 12),
+            fields.field(from + 2),
+            fields.field(from + 3),
             nodes,
         );
-        l += 1;
     }
     t
 }
 
-// The same of nodes given as words, three a node.
-pub fn test_node_words(words: &[u32], nodes: u32) -> NodeTests
-    requires { 3 * nodes ≤ length words.now }
-    ensures { result ≡ node_tests nodes (λ v. get_or words.now (3 * v) 0) (λ v. get_or words.now (3 * v + 1) 0) (λ v. get_or words.now (3 * v + 2) 0) }
+// The first of tests 1 to 4 that fails, where length and offsets are as laid out.
+pub fn judge(n: NodeTests, l: LinkTests, links: u32, nodes: u32, start: u32) -> Result<(), Refusal>
+    ensures { result ≡ answer tt (judged n l links nodes start) }
 {
-    let shifts = tropical_weight::grid_shifts();
-    let mut t = NodeTests {
-        marked: true,
-        links: 0,
-        weights: true,
-    };
-    let mut v = 0u32;
-    while v < nodes {
-        let from = 3 * (v as usize);
-        t = with_node(&shifts, t, words[from], words[from + 1], words[from + 2]);
-        v += 1;
-    }
-    t
-}
-
-// The same of links given as words, four a link.
-pub fn test_link_words(words: &[u32], links: u32, nodes: u32) -> LinkTests
-    requires { 4 * links ≤ length words.now }
-    ensures { result ≡ link_tests links nodes (λ l. get_or words.now (4 * l + 2) 0) (λ l. get_or words.now (4 * l + 3) 0) }
-{
-    let shifts = tropical_weight::grid_shifts();
-    let mut t = LinkTests {
-        nexts: true,
-        weights: true,
-    };
-    let mut l = 0u32;
-    while l < links {
-        let from = 4 * (l as usize);
-        t = with_link(&shifts, t, words[from + 2], words[from + 3], nodes);
-        l += 1;
-    }
-    t
-}
-
-// The first number of 1 to 4 whose test fails, or 0, where length and offsets are as laid out.
-pub fn judge(n: NodeTests, l: LinkTests, links: u32, nodes: u32, start: u32) -> u32
-    ensures { result ≡ judged n l links nodes start }
-{
-    if !both(n.marked, n.links == (links as u64)) {
-        return refusal::LAYOUT;
+    if !(n.marked && n.links == (links as u64)) {
+        return Err(Refusal::Layout);
     }
     if !start_fits(start, nodes) {
-        return refusal::START;
+        return Err(Refusal::Start);
     }
     if !l.nexts {
-        return refusal::NEXT;
+        return Err(Refusal::Next);
     }
-    if !both(l.weights, n.weights) {
-        return refusal::WEIGHT;
+    if !(l.weights && n.weights) {
+        return Err(Refusal::Weight);
     }
-    0
+    Ok(())
 }

@@ -34,6 +34,9 @@ pub struct Trailer {
 // The bits of positive infinity, the weight of what is barred.
 pub const BARRED: u32 = 0x7f80_0000;
 
+// The start's field where there is none.
+pub const NO_START: u32 = 0xffff_ffff;
+
 // The bytes of a trailer.
 pub const TRAILER: usize = 20;
 

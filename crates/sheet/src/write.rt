@@ -1,21 +1,14 @@
 // Writing a sheet from lists of links and nodes in its own fields.
-ghost use Rattle.std.specs.Prelude.{◌≡◌, ◌&&◌, ℕ, ◌+◌, ◌*◌, ◌/◌, ◌%◌, ◌^◌, ◌≤◌, ◌<◌, eqb, ltb, length};
+ghost use Rattle.std.specs.Prelude.{◌≡◌, ◌&&◌, ℕ, ◌+◌, ◌*◌, ◌/◌, ◌%◌, ◌^◌, ◌≤◌, ◌<◌, eqb, ltb, length, Ok};
 ghost use Rattle.std.proofs.lemmas.List.Edits.{sets};
 ghost use Rattle.sheet.specs.Sheet.{sheet_of};
-ghost use Rattle.sheet.specs.declared.write.Written.TheVariants.{Length};
 ghost use Rattle.sheet.specs.Answers.{parts, written, written_over, ReadBack};
 
-use crate::refusal;
-use crate::tests::{judge, test_link_words, test_node_words};
+use crate::field::Words;
+use crate::refusal::Refusal;
+use crate::tests::{judge, test_links, test_nodes};
 use crate::tr::TRAILER;
 use crate::words::put_words;
-
-// What writing answers: the bytes written, or the number of the refusal.
-#[derive(Clone, Copy)]
-pub enum Written {
-    Length(usize),
-    Refused(u32),
-}
 
 // Whole records, and counts and offsets that their fields hold.
 fn records_fit(links: usize, nodes: usize) -> bool
@@ -48,30 +41,23 @@ fn put_sheet(res: &mut [u8], links: &[u32], nodes: &[u32], start: u32)
 }
 
 // Tests the lists, four words a link and three a node, and writes their sheet to the result area.
-pub fn write(links: &[u32], nodes: &[u32], start: u32, res: &mut [u8]) -> Written
+pub fn write(links: &[u32], nodes: &[u32], start: u32, res: &mut [u8]) -> Result<usize, Refusal>
     ensures value { result ≡ written (parts links.now nodes.now start) (length res.old) }
     ensures res_after { res.new ≡ written_over (parts links.now nodes.now start) res.old }
-    ensures by_index { (size : ℕ) → result ≡ Length size → ReadBack (parts links.now nodes.now start) size res.new }
+    ensures by_index { (size : ℕ) → result ≡ Ok size → ReadBack (parts links.now nodes.now start) size res.new }
 {
     if !records_fit(links.len(), nodes.len()) {
-        return Written::Refused(refusal::LAYOUT);
+        return Err(Refusal::Layout);
     }
     let t = (links.len() / 4) as u32;
     let n = (nodes.len() / 3) as u32;
-    let number = judge(
-        test_node_words(nodes, n),
-        test_link_words(links, t, n),
-        t,
-        n,
-        start,
-    );
-    if number != 0 {
-        return Written::Refused(number);
-    }
+    let node_tests = test_nodes(&Words { words: nodes }, n);
+    let link_tests = test_links(&Words { words: links }, t, n);
+    judge(node_tests, link_tests, t, n, start)?;
     let size = 16 * (t as usize) + 12 * (n as usize) + TRAILER;
     if res.len() < size {
-        return Written::Refused(refusal::RESULT);
+        return Err(Refusal::Room);
     }
     put_sheet(res, links, nodes, start);
-    Written::Length(size)
+    Ok(size)
 }

@@ -8,26 +8,25 @@ use Rattle.sheet.specs.Sheet.{read_number}
 use Rattle.sheet.specs.Machine.{machine_of}
 use Rattle.sheet.specs.Reading.{next_link}
 use Rattle.sheet.specs.Records.{link_at, node_at}
-use Rattle.sheet.specs.declared.reader.Step.TheVariants as Step
 use Rattle.sheet.proofs.Bench.{sheet_a}
 use Rattle.machine.specs.Readings.{marked}
-use Rattle.sheet_fields.specs.declared.counts.SheetCounts.TheVariants.{Told, Refused}
-use Rattle.sheet_fields.specs.declared.nodes.NodeStep.TheVariants as NodeStep
+use Rattle.std.specs.Prelude.{Some, None, Ok, Err}
+use Rattle.sheet.specs.declared.refusal.Refusal.TheVariants.{Layout}
 use Rattle.sheet_fields.specs.Counts.{counts_of}
 use Rattle.sheet_fields.specs.Nodes.{next_node}
 use Rattle.sheet_fields.specs.Fields.{link_words, node_words}
 
 -- four nodes, five links, one final node, from node 0 on; without its last byte the sheet is refused
-counts-A : (counts_of sheet_a ≡ Told 4 5 1 0) × (counts_of (take 147 sheet_a) ≡ Refused 1)
+counts-A : (counts_of sheet_a ≡ Ok (record { nodes = 4; links = 5; finals = 1; start = 0 })) × (counts_of (take 147 sheet_a) ≡ Err Layout)
 unfolding sheet_a read_number machine_of marked
 counts-A = (refl, refl)
 
 -- node 0 has two links and no mark, node 3 no link, the mark and the bits of 0.5; there is no node 4
-nodes-A : (node_words (node_at sheet_a 5 0) ≡ 2 ∷ 0 ∷ 0 ∷ []) × (node_words (node_at sheet_a 5 3) ≡ 0 ∷ 1 ∷ 0x3f00_0000 ∷ []) × (next_node sheet_a 3 ≡ NodeStep.Node (node_at sheet_a 5 3)) × (next_node sheet_a 4 ≡ NodeStep.End)
+nodes-A : (node_words (node_at sheet_a 5 0) ≡ 2 ∷ 0 ∷ 0 ∷ []) × (node_words (node_at sheet_a 5 3) ≡ 0 ∷ 1 ∷ 0x3f00_0000 ∷ []) × (next_node sheet_a 3 ≡ Some (node_at sheet_a 5 3)) × (next_node sheet_a 4 ≡ None)
 unfolding sheet_a word of_bits to_bits
 nodes-A = (refl, refl, refl, refl)
 
 -- link 4 has the labels 4 and 4, the bits of 0.75 and the next node 3; there is no link 5
-links-A : (link_words (link_at sheet_a 4) ≡ 4 ∷ 4 ∷ 0x3f40_0000 ∷ 3 ∷ []) × (next_link sheet_a 4 ≡ Step.Link (link_at sheet_a 4)) × (next_link sheet_a 5 ≡ Step.End)
+links-A : (link_words (link_at sheet_a 4) ≡ 4 ∷ 4 ∷ 0x3f40_0000 ∷ 3 ∷ []) × (next_link sheet_a 4 ≡ Some (link_at sheet_a 4)) × (next_link sheet_a 5 ≡ None)
 unfolding sheet_a word of_bits to_bits
 links-A = (refl, refl, refl)

@@ -6,22 +6,24 @@ use mathlib.Core.List.{List}
 use Prim.Native.Nat.{ℕ}
 use lib.Dec.{eqb}
 use lib.ListN.{length}
-use borrow.Author.Tests.{eqb-true, eq-eqb, ne_eqb}
-use Rattle.sheet.specs.declared.read.Tested.TheVariants as Tested
+use borrow.Author.Tests.{eqb-true}
+use Rattle.std.specs.Prelude.{Ok, Err}
+use Rattle.sheet.specs.declared.accepted.Sheet.{Sheet}
 use Rattle.sheet.specs.declared.tr.Trailer.{Trailer}
+use Rattle.sheet.specs.declared.refusal.Refusal.{Refusal}
+use Rattle.sheet.specs.Refusals.{number_of}
 use Rattle.sheet.specs.Below.{list_below}
 use Rattle.sheet.specs.Records.{mark_at, final_at}
 use Rattle.sheet.specs.Sheet.{no_start, mark, final_bits, parts_of, read_number, stated_links, stated_nodes, trailer_field}
 use Rattle.sheet.specs.Machine.{machine_of, machine, final_of, start_field}
-use Rattle.sheet.specs.Answers.{tested}
+use Rattle.sheet.proofs.Refusals.{answer-ok, answer-none}
 use Rattle.sheet.proofs.Below.{list_below-same}
 use Rattle.sheet.proofs.Fields.{read-fields}
 use Rattle.sheet.proofs.Sources.{machine-links, machine-nodes}
 use Rattle.machine.specs.Readings.{marked}
 use Rattle.machine.specs.Finals.{finals_at, final_count}
-use Rattle.machine.proofs.Testing.{accepted-number, refused-number}
-use Rattle.sheet_fields.specs.declared.counts.SheetCounts.TheVariants.{Told, Refused}
-use Rattle.sheet_fields.specs.Counts.{counts_by, counts_of}
+use Rattle.sheet_fields.specs.declared.counts.SheetCounts.{SheetCounts}
+use Rattle.sheet_fields.specs.Counts.{counts_in, counts_of}
 
 -- ---- the machine of a sheet, by what the trailer states
 module _ (bytes : List ℕ) where
@@ -49,18 +51,16 @@ module _ (bytes : List ℕ) where
       go true q = eqb-true (trailer_field bytes 4) no_start q
       go false q = refl
 
-  -- ---- the answer
-  pub counts-refused : (k : ℕ) → tested bytes ≡ Tested.Refused k → Refused k ≡ counts_of bytes
-  counts-refused k e =
-      let r = refused-number bytes (read_number bytes) k e in
-      ap Refused (sym r.0) ∙ sym (ap (λ (b : Bool). counts_by b bytes (read_number bytes)) (ne_eqb (read_number bytes) 0 (λ z. r.1 (sym r.0 ∙ z))))
+-- ---- the answer
+pub counts-refused : (bytes : List ℕ) (r : Refusal) → number_of r ≡ read_number bytes → Err r ≡ counts_of bytes
+counts-refused bytes r e = answer-none (counts_in (machine bytes)) (read_number bytes) r e
 
-  pub counts-told : (t : Trailer) → tested bytes ≡ Tested.Accepted t → (finals : ℕ) → finals ≡ final_count bytes t.links t.nodes → Told t.nodes t.links finals t.start ≡ counts_of bytes
-  counts-told t e finals f =
-      let a = accepted-number bytes (read_number bytes) t e in
-      let same = a.1 in
-      let nodes : t.nodes ≡ length (machine bytes).finals = ap (λ (t : Trailer). t.nodes) same ∙ sym nodes-stated in
-      let links : t.links ≡ length (machine bytes).links = ap (λ (t : Trailer). t.links) same ∙ sym links-stated in
-      let marks : finals ≡ marked (machine bytes).finals = f ∙ ap (λ (t : Trailer). final_count bytes t.links t.nodes) same ∙ ap marked finals-stated in
-      let start : t.start ≡ start_field (machine bytes).start = ap (λ (t : Trailer). t.start) same ∙ start-stated in
-      (λ i. Told (nodes i) (links i) (marks i) (start i)) ∙ sym (ap (λ (b : Bool). counts_by b bytes (read_number bytes)) (eq-eqb (read_number bytes) 0 a.0))
+pub counts-told : (s : Sheet) (finals : ℕ) → finals ≡ final_count s.bytes.now s.links s.nodes → Ok (record { nodes = s.nodes; links = s.links; finals = finals; start = s.start }) ≡ counts_of s.bytes.now
+counts-told s finals f =
+    let bytes = s.bytes.now in
+    let nodes : s.nodes ≡ length (machine bytes).finals = ap (λ (t : Trailer). t.nodes) s.stated ∙ sym (nodes-stated bytes) in
+    let links : s.links ≡ length (machine bytes).links = ap (λ (t : Trailer). t.links) s.stated ∙ sym (links-stated bytes) in
+    let marks : finals ≡ marked (machine bytes).finals = f ∙ ap (λ (t : Trailer). final_count bytes t.links t.nodes) s.stated ∙ ap marked (finals-stated bytes) in
+    let start : s.start ≡ start_field (machine bytes).start = ap (λ (t : Trailer). t.start) s.stated ∙ start-stated bytes in
+    let made : SheetCounts = counts_in (machine bytes) in
+    (λ i. Ok (record { nodes = nodes i; links = links i; finals = marks i; start = start i })) ∙ sym (answer-ok made (read_number bytes) s.accepted)

@@ -1,14 +1,14 @@
 -- What is told of a link or a node by its number; of a sheet that passes tests 1 to 4, the fields of its machine, and past the last none. Assumes nothing.
 use mathlib.Core.Path.{◌≡◌, refl, sym, ap, ◌∙◌, subst}
 use mathlib.Core.Logic.{◌⊎◌, inl, inr}
-use mathlib.Core.Bool.{Bool, true, false, ◌&&◌, ◌||◌}
+use mathlib.Core.Bool.{Bool, true, ◌&&◌, ◌||◌}
 use mathlib.Core.List.{List, [], ◌∷◌}
 use Prim.Native.Nat.{ℕ, ◌+◌, ◌*◌, ◌≤◌, ◌<◌}
 use native.Mathlib.Omega.{arith}
-use lib.Dec.{leb, ltb, eqb}
+use lib.Dec.{leb, eqb}
 use lib.ListN.{length, get_or}
 use lib.Ieee.{binary32, of_bits, to_bits}
-use borrow.Author.Tests.{lt-ltb, le-ltb, lt-leb, le-leb, eqb-true, ne_eqb}
+use borrow.Author.Tests.{lt-ltb, le-ltb, le-leb, eqb-true, ne_eqb}
 use Rattle.sheet.specs.Below.{all_below, sum_below}
 use Rattle.sheet.specs.Words.{word}
 use Rattle.sheet.specs.Records.{link_at, node_at, count_at, mark_at, final_at}
@@ -22,32 +22,11 @@ use Rattle.sheet.proofs.Reading.{gives-link, gives-end}
 use Rattle.sheet.proofs.Sources.{machine-link, machine-final}
 use Rattle.machine.specs.Readings.{link, final, no_link}
 use Rattle.machine.proofs.Accepted.{verdict-passes, weight-value}
-use Rattle.sheet_fields.specs.declared.nodes.NodeStep.TheVariants as NodeStep
+use Rattle.std.specs.Prelude.{Some, None}
 use Rattle.sheet_fields.specs.Nodes.{node_by, next_node}
 use Rattle.sheet_fields.specs.Fields.{link_words, node_words, fields_of_node, LinkOf, NodeOf}
 use Rattle.sheet_fields.proofs.Counting.{nodes-stated, links-stated}
 use Rattle.sheet_fields.proofs.Leaving.{leaving-is}
-
--- ---- a node by the tests in their order
-module _ (bytes : List ℕ) (v : ℕ) where
-  abbrev sized : Bool
-  sized = leb (16 * stated_links bytes + 12 * stated_nodes bytes + trailer_length) (length bytes)
-
-  pub node-short : length bytes < trailer_length → NodeStep.End ≡ next_node bytes v
-  node-short h = sym (ap (λ (b : Bool). node_by (b && ltb v (stated_nodes bytes) && sized) bytes v) (lt-leb trailer_length (length bytes) h))
-
-  pub node-past : trailer_length ≤ length bytes → stated_nodes bytes ≤ v → NodeStep.End ≡ next_node bytes v
-  node-past h k = sym (λ i. node_by (le-leb trailer_length (length bytes) h i && le-ltb v (stated_nodes bytes) k i && sized) bytes v)
-
-  module _ (h : trailer_length ≤ length bytes) (k : v < stated_nodes bytes) where
-    by_size : (b : Bool) → sized ≡ b → node_by b bytes v ≡ next_node bytes v
-    by_size b e = sym (λ i. node_by (le-leb trailer_length (length bytes) h i && lt-ltb v (stated_nodes bytes) k i && e i) bytes v)
-
-    pub node-unfit : length bytes < 16 * stated_links bytes + 12 * stated_nodes bytes + trailer_length → NodeStep.End ≡ next_node bytes v
-    node-unfit s = by_size false (lt-leb (16 * stated_links bytes + 12 * stated_nodes bytes + trailer_length) (length bytes) s)
-
-    pub node-there : 16 * stated_links bytes + 12 * stated_nodes bytes + trailer_length ≤ length bytes → NodeStep.Node (node_at bytes (stated_links bytes) v) ≡ next_node bytes v
-    node-there s = by_size true (le-leb (16 * stated_links bytes + 12 * stated_nodes bytes + trailer_length) (length bytes) s)
 
 -- ---- a sheet that passes tests 1 to 4
 module _ (bytes : List ℕ) (read : read_number bytes ≡ 0) where
@@ -145,8 +124,18 @@ module _ (bytes : List ℕ) (read : read_number bytes ≡ 0) where
       let is : final m v ≡ final_of (mark_at bytes T v) (final_at bytes T v) = machine-final p v (in-nodes v h) ∙ λ i. final_of (f.mark-is v h i) (f.final-is v h i) in
       λ i. links i ∷ (final-words (mark_at bytes T v) (final_at bytes T v) (well-marked v h) (final-grid v h) ∙ sym (ap final_fields is)) i
 
-  length-is : length bytes ≡ 16 * T + 12 * N + trailer_length
+  pub length-is : length bytes ≡ 16 * T + 12 * N + trailer_length
   length-is = length-read bytes (read_fits bytes read)
+
+  -- a node by the tests in their order
+  abbrev sized : Bool
+  sized = leb (16 * T + 12 * N + trailer_length) (length bytes)
+
+  node-past : (v : ℕ) → trailer_length ≤ length bytes → N ≤ v → None ≡ next_node bytes v
+  node-past v h k = sym (λ i. node_by (le-leb trailer_length (length bytes) h i && le-ltb v N k i && sized) bytes v)
+
+  node-there : (v : ℕ) → trailer_length ≤ length bytes → v < N → 16 * T + 12 * N + trailer_length ≤ length bytes → Some (node_at bytes T v) ≡ next_node bytes v
+  node-there v h k s = sym (λ i. node_by (le-leb trailer_length (length bytes) h i && lt-ltb v N k i && le-leb (16 * T + 12 * N + trailer_length) (length bytes) s i) bytes v)
 
   pub node-told : (v : ℕ) → NodeOf m v (next_node bytes v)
   node-told v = go (split_at v N)
@@ -155,5 +144,5 @@ module _ (bytes : List ℕ) (read : read_number bytes ≡ 0) where
       long = omega (arith, length-is)
 
       go : (v < N) ⊎ (N ≤ v) → NodeOf m v (next_node bytes v)
-      go (inl h) = subst (NodeOf m v) (node-there bytes v long h (omega (arith, length-is))) (subst (λ (n : ℕ). v < n) (sym (nodes-stated bytes)) h, node-fields v h)
-      go (inr h) = subst (NodeOf m v) (node-past bytes v long h) (subst (λ (n : ℕ). n ≤ v) (sym (nodes-stated bytes)) h)
+      go (inl h) = subst (NodeOf m v) (node-there v long h (omega (arith, length-is))) (subst (λ (n : ℕ). v < n) (sym (nodes-stated bytes)) h, node-fields v h)
+      go (inr h) = subst (NodeOf m v) (node-past v long h) (subst (λ (n : ℕ). n ≤ v) (sym (nodes-stated bytes)) h)

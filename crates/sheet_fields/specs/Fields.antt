@@ -1,13 +1,11 @@
 -- What is told of a link or a node of a sheet that passes tests 1 to 4: the fields of its machine's link or node of that number. Definitions only.
-use Rattle.std.specs.Prelude.{◌≡◌, List, [], ◌∷◌, ℕ, ◌≤◌, ◌<◌, length}
+use Rattle.std.specs.Prelude.{◌≡◌, List, [], ◌∷◌, ℕ, ◌≤◌, ◌<◌, length, Option, Some, None}
 use Rattle.std.specs.Float.{binary32}
 use Rattle.std.specs.Float.Ieee.{to_bits}
 use Rattle.sheet.specs.declared.tr.Link.{Link}
 use Rattle.sheet.specs.declared.tr.Node.{Node}
-use Rattle.sheet.specs.declared.reader.Step.{Step}
 use Rattle.sheet.specs.Machine.{Machine, link_fields, leaving, final_fields}
 use Rattle.machine.specs.Readings.{link, final}
-use Rattle.sheet_fields.specs.declared.nodes.NodeStep.{NodeStep}
 
 -- the fields of a link that was read: labels, weight bits, next node
 abbrev pub link_words : Link → List ℕ
@@ -22,11 +20,11 @@ abbrev pub fields_of_node : Machine → ℕ → List ℕ
 fields_of_node m v = leaving m.links v ∷ final_fields (final m v)
 
 -- link l of a machine, and the end from T on
-abbrev pub LinkOf : Machine → ℕ → Step → Type 0
-LinkOf m l (Step.Link k) = (l < length m.links) × (link_words k ≡ link_fields (link m l))
-LinkOf m l Step.End = length m.links ≤ l
+abbrev pub LinkOf : Machine → ℕ → Option Link → Type 0
+LinkOf m l (Some k) = (l < length m.links) × (link_words k ≡ link_fields (link m l))
+LinkOf m l None = length m.links ≤ l
 
 -- node v of a machine, and the end from N on
-abbrev pub NodeOf : Machine → ℕ → NodeStep → Type 0
-NodeOf m v (NodeStep.Node n) = (v < length m.finals) × (node_words n ≡ fields_of_node m v)
-NodeOf m v NodeStep.End = length m.finals ≤ v
+abbrev pub NodeOf : Machine → ℕ → Option Node → Type 0
+NodeOf m v (Some n) = (v < length m.finals) × (node_words n ≡ fields_of_node m v)
+NodeOf m v None = length m.finals ≤ v

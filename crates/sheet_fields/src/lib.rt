@@ -4,4 +4,3 @@
 
 pub mod counts;
 pub mod nodes;
-pub mod refusal;

@@ -7,30 +7,23 @@ ghost use Rattle.sheet_fields.specs.Fields.{NodeOf};
 
 use sheet::tr::{Node, TRAILER, node_at, trailer_of};
 
-// A node, or that none has the number.
-#[derive(Clone, Copy)]
-pub enum NodeStep {
-    Node(Node),
-    End,
-}
-
 // Node number v of a sheet, or none past the last; on a byte string that is too short for the links and
 // nodes that it states there is none.
-pub fn node_or_end(sheet: &[u8], v: usize) -> NodeStep
+pub fn node_or_end(sheet: &[u8], v: usize) -> Option<Node>
     ensures value { result ≡ next_node sheet.now v }
     ensures node_of { read_number sheet.now ≡ 0 → NodeOf (machine_for sheet.now) v result }
 {
     if sheet.len() < TRAILER {
-        return NodeStep::End;
+        return None;
     }
     let t = trailer_of(sheet);
     let links = t.links as usize;
     let nodes = t.nodes as usize;
     if nodes <= v {
-        return NodeStep::End;
+        return None;
     }
     if sheet.len() < 16 * links + 12 * nodes + TRAILER {
-        return NodeStep::End;
+        return None;
     }
-    NodeStep::Node(node_at(sheet, links, v))
+    Some(node_at(sheet, links, v))
 }

@@ -14,10 +14,9 @@ use Rattle.sheet.specs.Words.{bytes_of_all}
 use Rattle.sheet.proofs.Bytes.{sets-append, bytes_of_all-append, length-bytes_of_all}
 use Rattle.sheet.specs.Records.{count_at}
 use Rattle.machine.specs.Distance as Named
-use Rattle.distance.specs.declared.Distance.TheVariants.{Unreached}
+use Rattle.std.specs.Prelude.{None}
 use Rattle.distance.specs.Held.{reached_in, words_in, with_distance}
 use Rattle.distance.proofs.Words.{same-words, put_back, put_word, put-drop, put-length}
-use Rattle.shortest_distance.specs.declared.parent.Parent.TheVariants.{None}
 use Rattle.shortest_distance.specs.ParentWords.{parent_at, parent_stored}
 use Rattle.shortest_distance.specs.NodeSlots.{distance_at, first_word, prepared, height_in, distance_words}
 use Rattle.shortest_distance.proofs.ParentWords.{same-parent, stored-word, stored-length, stored-drop, stored-distance, none-back}
@@ -30,7 +29,7 @@ length-prepared bytes links (suc v) work = simp length-set (length-prepared byte
 
 -- one slot more
 pub prepared-next : (bytes : List ℕ) (links v : ℕ) (work : List ℕ)
-    → prepared bytes links (v + 1) work ≡ set (parent_stored (with_distance (prepared bytes links v work) (8 * v) Unreached) v None) (8 * v + 4) (sum_below v (count_at bytes links))
+    → prepared bytes links (v + 1) work ≡ set (parent_stored (with_distance (prepared bytes links v work) (8 * v) None) v None) (8 * v + 4) (sum_below v (count_at bytes links))
 unfolding prepared
 prepared-next bytes links v work = ap (λ (k : ℕ). prepared bytes links k work) (add-one v)
 
@@ -40,13 +39,13 @@ prepared-other : (bytes : List ℕ) (links v : ℕ) (work : List ℕ) (i : ℕ) 
 unfolding prepared
 prepared-other bytes links v work i h =
     let p = prepared bytes links v work in
-    get_or-set_other (parent_stored (with_distance p (8 * v) Unreached) v None) (8 * v + 4) i (sum_below v (count_at bytes links)) 0 (λ e. omega arith)
-    ∙ stored-word (with_distance p (8 * v) Unreached) v None i (λ e. omega arith) (λ e. omega arith)
-    ∙ put_word p (8 * v) Unreached i (λ e. omega arith) (λ e. omega arith)
+    get_or-set_other (parent_stored (with_distance p (8 * v) None) v None) (8 * v + 4) i (sum_below v (count_at bytes links)) 0 (λ e. omega arith)
+    ∙ stored-word (with_distance p (8 * v) None) v None i (λ e. omega arith) (λ e. omega arith)
+    ∙ put_word p (8 * v) None i (λ e. omega arith) (λ e. omega arith)
 
 -- slot v is set up
 abbrev SetUp : List ℕ → ℕ → List ℕ → ℕ → Type 0
-SetUp bytes links work v = (distance_at work v ≡ Unreached) × (parent_at work v ≡ None) × (first_word work v ≡ sum_below v (count_at bytes links))
+SetUp bytes links work v = (distance_at work v ≡ None) × (parent_at work v ≡ None) × (first_word work v ≡ sum_below v (count_at bytes links))
 
 pub prepared-words : (bytes : List ℕ) (links n : ℕ) (work : List ℕ) (v : ℕ) → v < n → 8 * n ≤ length work → SetUp bytes links (prepared bytes links n work) v
 unfolding prepared
@@ -57,7 +56,7 @@ prepared-words bytes links (suc n) work v h fits = go (eq-or-lt_of_le (let k : v
     p = prepared bytes links n work
 
     put : List ℕ
-    put = with_distance p (8 * n) Unreached
+    put = with_distance p (8 * n) None
 
     named : List ℕ
     named = parent_stored put n None
@@ -74,8 +73,8 @@ prepared-words bytes links (suc n) work v h fits = go (eq-or-lt_of_le (let k : v
           ∙ stored-distance put n None n
           ∙ put_back p (8 * n) Named.unreached (omega (arith, length-prepared bytes links n work)),
       same-parent (set named (8 * n + 4) first) named n (beside (8 * n + 2) (omega arith)) (beside (8 * n + 3) (omega arith))
-          ∙ none-back put n (omega (arith, put-length p (8 * n) Unreached, length-prepared bytes links n work)),
-      get_or-set_same named (8 * n + 4) first 0 (omega (arith, stored-length put n None, put-length p (8 * n) Unreached, length-prepared bytes links n work)),
+          ∙ none-back put n (omega (arith, put-length p (8 * n) None, length-prepared bytes links n work)),
+      get_or-set_same named (8 * n + 4) first 0 (omega (arith, stored-length put n None, put-length p (8 * n) None, length-prepared bytes links n work)),
     )
     go (inr l) r = (
       same-words (prepared bytes links (suc n) work) p (8 * v) (8 * v) (prepared-other bytes links n work (8 * v) (omega arith)) (prepared-other bytes links n work (8 * v + 1) (omega arith)) ∙ (r l).0,
@@ -89,9 +88,9 @@ unfolding prepared
 beyond bytes links zero work k h = refl
 beyond bytes links (suc v) work k h =
     let p = prepared bytes links v work in
-    drop-set-lt k (parent_stored (with_distance p (8 * v) Unreached) v None) (8 * v + 4) (sum_below v (count_at bytes links)) (omega arith)
-    ∙ stored-drop (with_distance p (8 * v) Unreached) v None k (omega arith)
-    ∙ put-drop p (8 * v) Unreached k (omega arith)
+    drop-set-lt k (parent_stored (with_distance p (8 * v) None) v None) (8 * v + 4) (sum_below v (count_at bytes links)) (omega arith)
+    ∙ stored-drop (with_distance p (8 * v) None) v None k (omega arith)
+    ∙ put-drop p (8 * v) None k (omega arith)
     ∙ beyond bytes links v work k (omega arith)
 
 pub prepared-beyond : (bytes : List ℕ) (links n : ℕ) (work : List ℕ) → drop (8 * n) (prepared bytes links n work) ≡ drop (8 * n) work

@@ -7,7 +7,8 @@ use Rattle.tropical_weight.specs.Grid.{of_k}
 use Rattle.sheet.specs.Words.{bytes_of_all}
 use Rattle.sheet.specs.Machine.{machine_of}
 use Rattle.sheet.proofs.Bench.{sheet_a}
-use Rattle.shortest_distance.specs.declared.Distances.TheVariants.{Count, Refused}
+use Rattle.std.specs.Prelude.{Ok, Err}
+use Rattle.sheet.specs.declared.refusal.Refusal.TheVariants as Refusal
 use Rattle.shortest_distance.specs.Outcome.{answer_of, distance_number, distance_answer}
 
 -- reached at 0, 1, 0.5 and 1.25
@@ -16,7 +17,7 @@ unfolding sheet_a machine_of distance_number of_k round to_bits bytes_of_all
 values-A = refl
 
 -- four slots and 32 bytes are enough; of two short areas 20 tells
-areas-A : (distance_answer sheet_a 32 32 ≡ Count 4) × (distance_answer sheet_a 31 32 ≡ Refused 20) × (distance_answer sheet_a 32 31 ≡ Refused 21) × (distance_answer sheet_a 31 31 ≡ Refused 20)
+areas-A : (distance_answer sheet_a 32 32 ≡ Ok 4) × (distance_answer sheet_a 31 32 ≡ Err Refusal.Work) × (distance_answer sheet_a 32 31 ≡ Err Refusal.Room) × (distance_answer sheet_a 31 31 ≡ Err Refusal.Work)
 unfolding sheet_a machine_of distance_number of_k round to_bits bytes_of_all
 areas-A = (refl, refl, refl, refl)
 
@@ -26,7 +27,7 @@ unfolding bytes_of_all
 lone = bytes_of_all (0 ∷ 0 ∷ 0 ∷ 0 ∷ 0 ∷ 0 ∷ 0 ∷ 0 ∷ 0 ∷ 0 ∷ 0 ∷ 3 ∷ 0 ∷ 2 ∷ [])
 
 -- it is reached at 0, and the two below it are unreached, which is not the same
-values-lone : (answer_of lone ≡ bytes_of_all (0 ∷ 0 ∷ 0 ∷ 0 ∷ 1 ∷ 0 ∷ [])) × (distance_answer lone 24 24 ≡ Count 3) × (distance_answer lone 24 23 ≡ Refused 21)
+values-lone : (answer_of lone ≡ bytes_of_all (0 ∷ 0 ∷ 0 ∷ 0 ∷ 1 ∷ 0 ∷ [])) × (distance_answer lone 24 24 ≡ Ok 3) × (distance_answer lone 24 23 ≡ Err Refusal.Room)
 unfolding lone machine_of distance_number of_k round to_bits bytes_of_all
 values-lone = (refl, refl, refl)
 
@@ -39,6 +40,6 @@ sheet_e =
     ∷ 0 ∷ 64 ∷ 4 ∷ 4 ∷ 0 ∷ [])
 
 -- node 2 counts and is unreached: a barred link leads to it from node 1; node 3 is led to from node 2 alone, and does not count
-values-E : (answer_of sheet_e ≡ bytes_of_all (1 ∷ 0 ∷ 1 ∷ 0x40a0_0000 ∷ 0 ∷ 0 ∷ [])) × (distance_answer sheet_e 32 24 ≡ Count 3) × (distance_answer sheet_e 32 23 ≡ Refused 21)
+values-E : (answer_of sheet_e ≡ bytes_of_all (1 ∷ 0 ∷ 1 ∷ 0x40a0_0000 ∷ 0 ∷ 0 ∷ [])) × (distance_answer sheet_e 32 24 ≡ Ok 3) × (distance_answer sheet_e 32 23 ≡ Err Refusal.Room)
 unfolding sheet_e machine_of distance_number of_k round to_bits bytes_of_all
 values-E = (refl, refl, refl)

@@ -19,14 +19,13 @@ use Rattle.state_order_queue.specs.declared.Queue.{Queue}
 use Rattle.state_order_queue.specs.Queues.{holds, is_empty, enqueued, dequeued}
 use Rattle.sheet.proofs.Apart.{both, or-either}
 use Rattle.state_order_queue.proofs.Sets.{enqueued-full, enqueued-holds, enqueued-valid, dequeued-full, dequeued-valid, dequeued-holds, front-held}
-use Rattle.distance.specs.declared.Distance.{Distance}
-use Rattle.distance.specs.declared.Distance.TheVariants.{Reached}
+use Rattle.distance.specs.Held.{Distance}
+use Rattle.std.specs.Prelude.{Option, Some}
 use Rattle.distance.specs.Held.{weight_in, with_distance}
 use Rattle.distance.specs.Offer.{improves, reaches}
 use Rattle.distance.proofs.Words.{put_word, put-length}
 use Rattle.shortest_distance.specs.declared.parent.Parent.{Parent}
-use Rattle.shortest_distance.specs.declared.parent.Parent.TheVariants.{By}
-use Rattle.shortest_distance.specs.ParentWords.{parent_stored}
+use Rattle.shortest_distance.specs.ParentWords.{by, parent_stored}
 use Rattle.shortest_distance.specs.NodeSlots.{distance_at, first_word}
 use Rattle.shortest_distance.specs.Relaxation.{State, taken_words, relax_link, relax_links, relax_head, relax_heads}
 use Rattle.shortest_distance.specs.Sound.{Sound}
@@ -77,7 +76,7 @@ module _ (bytes : List ℕ) (links nodes : ℕ) where
   pub store_kept : (work : List ℕ) (q : Queue) (v : ℕ) (d : Distance) → Sound bytes links nodes work q → Sound bytes links nodes (with_distance work (8 * v) d) q
   store_kept work q v d = area-kept work (with_distance work (8 * v) d) q (put-length work (8 * v) d) (λ u. first-kept work v u d)
 
-  parent-kept : (work : List ℕ) (q : Queue) (v : ℕ) (p : Parent) → Sound bytes links nodes work q → Sound bytes links nodes (parent_stored work v p) q
+  parent-kept : (work : List ℕ) (q : Queue) (v : ℕ) (p : Option Parent) → Sound bytes links nodes work q → Sound bytes links nodes (parent_stored work v p) q
   parent-kept work q v p = area-kept work (parent_stored work v p) q (stored-length work v p) (stored-first work v p)
 
   pub link-kept : (k : Link) (l v : ℕ) (distance : Float) (s : State) → k.nextstate < nodes → Kept s → Kept (relax_link k l v distance s)
@@ -98,8 +97,8 @@ module _ (bytes : List ℕ) (links nodes : ℕ) where
 
       store : (b : Bool) → Sound bytes links nodes (cond b (taken_words k.nextstate offer l v s.work) s.work) after
       store true =
-          parent-kept (with_distance s.work (8 * k.nextstate) (Reached offer)) after k.nextstate (By l v)
-          (store_kept s.work after k.nextstate (Reached offer) (put first))
+          parent-kept (with_distance s.work (8 * k.nextstate) (Some offer)) after k.nextstate (by l v)
+          (store_kept s.work after k.nextstate (Some offer) (put first))
       store false = put first
 
   pub links-kept : (first v : ℕ) (distance : Float) (n : ℕ) (s : State) → first + n ≤ links → Kept s → Kept (relax_links bytes first v distance n s)

@@ -1,6 +1,5 @@
 pub mod ParentWords
 pub mod Areas
-pub mod Turns
 pub mod Kept
 pub mod Rows
 pub mod Starts

@@ -144,10 +144,6 @@ module _ (bytes old : List ℕ) (e : input_number bytes ≡ 0) (t : Trailer) (sa
   fits : 8 * stated_nodes bytes ≤ length old
   fits = subst (λ (t : Trailer). 8 * t.nodes ≤ length old) same room
 
-  pub prepares : (16 * t.links + 12 * t.nodes ≤ length bytes) × (8 * t.nodes ≤ length old) × (sum_below t.nodes (count_at bytes t.links) ≤ t.links)
-  prepares = subst (λ (t : Trailer). (16 * t.links + 12 * t.nodes ≤ length bytes) × (8 * t.nodes ≤ length old) × (sum_below t.nodes (count_at bytes t.links) ≤ t.links)) (sym same)
-      (laid_out bytes old e fits, fits, counted bytes old e fits)
-
   module _ (area : List ℕ) (set-up : area ≡ prepared bytes t.links t.nodes old) where
     pub made-without : t.nodes ≤ t.start → Made bytes old area
     made-without h = subst (λ (x : List ℕ). Made bytes old x) (sym set-up) (subst (λ (t : Trailer). t.nodes ≤ t.start → Made bytes old (prepared bytes t.links t.nodes old)) (sym same) (made_none bytes old e fits) h)

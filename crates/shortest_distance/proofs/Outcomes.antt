@@ -26,12 +26,14 @@ use Rattle.distance.specs.Written.{written}
 use Rattle.distance.specs.Held.{held, words_in}
 use Rattle.distance.proofs.Words.{words-written}
 use Rattle.distance.proofs.Written.{length-written}
-use Rattle.shortest_distance.specs.declared.Distances.{Distances}
-use Rattle.shortest_distance.specs.declared.Distances.TheVariants.{Count, Refused}
+use Rattle.std.specs.Prelude.{Result, Ok, Err}
+use Rattle.sheet.specs.declared.refusal.Refusal.{Refusal}
+use Rattle.sheet.specs.Refusals.{number_of, answer}
+use Rattle.sheet.proofs.Refusals.{number-positive, answer-none}
 use Rattle.slots.specs.Slots.{cleared}
 use Rattle.shortest_distance.specs.NodeSlots.{distance_at, distance_words, length_in}
 use Rattle.shortest_distance.specs.Handed.{handed, handed_by, handed_over}
-use Rattle.shortest_distance.specs.Outcome.{answer_of, slots_needed, distance_number, distances_by, distance_answer, work_after, result_after}
+use Rattle.shortest_distance.specs.Outcome.{answer_of, slots_needed, distance_number, distance_answer, work_after, result_after}
 use Rattle.shortest_distance.specs.Sound.{Made}
 use Rattle.slots.proofs.Clearing.{cleared-same}
 use Rattle.shortest_distance.proofs.Lengths.{length-is}
@@ -72,24 +74,25 @@ number-room bytes words room e s b =
 
 -- what a number that refuses before the search leaves
 module _ (bytes work result : List ℕ) where
-  pub record Outcome (answer : Distances) (work' result' : List ℕ) : Type 0 where
-    pub answer-is : answer ≡ distance_answer bytes (length work) (length result)
+  pub record Outcome (told : Result ℕ Refusal) (work' result' : List ℕ) : Type 0 where
+    pub answer-is : told ≡ distance_answer bytes (length work) (length result)
     pub work-is : work' ≡ work_after bytes work (length result)
     pub result-is : result' ≡ result_after bytes (length work) result
 
-  early : (k : ℕ) → (k ≡ 0 → ⊥) → (k ≡ 21 → ⊥) → distance_number bytes (length work) (length result) ≡ k → Outcome (Refused k) work result
-  early k a b e = record {
-    answer-is = sym (ap (λ (n : ℕ). distances_by (eqb n 0) (length (distances (machine bytes))) n) e ∙ ap (λ (t : Bool). distances_by t (length (distances (machine bytes))) k) (ne_eqb k 0 a));
-    work-is = sym (neither (distance_number bytes (length work) (length result)) _ work (λ z. a (sym e ∙ z)) (λ z. b (sym e ∙ z)));
-    result-is = sym (not-zero (distance_number bytes (length work) (length result)) _ result (λ z. a (sym e ∙ z)));
-  }
+  early : (r : Refusal) → (number_of r ≡ 21 → ⊥) → distance_number bytes (length work) (length result) ≡ number_of r → Outcome (Err r) work result
+  early r b e =
+      let k = distance_number bytes (length work) (length result) in record {
+        answer-is = answer-none (length (distances (machine bytes))) k r (sym e);
+        work-is = sym (neither k _ work (λ z. number-positive r (sym e ∙ z)) (λ z. b (sym e ∙ z)));
+        result-is = sym (not-zero k _ result (λ z. number-positive r (sym e ∙ z)));
+      }
 
-  pub outcome-input : (k : ℕ) → input_number bytes ≡ k → (k ≡ 0 → ⊥) → k ≤ 6 → Outcome (Refused k) work result
-  outcome-input k e a b = early k a (λ z. omega arith) (number-input bytes (length work) (length result) (λ z. a (sym e ∙ z)) ∙ e)
+  pub outcome-input : (r : Refusal) → input_number bytes ≡ number_of r → number_of r ≤ 6 → Outcome (Err r) work result
+  outcome-input r e b = early r (λ z. omega (arith, b, z)) (number-input bytes (length work) (length result) (λ z. number-positive r (sym e ∙ z)) ∙ e)
 
-  outcome-20 : input_number bytes ≡ 0 → length work / 8 < slots_needed bytes → Outcome (Refused 20) work result
+  outcome-20 : input_number bytes ≡ 0 → length work / 8 < slots_needed bytes → Outcome (Err Refusal.Work) work result
   outcome-20 e h =
-      early 20 (λ z. omega arith) (λ z. omega arith)
+      early Refusal.Work (λ z. omega (arith, z))
       (number-state bytes (length work) (length result) e ∙ ap (λ (b : Bool). cond b 20 (cond (ltb (length result) (length (answer_of bytes))) 21 0)) (lt-ltb (length work / 8) (slots_needed bytes) h))
 
   -- ---- distances made, handed over and cleared
@@ -115,7 +118,7 @@ module _ (bytes work result : List ℕ) where
       answer-is =
           ap (λ (k : ℕ). handed_by (ltb (length result) k) n) (sym answer-length)
           ∙ by-room (ltb (length result) (length (answer_of bytes)))
-          ∙ sym (ap (λ (k : ℕ). distances_by (eqb k 0) (length (distances (machine bytes))) k) number);
+          ∙ sym (ap (λ (k : ℕ). answer (length (distances (machine bytes))) k) number);
       work-is =
           cleared-same (slots_needed bytes) made work h.beyond
           ∙ both (ltb (length result) (length (answer_of bytes)))
@@ -126,9 +129,9 @@ module _ (bytes work result : List ℕ) where
           ∙ sym (ap (λ (k : ℕ). cond (eqb k 0) (answer_of bytes ++ drop (length (answer_of bytes)) result) result) number);
     }
       where
-        by-room : (b : Bool) → handed_by b n ≡ distances_by (eqb (cond b 21 0) 0) (length (distances (machine bytes))) (cond b 21 0)
+        by-room : (b : Bool) → handed_by b n ≡ answer (length (distances (machine bytes))) (cond b 21 0)
         by-room true = refl
-        by-room false = ap Count count_same
+        by-room false = ap Ok count_same
 
         both : (b : Bool) → cleared (slots_needed bytes) work ≡ cond (eqb (cond b 21 0) 0 || eqb (cond b 21 0) 21) (cleared (slots_needed bytes) work) work
         both true = refl
@@ -143,7 +146,7 @@ module _ (bytes work result : List ℕ) (e : input_number bytes ≡ 0) (t : Trai
   nodes-same : t.nodes ≡ slots_needed bytes
   nodes-same = ap (λ (t : Trailer). t.nodes) same ∙ sym (read-fields bytes).nodes-are
 
-  pub few-slots : length work / 8 < t.nodes → Outcome bytes work result (Refused 20) work result
+  pub few-slots : length work / 8 < t.nodes → Outcome bytes work result (Err Refusal.Work) work result
   few-slots h = outcome-20 bytes work result e (subst (λ (n : ℕ). length work / 8 < n) nodes-same h)
 
   module _ (made : List ℕ) (is : Made bytes work made) (n : ℕ) (found : n ≡ length_in bytes t.links t.nodes made) where

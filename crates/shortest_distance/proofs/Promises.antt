@@ -27,8 +27,10 @@ use Rattle.machine.proofs.Reached.{led-by, leads, height-above, height-attained,
 use Rattle.machine.proofs.Accepted.{passes, climbs-machine, start-inside}
 use Rattle.distance.specs.Written.{written}
 use Rattle.distance.proofs.Written.{value-at}
-use Rattle.shortest_distance.specs.declared.Distances.{Distances}
-use Rattle.shortest_distance.specs.Outcome.{answer_of, distance_number, distances_by, distance_answer, result_after}
+use Rattle.std.specs.Prelude.{Result}
+use Rattle.sheet.specs.declared.refusal.Refusal.{Refusal}
+use Rattle.sheet.specs.Refusals.{answer_by}
+use Rattle.shortest_distance.specs.Outcome.{answer_of, distance_number, distance_answer, result_after}
 use Rattle.shortest_distance.specs.Promise.{RunTo, LedTo, ReachedAt, UnreachedAt, Least, Promised}
 use Rattle.shortest_distance.proofs.Outcomes.{number-input}
 
@@ -111,11 +113,11 @@ module _ (bytes : List ℕ) (words : ℕ) (result : List ℕ) where
   promised : Promised bytes (distance_answer bytes words (length result)) (result_after bytes words result)
   promised = go (eqb number 0) refl
     where
-      go : (b : Bool) → eqb number 0 ≡ b → Promised bytes (distances_by b (length (distances (machine bytes))) number) (cond b (answer_of bytes ++ drop (length (answer_of bytes)) result) result)
+      go : (b : Bool) → eqb number 0 ≡ b → Promised bytes (answer_by b (length (distances (machine bytes))) number) (cond b (answer_of bytes ++ drop (length (answer_of bytes)) result) result)
       go true e =
           let t = passes bytes (accepted (eqb-true number 0 e)) in
           least (machine bytes) (climbs-machine (parts_of bytes) t) (start-inside (parts_of bytes) t) (drop (length (answer_of bytes)) result)
       go false e = tt
 
-  pub promised-by : (answer : Distances) (after : List ℕ) → answer ≡ distance_answer bytes words (length result) → after ≡ result_after bytes words result → Promised bytes answer after
-  promised-by answer after a r = subst (λ (x : Distances). Promised bytes x after) (sym a) (subst (λ (x : List ℕ). Promised bytes (distance_answer bytes words (length result)) x) (sym r) promised)
+  pub promised-by : (answer : Result ℕ Refusal) (after : List ℕ) → answer ≡ distance_answer bytes words (length result) → after ≡ result_after bytes words result → Promised bytes answer after
+  promised-by answer after a r = subst (λ (x : Result ℕ Refusal). Promised bytes x after) (sym a) (subst (λ (x : List ℕ). Promised bytes (distance_answer bytes words (length result)) x) (sym r) promised)

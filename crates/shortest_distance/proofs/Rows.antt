@@ -34,13 +34,12 @@ use Rattle.machine.proofs.Relax.{row_at, row-size, relax-is}
 use Rattle.machine.proofs.Bounds.{row_within, step-within}
 use Rattle.state_order_queue.specs.Queues.{holds, is_empty, enqueued, dequeued}
 use Rattle.state_order_queue.proofs.Sets.{enqueued-holds, empty-exactly, front-held, front-least, dequeued-holds}
-use Rattle.distance.specs.declared.Distance as Single
-use Rattle.distance.specs.declared.Distance.TheVariants.{Reached}
+use Rattle.distance.specs.Held as Single
+use Rattle.std.specs.Prelude.{Some}
 use Rattle.distance.specs.Held.{held, weight_in}
 use Rattle.distance.specs.Offer.{improves, reaches}
 use Rattle.distance.proofs.Offers.{weight-held, improves-is, relaxed-is, reaches-is}
-use Rattle.shortest_distance.specs.declared.parent.Parent.TheVariants.{By}
-use Rattle.shortest_distance.specs.ParentWords.{parent_at, parent_from}
+use Rattle.shortest_distance.specs.ParentWords.{by, parent_at, parent_from}
 use Rattle.shortest_distance.specs.NodeSlots.{distance_at, first_word}
 use Rattle.shortest_distance.specs.Relaxation.{State, taken_words, relax_link, relax_links, relax_head, relax_heads}
 use Rattle.shortest_distance.specs.Sound.{Sound}
@@ -212,8 +211,8 @@ module _ (bytes : List ℕ) (links : ℕ) (m : Machine) (f : SheetFields bytes l
           }
 
       -- the next node's distance after the offer
-      becomes : cond (improves (distance_at s.work nx) (of_t unit (as_weight d)) (of_t unit w)) (Reached offer) (held x) ≡ held (nearer x (onward d w))
-      becomes = (λ i. cond (improves (h.distances nx nx-in i) (of_t unit (as_weight d)) (of_t unit w)) (Reached offer) (held x)) ∙ relaxed-is x d w x-limit d-limit weight-limit offer-limit
+      becomes : cond (improves (distance_at s.work nx) (of_t unit (as_weight d)) (of_t unit w)) (Some offer) (held x) ≡ held (nearer x (onward d w))
+      becomes = (λ i. cond (improves (h.distances nx nx-in i) (of_t unit (as_weight d)) (of_t unit w)) (Some offer) (held x)) ∙ relaxed-is x d w x-limit d-limit weight-limit offer-limit
 
       small-next : nx < node_limit
       small-next = omega (arith, nx-in, f.few-nodes)
@@ -270,8 +269,8 @@ module _ (bytes : List ℕ) (links : ℕ) (m : Machine) (f : SheetFields bytes l
           ∙ improves-is x d w x-limit d-limit weight-limit offer-limit
           ∙ sym (λ i. eq-eqb nx nx refl i && lt_t (row_at m l (source i) ⊗ w) (row_at m l nx))
 
-      by-test : (t : Bool) → cond t (By l u) (parent_from m (chosen l nx)) ≡ parent_from m (cond t (some l) (chosen l nx))
-      by-test true = ap (By l) (sym source)
+      by-test : (t : Bool) → cond t (by l u) (parent_from m (chosen l nx)) ≡ parent_from m (cond t (some l) (chosen l nx))
+      by-test true = ap (by l) (sym source)
       by-test false = refl
 
       parent-after : (v : ℕ) → v < length m.finals → parent_at (after s).work v ≡ parent_from m (chosen (suc l) v)
@@ -279,7 +278,7 @@ module _ (bytes : List ℕ) (links : ℕ) (m : Machine) (f : SheetFields bytes l
         | yes e ↦
             ap (parent_at (after s).work) e
             ∙ parent-here s.work nx offer l u better (omega (arith, in-sheet, f.few-links)) (omega (arith, h.sound.slots, nx-in))
-            ∙ (λ i. cond (better-is i) (By l u) (h.parents nx nx-in i))
+            ∙ (λ i. cond (better-is i) (by l u) (h.parents nx nx-in i))
             ∙ by-test (eqb nx nx && lt_t (row_at m l (link m l).source ⊗ w) (row_at m l nx))
             ∙ ap (parent_from m) (sym (ap (chosen (suc l)) e ∙ chosen-next l nx in-links nx-in))
         | no n ↦ parent-other s.work nx offer l u better v n ∙ h.parents v k ∙ ap (parent_from m) (sym (chosen-other l v in-links k n))

@@ -1,12 +1,10 @@
 -- Mirrors the code: the work area while distances are made. A reader need not believe it: laws tie it to Distance of crate machine (proofs/Rows, Lengths).
 -- A slot of eight words a node. Words 0 and 1 hold its distance, words 2 and 3 its parent, word 4 the number of its first link. Definitions only.
-use Rattle.std.specs.Prelude.{ℕ, zero, suc, ◌+◌, ◌*◌, cond, List, [], ◌++◌, leb, eqb, get_or, set}
+use Rattle.std.specs.Prelude.{ℕ, zero, suc, ◌+◌, ◌*◌, cond, None, List, [], ◌++◌, leb, eqb, get_or, set}
 use Rattle.sheet.specs.Words.{word}
 use Rattle.sheet.specs.Records.{count_at, first_link}
-use Rattle.distance.specs.declared.Distance.{Distance}
-use Rattle.distance.specs.declared.Distance.TheVariants.{Unreached}
+use Rattle.distance.specs.Held.{Distance}
 use Rattle.distance.specs.Held.{reached_in, words_in, distance_in, with_distance}
-use Rattle.shortest_distance.specs.declared.parent.Parent.TheVariants.{None}
 use Rattle.shortest_distance.specs.ParentWords.{parent_stored}
 
 -- what slot v holds
@@ -19,7 +17,7 @@ first_word work v = get_or work (8 * v + 4) 0
 -- the area with the first n slots set up
 unfoldable pub prepared : List ℕ → ℕ → ℕ → List ℕ → List ℕ
 prepared bytes links zero work = work
-prepared bytes links (suc v) work = set (parent_stored (with_distance (prepared bytes links v work) (8 * v) Unreached) v None) (8 * v + 4) (first_link bytes links v)
+prepared bytes links (suc v) work = set (parent_stored (with_distance (prepared bytes links v work) (8 * v) None) v None) (8 * v + 4) (first_link bytes links v)
 
 -- one more than the highest of n nodes that is reached, or 0
 unfoldable pub height_in : List ℕ → ℕ → ℕ

@@ -1,5 +1,5 @@
 -- The outcome of the open call for distances: one function of the sheet's bytes and the areas' lengths gives the refusal or the answer. Definitions only.
-use Rattle.std.specs.Prelude.{ℕ, ◌/◌, Bool, true, false, not, ◌||◌, cond, ltb, eqb, length, drop}
+use Rattle.std.specs.Prelude.{ℕ, ◌/◌, not, ◌||◌, cond, ltb, eqb, length, drop, Result}
 use mathlib.Core.List.{List, ◌++◌, flat_map}
 use Rattle.sheet.specs.Words.{bytes_of_all}
 use Rattle.sheet.specs.Sheet.{node_count, parts_of}
@@ -7,7 +7,8 @@ use Rattle.sheet.specs.Machine.{machine}
 use Rattle.machine.specs.Distance.{distances}
 use Rattle.machine.specs.Input.{input_number}
 use Rattle.distance.specs.Written.{written}
-use Rattle.shortest_distance.specs.declared.Distances.{Distances}
+use Rattle.sheet.specs.declared.refusal.Refusal.{Refusal}
+use Rattle.sheet.specs.Refusals.{answer}
 use Rattle.slots.specs.Slots.{cleared}
 
 -- one distance per node up to the highest reached, or led to from a reached one, two words each
@@ -26,13 +27,9 @@ distance_number bytes words room =
     let state : ℕ = cond (ltb (words / 8) (slots_needed bytes)) 20 (cond (ltb room (length (answer_of bytes))) 21 0) in
     cond (not (eqb k 0)) k state
 
--- what the call answers: how many distances it wrote, or the number
-abbrev pub distances_by : Bool → ℕ → ℕ → Distances
-distances_by true count k = Distances.Count count
-distances_by false count k = Distances.Refused k
-
-abbrev pub distance_answer : List ℕ → ℕ → ℕ → Distances
-distance_answer bytes words room = distances_by (eqb (distance_number bytes words room) 0) (length (distances (machine bytes))) (distance_number bytes words room)
+-- what the call answers: how many distances it wrote, or the refusal of the number
+abbrev pub distance_answer : List ℕ → ℕ → ℕ → Result ℕ Refusal
+distance_answer bytes words room = answer (length (distances (machine bytes))) (distance_number bytes words room)
 
 -- the work area afterwards: from 21 on the slots needed are zero, and those beyond keep their value; before, all do
 abbrev pub work_after : List ℕ → List ℕ → ℕ → List ℕ

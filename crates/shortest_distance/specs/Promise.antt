@@ -1,12 +1,12 @@
 -- Demand 2 of the open call for distances, about the count that it answers and the bytes of the result area alone: each distance is reached at the least path sum
 -- of Mohri's definition, or unreached. Definitions only.
-use Rattle.std.specs.Prelude.{◌≡◌, ◌⊎◌, List, ℕ, suc, ◌+◌, ◌*◌, ◌<◌, ℤ, length}
+use Rattle.std.specs.Prelude.{◌≡◌, ◌⊎◌, List, ℕ, suc, ◌+◌, ◌*◌, ◌<◌, ℤ, length, Result, Ok, Err}
 use Rattle.std.proofs.Math.Option.{some}
 use Rattle.tropical_weight.specs.Tropical.{fin, ◌≼◌}
 use Rattle.sheet.specs.Words.{word}
 use Rattle.sheet.specs.Machine.{Machine, machine, bits_of}
 use Rattle.machine.specs.Readings.{link, IsRun, run_cost}
-use Rattle.shortest_distance.specs.declared.Distances.{Distances}
+use Rattle.sheet.specs.declared.refusal.Refusal.{Refusal}
 
 -- a run of links from the start to v, at a finite cost
 pub record RunTo (m : Machine) (v : ℕ) : Type 0 where
@@ -53,6 +53,6 @@ pub record Least (m : Machine) (count : ℕ) (result : List ℕ) : Type 0 where
   pub highest : (v : ℕ) → count ≡ suc v → RunTo m v ⊎ LedTo m v
 
 -- of an answer, and the result area afterwards
-abbrev pub Promised : List ℕ → Distances → List ℕ → Type 0
-Promised bytes (Distances.Count count) result = Least (machine bytes) count result
-Promised bytes (Distances.Refused k) result = Unit
+abbrev pub Promised : List ℕ → Result ℕ Refusal → List ℕ → Type 0
+Promised bytes (Ok count) result = Least (machine bytes) count result
+Promised bytes (Err k) result = Unit

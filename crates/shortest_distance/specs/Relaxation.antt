@@ -1,22 +1,20 @@
 -- Mirrors the code: relaxation on the slots, through the queue, link by link. A reader need not believe it: laws tie it to Distance of crate machine (proofs/Rows).
 -- Definitions only.
-use Rattle.std.specs.Prelude.{ℕ, zero, suc, ◌+◌, ◌*◌, cond, List, Float}
+use Rattle.std.specs.Prelude.{ℕ, zero, suc, ◌+◌, ◌*◌, cond, List, Float, Some}
 use Rattle.std.specs.Float.{binary32}
 use Rattle.std.specs.Float.Ieee.{add}
 use Rattle.sheet.specs.declared.tr.Link.{Link}
 use Rattle.sheet.specs.Records.{link_at, count_at}
 use Rattle.state_order_queue.specs.declared.Queue.{Queue}
 use Rattle.state_order_queue.specs.Queues.{is_empty, enqueued, dequeued}
-use Rattle.distance.specs.declared.Distance.TheVariants.{Reached}
 use Rattle.distance.specs.Held.{weight_in, with_distance}
 use Rattle.distance.specs.Offer.{improves, reaches}
-use Rattle.shortest_distance.specs.declared.parent.Parent.TheVariants.{By}
-use Rattle.shortest_distance.specs.ParentWords.{parent_stored}
+use Rattle.shortest_distance.specs.ParentWords.{by, parent_stored}
 use Rattle.shortest_distance.specs.NodeSlots.{distance_at, first_word}
 
 -- the area after an offer is taken: the distance of its node, and link l of node v as its parent
 abbrev pub taken_words : ℕ → Float → ℕ → ℕ → List ℕ → List ℕ
-taken_words next offer l v work = parent_stored (with_distance work (8 * next) (Reached offer)) next (By l v)
+taken_words next offer l v work = parent_stored (with_distance work (8 * next) (Some offer)) next (by l v)
 
 -- the area after link l of node v, which has a distance, is relaxed
 abbrev pub relaxed_words : Link → ℕ → ℕ → Float → List ℕ → List ℕ

@@ -10,32 +10,33 @@ const LINK: usize = 2;
 const SOURCE: usize = 3;
 
 // The link by which the best way enters a node, and the link's source.
-#[derive(Clone, Copy)]
-pub enum Parent {
-    None,
-    By(u32, u32),
+#[derive(Clone, Copy, Debug, PartialEq, Eq)]
+pub struct Parent {
+    pub link: u32,
+    pub source: u32,
 }
 
 // The parent in a node's slot. How none is stored is known here and where it is stored alone.
-pub fn parent_at(work: &[u32], v: u32) -> Parent
+pub fn parent_at(work: &[u32], v: u32) -> Option<Parent>
     requires { 8 * v + 8 ≤ length work.now }
     ensures { result ≡ parent_at work.now v }
 {
     let at = SLOT * (v as usize);
     let link = work[at + LINK];
     if link == NOTHING {
-        return Parent::None;
+        return None;
     }
-    Parent::By(link, work[at + SOURCE])
+    let source = work[at + SOURCE];
+    Some(Parent { link, source })
 }
 
 // Stores a parent there; for none the link's word tells it alone.
-pub fn store_parent(work: &mut [u32], v: u32, parent: Parent)
+pub fn store_parent(work: &mut [u32], v: u32, parent: Option<Parent>)
     requires { 8 * v + 8 ≤ length work.old }
     ensures { work.new ≡ parent_stored work.old v parent }
 {
     let at = SLOT * (v as usize);
-    let Parent::By(link, source) = parent else {
+    let Some(Parent { link, source }) = parent else {
         work[at + LINK] = NOTHING;
         return;
     };

@@ -57,6 +57,14 @@ use Rattle.list_machine.proofs.Sources.{sourced}
 use Rattle.tropical_weight.proofs.Semiring.{is_finite, not_finite}
 use Rattle.shortest_path.proofs.SearchReads.{lies, fan-few}
 
+-- The counts are within their limits, and the slots of a list for n from 2 within a part of so many words.
+pub record Sizes (N T finals n room : ℕ) : Type 0 where
+  pub few-finals : finals ≤ node_limit
+  pub few-links : T ≤ link_limit
+  pub few-nodes : N ≤ node_limit
+  pub products : n * (T + 1) ≤ list_limit * (T + 1)
+  pub fits : 8 * (1 + finals + n * (T + 1) + (N + 1) + (T + finals)) ≤ room
+
 -- n = 0 gives the empty machine
 pub zero-empty : (m : Machine) → result_for m 0 ≡ empty
 unfolding result_for
@@ -66,15 +74,9 @@ zero-empty m = go (best m)
     go none = refl
     go (some x) = refl
 
-module _ (bytes : List ℕ) (below : Below 256 bytes) (ok : input_number bytes ≡ 0) (t : Trailer) (same : t ≡ trailer_at bytes) (finals : ℕ) (counted : finals ≡ final_count bytes t.links t.nodes) where
+module _ (bytes : List ℕ) (ok : input_number bytes ≡ 0) (t : Trailer) (same : t ≡ trailer_at bytes) (finals : ℕ) (counted : finals ≡ final_count bytes t.links t.nodes) where
   abbrev pub m : Machine
   m = machine_of (parts_of bytes)
-
-  a : Accepted m
-  a = accepted bytes below ok
-
-  b : Small weight_limit m
-  b = small-machine (parts_of bytes) (passes bytes ok)
 
   pub links-is : t.links ≡ length m.links
   links-is = ap (λ (t : Trailer). t.links) same ∙ sym (sheet-fields bytes ok).links-are
@@ -87,13 +89,13 @@ module _ (bytes : List ℕ) (below : Below 256 bytes) (ok : input_number bytes �
   finals-is = counted ∙ (λ i. marked (finals_at bytes (links-is i) (nodes-is i))) ∙ ap marked (fields-own bytes ok).finals-are
 
   pub few-nodes : t.nodes ≤ node_limit
-  few-nodes = omega (arith, nodes-is, a.few-nodes)
+  few-nodes = omega (arith, nodes-is, (fields-own bytes ok).few-nodes)
 
   pub few-links : t.links ≤ link_limit
-  few-links = omega (arith, links-is, a.few-links)
+  few-links = omega (arith, links-is, (fields-own bytes ok).few-links)
 
   pub few-finals : finals ≤ node_limit
-  few-finals = omega (arith, finals-is, marked-few m.finals, a.few-nodes)
+  few-finals = omega (arith, finals-is, marked-few m.finals, (fields-own bytes ok).few-nodes)
 
   pub slots_same : (n : ℕ) → slots_of t.nodes t.links finals n ≡ slots_for m n
   slots_same n = λ i. slots_of (nodes-is i) (links-is i) (finals-is i) n
@@ -112,11 +114,21 @@ module _ (bytes : List ℕ) (below : Below 256 bytes) (ok : input_number bytes �
     pub slots-are : slots_for m n ≡ 1 + finals + n * (t.links + 1) + (t.nodes + 1) + (t.links + finals)
     slots-are = slots-many (length m.finals) (length m.links) (marked m.finals) n lo ∙ omega (arith, allowed-is, links-is, nodes-is, finals-is)
 
+    -- what bounds the sums of the code, on a part of so many words
+    pub sizes : (room : ℕ) → 8 * slots_for m n ≤ room → Sizes t.nodes t.links finals n room
+    sizes room h = record { few-finals = few-finals; few-links = few-links; few-nodes = few-nodes; products = product; fits = omega (arith, slots-are, h) }
+
     abbrev pub places : Places
     places = record { nodes = 8 * (1 + finals + n * (t.links + 1)); links = 8 * (1 + finals + n * (t.links + 1)) + 8 * (t.nodes + 1); inputs = t.links; end = t.start + 1 }
 
     -- ---- once the machine is reversed
-    module _ (old part : List ℕ) (long : 8 * slots_for m n ≤ length old) (rev : Reversal m places.nodes places.links old part) where
+    module _ (below : Below 256 bytes) (old part : List ℕ) (long : 8 * slots_for m n ≤ length old) (rev : Reversal m places.nodes places.links old part) where
+      a : Accepted m
+      a = accepted bytes below ok
+
+      b : Small weight_limit m
+      b = small-machine (parts_of bytes) (passes bytes ok)
+
       -- ---- whether there is a reading: whether the least total is reached
       total-reached : reached_in (distance_in part places.nodes) ≡ is_finite (total m)
       total-reached =

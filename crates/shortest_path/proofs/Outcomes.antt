@@ -14,9 +14,12 @@ use Rattle.machine.specs.Input.{input_number}
 use Rattle.slots.specs.Slots.{cleared}
 use Rattle.slots.proofs.Clearing.{cleared-same}
 use Rattle.list_answer.specs.declared.Listed.{Listed}
-use Rattle.list_answer.specs.declared.Listed.TheVariants.{Refused}
+use Rattle.std.specs.Prelude.{Result, Err}
+use Rattle.sheet.specs.declared.refusal.Refusal.{Refusal}
+use Rattle.sheet.specs.Refusals.{number_of, answer}
+use Rattle.sheet.proofs.Refusals.{number-positive, answer-none}
 use Rattle.list_answer.specs.ListAnswer.{listed_by, listed_in, listed_over}
-use Rattle.shortest_path.specs.Outcome.{result_of, answer_of, slots_needed, tested_number, areas_number, list_number, list_by, list_answer, work_after, result_after}
+use Rattle.shortest_path.specs.Outcome.{result_of, answer_of, slots_needed, tested_number, areas_number, list_number, counts_of, list_answer, work_after, result_after}
 
 -- a part of so many slots put back leaves what is beyond it
 pub beyond-part : (part work : List ℕ) (k j : ℕ) → k ≡ j → length part ≡ 8 * k → drop (8 * j) (part ++ drop (8 * k) work) ≡ drop (8 * j) work
@@ -68,8 +71,8 @@ module _ (bytes : List ℕ) (n words room : ℕ) where
   number-zero z = tested-zero bytes n (areas_number bytes n words room) (sym number-tested ∙ z)
 
 module _ (bytes : List ℕ) (n : ℕ) (work result : List ℕ) where
-  pub record Outcome (answer : Listed) (work' result' : List ℕ) : Type 0 where
-    pub answer-is : answer ≡ list_answer bytes n (length work) (length result)
+  pub record Outcome (told : Result Listed Refusal) (work' result' : List ℕ) : Type 0 where
+    pub answer-is : told ≡ list_answer bytes n (length work) (length result)
     pub work-is : work' ≡ work_after bytes n work (length result)
     pub result-is : result' ≡ result_after bytes n (length work) result
 
@@ -77,26 +80,26 @@ module _ (bytes : List ℕ) (n : ℕ) (work result : List ℕ) where
   number = list_number bytes n (length work) (length result)
 
   -- what a number that refuses before the search leaves
-  early : (k : ℕ) → (k ≡ 0 → ⊥) → (k ≡ 21 → ⊥) → number ≡ k → Outcome (Refused k) work result
-  early k a b e = record {
-    answer-is = sym (ap (λ (j : ℕ). list_by (eqb j 0) (result_of bytes n) j) e ∙ ap (λ (t : Bool). list_by t (result_of bytes n) k) (ne_eqb k 0 a));
-    work-is = sym (neither number _ work (λ z. a (sym e ∙ z)) (λ z. b (sym e ∙ z)));
-    result-is = sym (not-zero number _ result (λ z. a (sym e ∙ z)));
+  early : (r : Refusal) → (number_of r ≡ 21 → ⊥) → number ≡ number_of r → Outcome (Err r) work result
+  early r b e = record {
+    answer-is = answer-none (counts_of (result_of bytes n)) number r (sym e);
+    work-is = sym (neither number _ work (λ z. number-positive r (sym e ∙ z)) (λ z. b (sym e ∙ z)));
+    result-is = sym (not-zero number _ result (λ z. number-positive r (sym e ∙ z)));
   }
 
-  pub outcome-input : (k : ℕ) → input_number bytes ≡ k → (k ≡ 0 → ⊥) → k ≤ 6 → Outcome (Refused k) work result
-  outcome-input k e a b = early k a (λ z. omega arith) (number-input bytes n (length work) (length result) (λ z. a (sym e ∙ z)) ∙ e)
+  pub outcome-input : (r : Refusal) → input_number bytes ≡ number_of r → number_of r ≤ 6 → Outcome (Err r) work result
+  outcome-input r e b = early r (λ z. omega (arith, b, z)) (number-input bytes n (length work) (length result) (λ z. number-positive r (sym e ∙ z)) ∙ e)
 
   module _ (e : input_number bytes ≡ 0) where
-    pub outcome-7 : list_limit < n → Outcome (Refused 7) work result
+    pub outcome-7 : list_limit < n → Outcome (Err Refusal.Count) work result
     outcome-7 h =
-        early 7 (λ z. omega arith) (λ z. omega arith)
+        early Refusal.Count (λ z. omega (arith, z))
         (number-tested bytes n (length work) (length result) ∙ tested-seven bytes n (areas_number bytes n (length work) (length result)) e h)
 
     module _ (few : n ≤ list_limit) where
-      pub outcome-20 : length work / 8 < slots_needed bytes n → Outcome (Refused 20) work result
+      pub outcome-20 : length work / 8 < slots_needed bytes n → Outcome (Err Refusal.Work) work result
       outcome-20 h =
-          early 20 (λ z. omega arith) (λ z. omega arith)
+          early Refusal.Work (λ z. omega (arith, z))
           (number-areas bytes n (length work) (length result) e few ∙ ap (λ (b : Bool). cond b 20 (cond (ltb (length result) (length (answer_of bytes n))) 21 0)) (lt-ltb (length work / 8) (slots_needed bytes n) h))
 
       -- ---- a list made in its slots, and those cleared
@@ -109,12 +112,12 @@ module _ (bytes : List ℕ) (n : ℕ) (work result : List ℕ) where
 
         pub outcome-made : Outcome (listed_in (result_of bytes n) (length result)) (cleared (slots_needed bytes n) made) (listed_over (result_of bytes n) result)
         outcome-made = record {
-          answer-is = by-room short ∙ sym (ap (λ (k : ℕ). list_by (eqb k 0) (result_of bytes n) k) number_is);
+          answer-is = by-room short ∙ sym (ap (answer (counts_of (result_of bytes n))) number_is);
           work-is = cleared-same (slots_needed bytes n) made work beyond ∙ both short ∙ sym (ap (λ (k : ℕ). cond (eqb k 0 || eqb k 21) (cleared (slots_needed bytes n) work) work) number_is);
           result-is = turned short ∙ sym (ap (λ (k : ℕ). cond (eqb k 0) (answer_of bytes n ++ drop (length (answer_of bytes n)) result) result) number_is);
         }
           where
-            by-room : (b : Bool) → let r = result_of bytes n in listed_by b (length r.machine.finals) (length r.machine.links) r.taken ≡ list_by (eqb (cond b 21 0) 0) r (cond b 21 0)
+            by-room : (b : Bool) → let r = result_of bytes n in listed_by b (length r.machine.finals) (length r.machine.links) r.taken ≡ answer (counts_of r) (cond b 21 0)
             by-room true = refl
             by-room false = refl
 

@@ -21,7 +21,11 @@ use Rattle.search.specs.ListMachine.{result_for, result_by, result_bytes}
 use Rattle.search.proofs.Complete.{stops}
 use Rattle.search.proofs.Results.{empty_back}
 use Rattle.search.proofs.Lists.{Accepted, accepted, list_in, demand-result, result-one, result-many, result-taken}
-use Rattle.shortest_path.specs.Outcome.{result_of, answer_of, list_number, list_by, list_answer, result_after}
+use Rattle.std.specs.Prelude.{Result}
+use Rattle.sheet.specs.declared.refusal.Refusal.{Refusal}
+use Rattle.list_answer.specs.declared.Listed.{Listed}
+use Rattle.sheet.specs.Refusals.{answer_by}
+use Rattle.shortest_path.specs.Outcome.{result_of, answer_of, list_number, counts_of, list_answer, result_after}
 use Rattle.shortest_path.specs.Promise.{if_any, Keeps, Promised}
 use Rattle.shortest_path.proofs.Joining.{zero-empty}
 use Rattle.shortest_path.proofs.Outcomes.{number-zero}
@@ -92,8 +96,12 @@ promised bytes below n words result = go (eqb number 0) refl
     number : ℕ
     number = list_number bytes n words (length result)
 
-    go : (b : Bool) → eqb number 0 ≡ b → Promised bytes n (list_by b (result_of bytes n) number) (cond b (answer_of bytes n ++ drop (length (answer_of bytes n)) result) result)
+    go : (b : Bool) → eqb number 0 ≡ b → Promised bytes n (answer_by b (counts_of (result_of bytes n)) number) (cond b (answer_of bytes n ++ drop (length (answer_of bytes n)) result) result)
     go false q = tt
     go true q =
         let z = number-zero bytes n words (length result) (eqb-true number 0 q) in
         keeps (machine bytes) (accepted bytes below z.0) (drop (length (answer_of bytes n)) result) n z.1
+
+-- by what the calls answer and leave
+pub promised-by : (bytes : List ℕ) → Below 256 bytes → (n words : ℕ) (result : List ℕ) (told : Result Listed Refusal) (after : List ℕ) → told ≡ list_answer bytes n words (length result) → after ≡ result_after bytes n words result → Promised bytes n told after
+promised-by bytes below n words result told after a r = subst (λ (x : Result Listed Refusal). Promised bytes n x after) (sym a) (subst (λ (x : List ℕ). Promised bytes n (list_answer bytes n words (length result)) x) (sym r) (promised bytes below n words result))

@@ -1,8 +1,10 @@
 -- The outcome of the open call for lists: one function of the sheet's bytes, n and the areas' lengths gives the refusal or the answer. Definitions only.
-use Rattle.std.specs.Prelude.{ℕ, ◌/◌, Bool, true, false, not, ◌||◌, cond, List, ◌++◌, ltb, eqb, length, drop}
+use Rattle.std.specs.Prelude.{ℕ, ◌/◌, not, ◌||◌, cond, List, ◌++◌, ltb, eqb, length, drop, Result as Answer}
 use Rattle.tropical_weight.specs.Limits.{list_limit}
 use Rattle.machine.specs.Input.{input_number}
 use Rattle.sheet.specs.Machine.{machine}
+use Rattle.sheet.specs.declared.refusal.Refusal.{Refusal}
+use Rattle.sheet.specs.Refusals.{answer}
 use Rattle.slots.specs.Slots.{cleared}
 use Rattle.search.specs.ListMachine.{Result, result_for, result_bytes}
 use Rattle.list_answer.specs.declared.Listed.{Listed}
@@ -34,13 +36,12 @@ unfoldable pub list_number : List ℕ → ℕ → ℕ → ℕ → ℕ
 unfolding tested_number result_for result_bytes
 list_number bytes n words room = tested_number bytes n (areas_number bytes n words room)
 
--- what the call answers: the counts of the machine's nodes and links and of the entries taken, or the number alone
-abbrev pub list_by : Bool → Result → ℕ → Listed
-list_by true r k = Listed.Made (length r.machine.finals) (length r.machine.links) r.taken
-list_by false r k = Listed.Refused k
+-- what the call answers: the counts of the machine's nodes and links and of the entries taken, or the refusal of the number
+abbrev pub counts_of : Result → Listed
+counts_of r = record { nodes = length r.machine.finals; links = length r.machine.links; taken = r.taken }
 
-abbrev pub list_answer : List ℕ → ℕ → ℕ → ℕ → Listed
-list_answer bytes n words room = list_by (eqb (list_number bytes n words room) 0) (result_of bytes n) (list_number bytes n words room)
+abbrev pub list_answer : List ℕ → ℕ → ℕ → ℕ → Answer Listed Refusal
+list_answer bytes n words room = answer (counts_of (result_of bytes n)) (list_number bytes n words room)
 
 -- the work area afterwards: from 21 on the slots needed are zero, and those beyond keep their value; before, all do
 abbrev pub work_after : List ℕ → ℕ → List ℕ → ℕ → List ℕ
@@ -52,5 +53,5 @@ work_after bytes n work room =
 -- the result area afterwards: the answer, and then the bytes that were there; where it is refused, just those
 abbrev pub result_after : List ℕ → ℕ → ℕ → List ℕ → List ℕ
 result_after bytes n words result =
-    let answer = answer_of bytes n ++ drop (length (answer_of bytes n)) result in
-    cond (eqb (list_number bytes n words (length result)) 0) answer result
+    let written = answer_of bytes n ++ drop (length (answer_of bytes n)) result in
+    cond (eqb (list_number bytes n words (length result)) 0) written result

@@ -1,5 +1,5 @@
 -- Demand 3 of the open call for lists, about the list read from the result alone and the counts that the call answers. Definitions only.
-use Rattle.std.specs.Prelude.{◌≡◌, true, List, [], ◌∷◌, map, ℕ, ◌≤◌, ◌<◌}
+use Rattle.std.specs.Prelude.{◌≡◌, true, List, [], ◌∷◌, map, ℕ, ◌≤◌, ◌<◌, Result, Ok, Err}
 use Rattle.std.proofs.Math.Option.{Option, none, some}
 use Rattle.sheet.specs.Machine.{Machine, machine}
 use Rattle.machine.specs.Readings.{Reading, IsReading, reading_of}
@@ -8,6 +8,7 @@ use Rattle.machine.specs.Demand.{Demand}
 use Rattle.search.specs.Reversed.{reversed}
 use Rattle.search.specs.Search.{stopped, most_taken, search, runs}
 use Rattle.search.specs.Listed.{list_of}
+use Rattle.sheet.specs.declared.refusal.Refusal.{Refusal}
 use Rattle.list_answer.specs.declared.Listed.{Listed}
 
 -- the one reading, if there is one
@@ -32,6 +33,6 @@ pub record Keeps (m : Machine) (n nodes links taken : ℕ) (result : List ℕ) :
   pub bound : taken ≤ most_taken m n
 
 -- of an answer, and the result area afterwards
-abbrev pub Promised : List ℕ → ℕ → Listed → List ℕ → Type 0
-Promised bytes n (Listed.Made nodes links taken) result = Keeps (machine bytes) n nodes links taken result
-Promised bytes n (Listed.Refused k) result = Unit
+abbrev pub Promised : List ℕ → ℕ → Result Listed Refusal → List ℕ → Type 0
+Promised bytes n (Ok l) result = Keeps (machine bytes) n l.nodes l.links l.taken result
+Promised bytes n (Err r) result = Unit

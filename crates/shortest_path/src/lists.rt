@@ -1,57 +1,54 @@
-// Lists of an accepted sheet, on a part of the work area with the slots that they need.
+// Lists of a machine, on a part of the work area with the slots that they need.
 ghost use Rattle.std.specs.Prelude.{◌≡◌, ◌*◌, ◌≤◌, length};
 ghost use Rattle.tropical_weight.specs.Limits.{list_limit};
 ghost use Rattle.sheet.specs.Sheet.{parts_of};
 ghost use Rattle.sheet.specs.Machine.{machine_of};
-ghost use Rattle.sheet.specs.Records.{trailer_at};
-ghost use Rattle.machine.specs.Input.{input_number};
 ghost use Rattle.search.specs.ListMachine.{result_for};
 ghost use Rattle.machine.specs.Finals.{final_count};
 ghost use Rattle.list_answer.specs.ListAnswer.{slots_for, listed_in, listed_over};
 
 use list_answer::Listed;
 use list_machine::trim;
+use machine::climbing::Machine;
 use n_shortest::n_best;
 use reversed_machine::reverse;
-use sheet::tr::Trailer;
+use sheet::refusal::Refusal;
 use single_path::single;
 use slots::SLOT;
 
-// The n cheapest readings of an accepted sheet with so many final nodes, n from 2.
+// The n cheapest readings of a machine with so many final nodes, n from 2.
 pub fn list_many(
-    sheet: &[u8],
-    t: Trailer,
+    machine: &Machine,
     n: u32,
     finals: u32,
     part: &mut [u32],
     res: &mut [u8],
-) -> Listed
-    requires sheet_value { (input_number sheet.now ≡ 0) × (t ≡ trailer_at sheet.now) × (finals ≡ final_count sheet.now t.links t.nodes) }
-    requires le_n { (2 ≤ n) × (n ≤ list_limit) × (8 * slots_for (machine_of (parts_of sheet.now)) n ≤ length part.old) }
-    ensures value { result ≡ listed_in (result_for (machine_of (parts_of sheet.now)) n) (length res.old) }
-    ensures res_after { res.new ≡ listed_over (result_for (machine_of (parts_of sheet.now)) n) res.old }
+) -> Result<Listed, Refusal>
+    requires counted { finals ≡ final_count machine.now.sheet.bytes.now machine.now.sheet.links machine.now.sheet.nodes }
+    requires le_n { (2 ≤ n) × (n ≤ list_limit) × (8 * slots_for (machine_of (parts_of machine.now.sheet.bytes.now)) n ≤ length part.old) }
+    ensures value { result ≡ listed_in (result_for (machine_of (parts_of machine.now.sheet.bytes.now)) n) (length res.old) }
+    ensures res_after { res.new ≡ listed_over (result_for (machine_of (parts_of machine.now.sheet.bytes.now)) n) res.old }
 {
-    let links = t.links;
-    let allowed = 1 + finals + n * (links + 1);
+    let sheet = machine.sheet;
+    let allowed = 1 + finals + n * (sheet.links + 1);
     let heads = SLOT * (allowed as usize);
-    let chains = heads + SLOT * ((t.nodes as usize) + 1);
-    reverse::measure(sheet, t, part, heads);
-    reverse::reverse(sheet, t, finals, part, heads, chains);
+    let chains = heads + SLOT * ((sheet.nodes as usize) + 1);
+    single::are_bytes(sheet.bytes);
+    reverse::measure(machine, part, heads);
+    reverse::reverse(machine, finals, part, heads, chains);
     // without a reading the least total is unreached; with one there is a start
-    if !distance::is_reached(distance::distance_at(part, heads)) {
+    if distance::distance_at(part, heads).is_none() {
         return list_answer::put_none(res);
     }
-    let end = t.start + 1;
     let p = n_best::Places {
         nodes: heads,
         links: chains,
-        inputs: links,
-        end,
+        inputs: sheet.links,
+        end: sheet.start + 1,
     };
-    let c = n_best::n_shortest_path(part, p, n, links + finals, allowed);
+    let c = n_best::n_shortest_path(part, p, n, sheet.links + finals, allowed);
     trim::write_list(
-        sheet,
-        t,
+        &sheet,
         part,
         c.entries as usize,
         c.listed as usize,
@@ -60,25 +57,22 @@ pub fn list_many(
     )
 }
 
-// The n cheapest readings of an accepted sheet with so many final nodes.
+// The n cheapest readings of a machine with so many final nodes.
 pub fn list_in(
-    sheet: &[u8],
-    t: Trailer,
+    machine: &Machine,
     n: u32,
     finals: u32,
     part: &mut [u32],
     res: &mut [u8],
-) -> Listed
-    requires sheet_value { (input_number sheet.now ≡ 0) × (t ≡ trailer_at sheet.now) × (finals ≡ final_count sheet.now t.links t.nodes) }
-    requires n_le_list_limit { (n ≤ list_limit) × (8 * slots_for (machine_of (parts_of sheet.now)) n ≤ length part.old) }
-    ensures value { result ≡ listed_in (result_for (machine_of (parts_of sheet.now)) n) (length res.old) }
-    ensures res_after { res.new ≡ listed_over (result_for (machine_of (parts_of sheet.now)) n) res.old }
+) -> Result<Listed, Refusal>
+    requires counted { finals ≡ final_count machine.now.sheet.bytes.now machine.now.sheet.links machine.now.sheet.nodes }
+    requires n_le_list_limit { (n ≤ list_limit) × (8 * slots_for (machine_of (parts_of machine.now.sheet.bytes.now)) n ≤ length part.old) }
+    ensures value { result ≡ listed_in (result_for (machine_of (parts_of machine.now.sheet.bytes.now)) n) (length res.old) }
+    ensures res_after { res.new ≡ listed_over (result_for (machine_of (parts_of machine.now.sheet.bytes.now)) n) res.old }
 {
-    if n == 0 {
-        return list_answer::put_none(res);
+    match n {
+        0 => list_answer::put_none(res),
+        1 => single::single_shortest_path(machine, part, res),
+        _ => list_many(machine, n, finals, part, res),
     }
-    if n == 1 {
-        return single::single_shortest_path(sheet, t, part, res);
-    }
-    list_many(sheet, t, n, finals, part, res)
 }

@@ -28,13 +28,13 @@ use Rattle.machine.proofs.SheetFields.{SheetFields, marked-final, unmarked-final
 use Rattle.distance.specs.Held.{held, weight_in}
 use Rattle.distance.proofs.Offers.{weight-dist}
 use Rattle.shortest_distance.specs.NodeSlots.{distance_at}
-use Rattle.single_path.specs.declared.single.End.{End}
+use Rattle.std.specs.Prelude as Core
 use Rattle.single_path.specs.SingleWords.{total_value, Best, best_below}
 
 -- the end at a node, or none
-abbrev pub end_at : Option ℕ → End
-end_at none = End.None
-end_at (some v) = End.At v
+abbrev pub end_at : Option ℕ → Core.Option ℕ
+end_at none = Core.None
+end_at (some v) = Core.Some v
 
 module _ (bytes : List ℕ) (m : Machine) (f : SheetFields bytes (length m.links) (length m.finals) m) (work : List ℕ) (distances : (v : ℕ) → v < length m.finals → distance_at work v ≡ held (distance m v)) where
   abbrev links : ℕ
@@ -70,7 +70,7 @@ module _ (bytes : List ℕ) (m : Machine) (f : SheetFields bytes (length m.links
   pass zero h = refl
   pass (suc n) h =
       let before = pass n (omega arith) in
-      (λ i. cond (lt (total-is n h i) (before i).least) (record { end = End.At n; least = total-is n h i }) (before i))
+      (λ i. cond (lt (total-is n h i) (before i).least) (record { end = Core.Some n; least = total-is n h i }) (before i))
       ∙ ap (λ (b : Bool). cond b (found (some n) (total_at m n)) (found (chosen (total_at m) n) (least (total_at m) n))) test
       ∙ by-test (lt_t (total_at m n) (least (total_at m) n))
       ∙ sym (λ i. found (chosen-suc (total_at m) n i) (least-suc (total_at m) n i))

@@ -28,16 +28,17 @@ use Rattle.shortest_distance.specs.Outcome.{slots_needed}
 use Rattle.shortest_distance.specs.ParentWords.{parent_at, parent_from}
 use Rattle.shortest_distance.specs.Sound.{Made}
 use Rattle.list_answer.specs.declared.Listed.{Listed}
+use Rattle.sheet.specs.declared.refusal.Refusal.{Refusal}
 use Rattle.list_answer.specs.ListAnswer.{listed_by, listed_in, listed_over}
-use Rattle.single_path.specs.declared.single.End.{End}
-use Rattle.single_path.specs.declared.single.End.TheVariants.{None, At}
+use Rattle.std.specs.Prelude as Core
+use Rattle.std.specs.Prelude.{None, Some}
 use Rattle.single_path.specs.SingleWords.{best_below, Traced, way_back, way_words, way_listed}
 use Rattle.single_path.proofs.EndLaws.{end_at, end_is}
 use Rattle.single_path.proofs.WayLaws.{way-is, traced-from}
 use Rattle.single_path.proofs.WayBytes.{length-way_words, links-count, nodes-count, way-bytes, listed-as}
 
 -- the best end by the distances that are made
-abbrev pub end_of : List ℕ → List ℕ → ℕ → ℕ → End
+abbrev pub end_of : List ℕ → List ℕ → ℕ → ℕ → Core.Option ℕ
 end_of bytes made links nodes = (best_below bytes links made nodes).end
 
 abbrev pub one_of : List ℕ → Result
@@ -53,8 +54,8 @@ pub record Run (bytes old made : List ℕ) (links nodes : ℕ) : Type 0 where
   pub none-listed : end_of bytes made links nodes ≡ None → (result : List ℕ)
       → (listed_in empty (length result) ≡ listed_in (one_of bytes) (length result)) × (listed_over empty result ≡ listed_over (one_of bytes) result)
   -- an end
-  pub traced : (end : ℕ) → end_of bytes made links nodes ≡ At end → Traced bytes made end × (end < nodes)
-  pub way-listed : (end : ℕ) → end_of bytes made links nodes ≡ At end → Below 256 bytes → (result : List ℕ)
+  pub traced : (end : ℕ) → end_of bytes made links nodes ≡ Some end → Traced bytes made end × (end < nodes)
+  pub way-listed : (end : ℕ) → end_of bytes made links nodes ≡ Some end → Below 256 bytes → (result : List ℕ)
       → let way = way_back made end end in
       (way_listed way (length result) ≡ listed_in (one_of bytes) (length result)) × (handed_over (way_words bytes (final_at bytes links end) way) result ≡ listed_over (one_of bytes) result)
 
@@ -111,15 +112,15 @@ module _ (bytes old made : List ℕ) (accepted : input_number bytes ≡ 0) (slot
       go none q = refl
       go (some v) q = let z : ◌≡◌ {A = ℕ} 0 1 = cc in absurd (omega arith)
 
-  some_end : (end : ℕ) → end_of bytes made links nodes ≡ At end → best_end m ≡ some end
+  some_end : (end : ℕ) → end_of bytes made links nodes ≡ Some end → best_end m ≡ some end
   some_end end e = go (best_end m) (sym end_same ∙ e)
     where
-      go : (o : Option ℕ) → end_at o ≡ At end → o ≡ some end
+      go : (o : Option ℕ) → end_at o ≡ Some end → o ≡ some end
       go none q = let z : ◌≡◌ {A = ℕ} 0 1 = cc in absurd (omega arith)
       go (some v) q = let z : v ≡ end = cc in ap some z
 
   -- ---- an end
-  module _ (end : ℕ) (found : end_of bytes made (length (machine bytes).links) (length (machine bytes).finals) ≡ At end) where
+  module _ (end : ℕ) (found : end_of bytes made (length (machine bytes).links) (length (machine bytes).finals) ≡ Some end) where
     end-in : end < nodes
     end-in = end_below m end (some_end end found)
 
@@ -185,12 +186,12 @@ run-for bytes old made accepted t same room h =
     )) room
 
 -- ---- by the end that the code finds
-module _ (bytes old made : List ℕ) (links nodes : ℕ) (run : Run bytes old made links nodes) (end : End) (found : end ≡ end_of bytes made links nodes) where
-  pub none-for : end ≡ None → (result new : List ℕ) (r : Listed) → (r ≡ listed_in empty (length result)) × (new ≡ listed_over empty result) → (r ≡ listed_in (one_of bytes) (length result)) × (new ≡ listed_over (one_of bytes) result)
+module _ (bytes old made : List ℕ) (links nodes : ℕ) (run : Run bytes old made links nodes) (end : Core.Option ℕ) (found : end ≡ end_of bytes made links nodes) where
+  pub none-for : end ≡ None → (result new : List ℕ) (r : Core.Result Listed Refusal) → (r ≡ listed_in empty (length result)) × (new ≡ listed_over empty result) → (r ≡ listed_in (one_of bytes) (length result)) × (new ≡ listed_over (one_of bytes) result)
   none-for n result new r h = let a = run.none-listed (sym found ∙ n) result in (h.0 ∙ a.0, h.1 ∙ a.1)
 
-  module _ (v : ℕ) (at : end ≡ At v) where
-    there : end_of bytes made links nodes ≡ At v
+  module _ (v : ℕ) (at : end ≡ Some v) where
+    there : end_of bytes made links nodes ≡ Some v
     there = sym found ∙ at
 
     pub traced-for : Traced bytes made v × (16 * links + 12 * v + 12 ≤ length bytes) × (v < node_limit)
@@ -198,7 +199,7 @@ module _ (bytes old made : List ℕ) (links nodes : ℕ) (run : Run bytes old ma
         let r = run.traced v there in
         (r.0, omega (arith, r.1, run.in-sheet), omega (arith, r.1, run.few))
 
-    pub way-for : Below 256 bytes → (result new : List ℕ) (r : Listed) → (r ≡ way_listed (way_back made v v) (length result)) × (new ≡ handed_over (way_words bytes (final_at bytes links v) (way_back made v v)) result)
+    pub way-for : Below 256 bytes → (result new : List ℕ) (r : Core.Result Listed Refusal) → (r ≡ way_listed (way_back made v v) (length result)) × (new ≡ handed_over (way_words bytes (final_at bytes links v) (way_back made v v)) result)
         → (r ≡ listed_in (one_of bytes) (length result)) × (new ≡ listed_over (one_of bytes) result)
     way-for whole result new r h =
         let a = run.way-listed v there whole result in (h.0 ∙ a.0, h.1 ∙ a.1)

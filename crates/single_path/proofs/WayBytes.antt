@@ -25,6 +25,8 @@ use Rattle.machine.proofs.SheetFields.{SheetFields}
 use Rattle.search.specs.ListMachine.{Result, back_links, best_result, result_bytes}
 use Rattle.search.proofs.BackOne.{links-long, nodes-long, words_are}
 use Rattle.shortest_distance.specs.Handed.{handed_over}
+use Rattle.std.specs.Prelude as Core
+use Rattle.sheet.specs.declared.refusal.Refusal.{Refusal}
 use Rattle.list_answer.specs.declared.Listed.{Listed}
 use Rattle.single_path.specs.SingleWords.{way_links, way_states, way_nodes, way_trailer, way_words, way_listed}
 use Rattle.list_answer.specs.ListAnswer.{listed_by, listed_in, listed_over}
@@ -146,6 +148,9 @@ module _ (bytes : List ℕ) (m : Machine) (f : SheetFields bytes (length m.links
         ∙ sym (bytes_of_all-append (way_links bytes 0 way ++ way_nodes bits (length way) ++ way_trailer (length way)) way)
 
 -- ---- what is answered, by the words
+abbrev pub made : ℕ → ℕ → ℕ → Core.Result Listed Refusal
+made nodes links taken = Core.Ok (record { nodes = nodes; links = links; taken = taken })
+
 pub listed-as : (r : Result) (ws : List ℕ) (nodes links : ℕ) → result_bytes r ≡ bytes_of_all ws → length r.machine.finals ≡ nodes → length r.machine.links ≡ links → r.taken ≡ 0 → (old : List ℕ)
     → (listed_by (ltb (length old) (length (bytes_of_all ws))) nodes links 0 ≡ listed_in r (length old)) × (handed_over ws old ≡ listed_over r old)
 listed-as r ws nodes links e n l t old = (
@@ -154,13 +159,13 @@ listed-as r ws nodes links e n l t old = (
 )
 
 -- the area by the test of its length
-too_short : (ws old : List ℕ) (size nodes links : ℕ) → length (bytes_of_all ws) ≡ size → length old < size → (Listed.Refused 21 ≡ listed_by (ltb (length old) size) nodes links 0) × (old ≡ handed_over ws old)
+too_short : (ws old : List ℕ) (size nodes links : ℕ) → length (bytes_of_all ws) ≡ size → length old < size → (Core.Err Refusal.Room ≡ listed_by (ltb (length old) size) nodes links 0) × (old ≡ handed_over ws old)
 too_short ws old size nodes links e h = (
   sym (ap (λ (b : Bool). listed_by b nodes links 0) (lt-ltb (length old) size h)),
   sym (ap (λ (b : Bool). cond b old (bytes_of_all ws ++ drop (length (bytes_of_all ws)) old)) (lt-ltb (length old) (length (bytes_of_all ws)) (omega arith))),
 )
 
-long-enough : (ws old : List ℕ) (size nodes links : ℕ) → length (bytes_of_all ws) ≡ size → size ≤ length old → (Listed.Made nodes links 0 ≡ listed_by (ltb (length old) size) nodes links 0) × (sets old 0 (bytes_of_all ws) ≡ handed_over ws old)
+long-enough : (ws old : List ℕ) (size nodes links : ℕ) → length (bytes_of_all ws) ≡ size → size ≤ length old → (made nodes links 0 ≡ listed_by (ltb (length old) size) nodes links 0) × (sets old 0 (bytes_of_all ws) ≡ handed_over ws old)
 long-enough ws old size nodes links e h = (
   sym (ap (λ (b : Bool). listed_by b nodes links 0) (le-ltb (length old) size h)),
   sets-eq (bytes_of_all ws) old 0 (omega arith) ∙ ap (λ (k : ℕ). bytes_of_all ws ++ drop k old) (let z : 0 + length (bytes_of_all ws) ≡ length (bytes_of_all ws) = omega arith in z)
@@ -169,11 +174,11 @@ long-enough ws old size nodes links e h = (
 
 -- a way of so many links
 module _ (bytes : List ℕ) (bits : ℕ) (way : List ℕ) (count : ℕ) (counted : count ≡ length way) (old : List ℕ) where
-  pub way-short : length old < 32 * count + 32 → (Listed.Refused 21 ≡ way_listed way (length old)) × (old ≡ handed_over (way_words bytes bits way) old)
+  pub way-short : length old < 32 * count + 32 → (Core.Err Refusal.Room ≡ way_listed way (length old)) × (old ≡ handed_over (way_words bytes bits way) old)
   way-short h = too_short (way_words bytes bits way) old (32 * length way + 32) (length way + 1) (length way) (length-way_words bytes bits way) (omega arith)
 
   pub way_long : (new : List ℕ) → 32 * count + 32 ≤ length old → new ≡ sets old 0 (bytes_of_all (way_words bytes bits way))
-      → (Listed.Made (count + 1) count 0 ≡ way_listed way (length old)) × (new ≡ handed_over (way_words bytes bits way) old)
+      → (made (count + 1) count 0 ≡ way_listed way (length old)) × (new ≡ handed_over (way_words bytes bits way) old)
   way_long new h e =
       let a = long-enough (way_words bytes bits way) old (32 * length way + 32) (length way + 1) (length way) (length-way_words bytes bits way) (omega arith) in
-      (ap (λ (k : ℕ). Listed.Made (k + 1) k 0) counted ∙ a.0, e ∙ a.1)
+      (ap (λ (k : ℕ). made (k + 1) k 0) counted ∙ a.0, e ∙ a.1)

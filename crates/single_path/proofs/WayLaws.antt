@@ -14,10 +14,19 @@ use Rattle.machine.specs.Parents.{parent, step_back, follow}
 use Rattle.machine.proofs.Parents.{parent_is, term}
 use Rattle.machine.proofs.Reached.{finite-reached, reached-above}
 use Rattle.machine.proofs.Runs.{at_some}
+use Rattle.std.specs.Prelude as Core
 use Rattle.shortest_distance.specs.declared.parent.Parent.{Parent}
-use Rattle.shortest_distance.specs.declared.parent.Parent.TheVariants.{By}
-use Rattle.shortest_distance.specs.ParentWords.{parent_at, parent_from}
+use Rattle.shortest_distance.specs.ParentWords.{by, parent_at, parent_from}
 use Rattle.single_path.specs.SingleWords.{on_from, way_back, Traced}
+
+-- the link and the source of a parent
+abbrev link_in : Core.Option Parent → ℕ
+link_in Core.None = 0
+link_in (Core.Some p) = p.link
+
+abbrev source_in : Core.Option Parent → ℕ
+source_in Core.None = 0
+source_in (Core.Some p) = p.source
 
 module _ (m : Machine) (c : Climbs m) where
   -- a parent leads up to its node
@@ -39,7 +48,7 @@ module _ (m : Machine) (c : Climbs m) where
     pub way-is : (f v : ℕ) → v < length m.finals → way_back work f v ≡ reverse (follow m f v)
     unfolding way_back follow
     way-is zero v h = refl
-    way-is (suc f) v h = ap (λ (p : Parent). on_from p (way_back work f)) (parents v h) ∙ go (parent m v) refl (is_at m.start v) refl (λ u k. way-is f u k)
+    way-is (suc f) v h = ap (λ (p : Core.Option Parent). on_from p (way_back work f)) (parents v h) ∙ go (parent m v) refl (is_at m.start v) refl (λ u k. way-is f u k)
       where
         go : (o : Option ℕ) → parent m v ≡ o → (b : Bool) → is_at m.start v ≡ b → ((u : ℕ) → u < length m.finals → way_back work f u ≡ reverse (follow m f u))
             → on_from (parent_from m o) (way_back work f) ≡ reverse (cond b [] (step_back m o (follow m f)))
@@ -57,13 +66,13 @@ module _ (m : Machine) (c : Climbs m) where
       among = λ v l u b e. (by-link v l u (omega arith) e).1;
     }
       where
-        by-link : (v l u : ℕ) → v < length m.finals → parent_at work v ≡ By l u → (u < v) × (16 * l + 16 ≤ length bytes)
+        by-link : (v l u : ℕ) → v < length m.finals → parent_at work v ≡ by l u → (u < v) × (16 * l + 16 ≤ length bytes)
         by-link v l u b e = go (parent m v) refl (sym (parents v b) ∙ e)
           where
-            go : (o : Option ℕ) → parent m v ≡ o → parent_from m o ≡ By l u → (u < v) × (16 * l + 16 ≤ length bytes)
+            go : (o : Option ℕ) → parent m v ≡ o → parent_from m o ≡ by l u → (u < v) × (16 * l + 16 ≤ length bytes)
             go none q w = let z : ◌≡◌ {A = ℕ} 0 1 = cc in absurd (omega arith)
             go (some k) q w =
                 let p = parent_up v k q in
-                let same : k ≡ l = cc in
-                let from : (link m k).source ≡ u = cc in
+                let same : k ≡ l = ap link_in w in
+                let from : (link m k).source ≡ u = ap source_in w in
                 (omega arith, omega arith)

@@ -1,6 +1,6 @@
 -- Mirrors the code: the one best reading in the slots of the nodes, word by word. A reader need not believe it: laws tie it to Parents of crate machine (proofs/WayBytes).
 -- Definitions only.
-use Rattle.std.specs.Prelude.{◌≡◌, false, cond, List, [], ◌∷◌, ◌++◌, ℕ, zero, suc, ◌+◌, ◌*◌, ◌≤◌, ◌<◌, eqb, ltb, length, Float}
+use Rattle.std.specs.Prelude.{◌≡◌, false, cond, List, [], ◌∷◌, ◌++◌, ℕ, zero, suc, ◌+◌, ◌*◌, ◌≤◌, ◌<◌, eqb, ltb, length, Float, Option, Some, None, Result}
 use Rattle.std.specs.Float.{binary32}
 use Rattle.std.specs.Float.Ieee.{add, lt, of_bits}
 use Rattle.std.specs.Float.Ieee as Ieee
@@ -8,11 +8,10 @@ use Rattle.sheet.specs.Words.{word}
 use Rattle.sheet.specs.Records.{mark_at, final_at}
 use Rattle.distance.specs.Held.{weight_in}
 use Rattle.shortest_distance.specs.declared.parent.Parent.{Parent}
-use Rattle.shortest_distance.specs.declared.parent.Parent.TheVariants.{None, By}
-use Rattle.shortest_distance.specs.ParentWords.{parent_at}
+use Rattle.shortest_distance.specs.ParentWords.{by, parent_at}
 use Rattle.shortest_distance.specs.NodeSlots.{distance_at}
+use Rattle.sheet.specs.declared.refusal.Refusal.{Refusal}
 use Rattle.list_answer.specs.declared.Listed.{Listed}
-use Rattle.single_path.specs.declared.single.End.{End}
 use Rattle.list_answer.specs.ListAnswer.{listed_by}
 
 -- ---- the best end
@@ -23,31 +22,31 @@ total_value bytes links work v =
 
 -- An end, or none, and its total.
 pub record Best : Type 0 where
-  pub end : End
+  pub end : Option ℕ
   pub least : Float
 
 -- of the first n nodes, the lowest that has the least total, where that is finite
 unfoldable pub best_below : List ℕ → ℕ → List ℕ → ℕ → Best
-best_below bytes links work zero = record { end = End.None; least = Ieee.inf false }
+best_below bytes links work zero = record { end = None; least = Ieee.inf false }
 best_below bytes links work (suc v) =
     let b = best_below bytes links work v in
-    cond (lt (total_value bytes links work v) b.least) (record { end = End.At v; least = total_value bytes links work v }) b
+    cond (lt (total_value bytes links work v) b.least) (record { end = Some v; least = total_value bytes links work v }) b
 
 -- ---- the way back from the end
 -- Parents' sources fall from a node on.
 pub record Falls (work : List ℕ) (end : ℕ) : Type 0 where
   pub slots : 8 * end + 8 ≤ length work
-  pub sources : (v l u : ℕ) → v ≤ end → parent_at work v ≡ By l u → u < v
+  pub sources : (v l u : ℕ) → v ≤ end → parent_at work v ≡ by l u → u < v
 
 -- And each parent is a link of the sheet.
 pub record Traced (bytes work : List ℕ) (end : ℕ) : Type 0 where
   pub falls : Falls work end
-  pub among : (v l u : ℕ) → v ≤ end → parent_at work v ≡ By l u → 16 * l + 16 ≤ length bytes
+  pub among : (v l u : ℕ) → v ≤ end → parent_at work v ≡ by l u → 16 * l + 16 ≤ length bytes
 
 -- the parents' links from v back, the last first; v steps are enough
-abbrev pub on_from : Parent → (ℕ → List ℕ) → List ℕ
+abbrev pub on_from : Option Parent → (ℕ → List ℕ) → List ℕ
 on_from None back = []
-on_from (By l u) back = l ∷ back u
+on_from (Some p) back = p.link ∷ back p.source
 
 unfoldable pub way_back : List ℕ → ℕ → ℕ → List ℕ
 way_back work zero v = []
@@ -83,5 +82,5 @@ abbrev pub way_from : List ℕ → ℕ → List ℕ → ℕ → List ℕ
 way_from bytes links work end = way_words bytes (final_at bytes links end) (way_back work end end)
 
 -- what is answered to an area of so many bytes: a way takes 32 bytes a link and 32 more
-abbrev pub way_listed : List ℕ → ℕ → Listed
+abbrev pub way_listed : List ℕ → ℕ → Result Listed Refusal
 way_listed way room = listed_by (ltb room (32 * length way + 32)) (length way + 1) (length way) 0

@@ -16,9 +16,5 @@ pub fn clear(work: &mut [u32], slots: u32)
     ensures { work.new ≡ cleared slots work.old }
 {
     let end = SLOT * (slots as usize);
-    let mut i = 0usize;
-    while i < end {
-        work[i] = 0;
-        i += 1;
-    }
+    work[..end].fill(0);
 }

@@ -1,4 +1,4 @@
+pub mod Shuffles
 pub mod Orders
 pub mod Merging
 pub mod Parts
-pub mod Steps

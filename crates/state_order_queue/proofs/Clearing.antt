@@ -8,8 +8,7 @@ use native.Mathlib.Omega.{arith}
 use lib.ListN.{length, get_or, set, replicate, length-set, length-replicate, get_or-replicate}
 use lib.Seq.{get_or-set_other, ext_get_or}
 use Rattle.tropical_weight.specs.Limits.{node_limit}
-use Rattle.state_order_queue.specs.declared.Back.{Back}
-use Rattle.state_order_queue.specs.declared.Back.TheVariants.{None, At}
+use Rattle.std.specs.Prelude.{Option, None, Some}
 use Rattle.state_order_queue.specs.declared.Queue.{Queue}
 use Rattle.state_order_queue.specs.Queues.{holds, is_valid, emptied, cleared_from, cleared_inside, cleared}
 use Rattle.state_order_queue.specs.Conditions.{Accepted}
@@ -48,9 +47,9 @@ module _ (q : Queue) (full : length q.flags ≡ node_limit) (a : Accepted q) whe
   all-clear : (xs : List Bool) → length xs ≡ node_limit → ((v : ℕ) → v < node_limit → get_or xs v false ≡ false) → xs ≡ replicate node_limit false
   all-clear xs n h = ext_get_or false xs (replicate node_limit false) (n ∙ sym (length-replicate node_limit false)) (λ v l. let m : v < node_limit = omega (arith, n) in h v m ∙ sym (get_or-replicate node_limit v false false m))
 
-  inside-clear : (back : Back) → q.back ≡ back → cleared_inside q.front back q.flags ≡ replicate node_limit false
+  inside-clear : (back : Option ℕ) → q.back ≡ back → cleared_inside q.front back q.flags ≡ replicate node_limit false
   inside-clear None e = all-clear q.flags full (λ v l. a.none-set v e l)
-  inside-clear (At b) e = all-clear _ (cleared-length (b + 1 - q.front) q.front q.flags ∙ full) (λ v l. go v l (holds q v) refl)
+  inside-clear (Some b) e = all-clear _ (cleared-length (b + 1 - q.front) q.front q.flags ∙ full) (λ v l. go v l (holds q v) refl)
     where
       go : (v : ℕ) → v < node_limit → (t : Bool) → holds q v ≡ t → get_or (cleared_from (b + 1 - q.front) q.front q.flags) v false ≡ false
       go v l true h = let i = a.inside b v e l h in cleared_at (b + 1 - q.front) q.front q.flags v i.0 (omega arith)

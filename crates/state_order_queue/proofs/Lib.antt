@@ -3,4 +3,4 @@ pub mod Records
 pub mod Accepts
 pub mod Sets
 pub mod Clearing
-pub mod Answered
+pub mod Calls

@@ -11,8 +11,7 @@ use lib.Seq.{set-get_or}
 use lib.ListN.{length, get_or, set, length-set, length-replicate, get_or-replicate, get_or-eq_default}
 use borrow.Author.Tests.{le-ltb, ltb-true, ltb-false, eqb-true, eq-eqb, ne_eqb}
 use Rattle.tropical_weight.specs.Limits.{node_limit}
-use Rattle.state_order_queue.specs.declared.Back.{Back}
-use Rattle.state_order_queue.specs.declared.Back.TheVariants.{None, At}
+use Rattle.std.specs.Prelude.{Option, None, Some}
 use Rattle.state_order_queue.specs.declared.Queue.{Queue}
 use Rattle.state_order_queue.specs.Queues.{first_set, holds, empty_from, is_empty, is_valid, emptied, front_with, back_with, enqueued, dequeued}
 use Rattle.state_order_queue.specs.Conditions.{Accepted}
@@ -55,7 +54,7 @@ module _ (q : Queue) (s : ℕ) where
 
     -- new ends that the node is one of or lies between
     ends-kept : (f b : ℕ) → f ≤ s → s ≤ b → b < node_limit → (f ≡ s) ⊎ (holds q f ≡ true) → (b ≡ s) ⊎ (holds q b ≡ true)
-        → ((v : ℕ) → v < node_limit → holds q v ≡ true → (f ≤ v) × (v ≤ b)) → Accepted (record { front = f; back = At b; flags = set q.flags s true })
+        → ((v : ℕ) → v < node_limit → holds q v ≡ true → (f ≤ v) × (v ≤ b)) → Accepted (record { front = f; back = Some b; flags = set q.flags s true })
     ends-kept f b fs sb bl ff bb between = record {
       front_fits = omega arith;
       back_fits = λ c e. rw (sym (at_same e)) bl;
@@ -77,8 +76,8 @@ module _ (q : Queue) (s : ℕ) where
     pub enqueued-accepted : Accepted q → Accepted (enqueued q s)
     enqueued-accepted a = go q.back refl
       where
-        pick : (b : ℕ) → q.back ≡ At b → (t u w : Bool) → ltb b q.front ≡ t → ltb s q.front ≡ u → ltb b s ≡ w
-            → Accepted (record { front = cond (t || u) s q.front; back = At (cond (t || w) s b); flags = set q.flags s true })
+        pick : (b : ℕ) → q.back ≡ Some b → (t u w : Bool) → ltb b q.front ≡ t → ltb s q.front ≡ u → ltb b s ≡ w
+            → Accepted (record { front = cond (t || u) s q.front; back = Some (cond (t || w) s b); flags = set q.flags s true })
         pick b e true u w h k m = ends-kept s s (omega arith) (omega arith) small (inl refl) (inl refl) (λ v l y. let i = a.inside b v e l y in absurd (omega (arith, ltb-true b q.front h)))
         pick b e false true true h k m = absurd (omega (arith, ltb-false b q.front h, ltb-true s q.front k, ltb-true b s m))
         pick b e false true false h k m =
@@ -91,9 +90,9 @@ module _ (q : Queue) (s : ℕ) where
             let l = ltb-false b q.front h in
             ends-kept q.front b (ltb-false s q.front k) (ltb-false b s m) (a.back_fits b e) (inr (a.first-set b e l)) (inr (a.last_set b e l)) (λ v i y. a.inside b v e i y)
 
-        go : (back : Back) → q.back ≡ back → Accepted (record { front = front_with q.front back s; back = At (back_with q.front back s); flags = set q.flags s true })
+        go : (back : Option ℕ) → q.back ≡ back → Accepted (record { front = front_with q.front back s; back = Some (back_with q.front back s); flags = set q.flags s true })
         go None e = ends-kept s s (omega arith) (omega arith) small (inl refl) (inl refl) (λ v l y. clash (a.none-set v e l) y)
-        go (At b) e = pick b e (ltb b q.front) (ltb s q.front) (ltb b s) refl refl refl
+        go (Some b) e = pick b e (ltb b q.front) (ltb s q.front) (ltb b s) refl refl refl
 
     pub enqueued-valid : is_valid q ≡ true → is_valid (enqueued q s) ≡ true
     enqueued-valid h = (valid-exactly (enqueued q s)).1 (enqueued-accepted ((valid-exactly q).0 h))
@@ -108,21 +107,21 @@ module _ (q : Queue) (s : ℕ) where
       same : set q.flags s true ≡ q.flags
       same = ap (λ (t : Bool). set q.flags s t) (sym in-set) ∙ set-get_or q.flags s false
 
-      go : (back : Back) → q.back ≡ back → enqueued q s ≡ q
+      go : (back : Option ℕ) → q.back ≡ back → enqueued q s ≡ q
       go None e = clash (a.none-set s e small) in-set
-      go (At b) e =
+      go (Some b) e =
           let i = a.inside b s e small in-set in
           let above : ltb b q.front ≡ false = le-ltb b q.front (omega (arith, i.0, i.1)) in
           let low : ltb s q.front ≡ false = le-ltb s q.front i.0 in
           let high : ltb b s ≡ false = le-ltb b s i.1 in
-          (λ j. record { front = front_with q.front (e j) s; back = At (back_with q.front (e j) s); flags = same j })
-          ∙ (λ j. record { front = cond (above j || low j) s q.front; back = At (cond (above j || high j) s b); flags = q.flags })
+          (λ j. record { front = front_with q.front (e j) s; back = Some (back_with q.front (e j) s); flags = same j })
+          ∙ (λ j. record { front = cond (above j || low j) s q.front; back = Some (cond (above j || high j) s b); flags = q.flags })
           ∙ λ j. record { front = q.front; back = sym e j; flags = q.flags }
 
 -- ---- a node taken out
-nonempty-at : (front : ℕ) (back : Back) → empty_from front back ≡ false → (b : ℕ) × (back ≡ At b) × (front ≤ b)
+nonempty-at : (front : ℕ) (back : Option ℕ) → empty_from front back ≡ false → (b : ℕ) × (back ≡ Some b) × (front ≤ b)
 nonempty-at front None h = clash h refl
-nonempty-at front (At b) h = (b, refl, ltb-false b front h)
+nonempty-at front (Some b) h = (b, refl, ltb-false b front h)
 
 module _ (q : Queue) where
   pub dequeued-empty : is_empty q ≡ true → dequeued q ≡ q
@@ -138,14 +137,14 @@ module _ (q : Queue) (full : length q.flags ≡ node_limit) where
       go true e = ltb-true v node_limit e
       go false e = let l = ltb-false v node_limit e in clash (get_or-eq_default q.flags false {n = v} (omega arith)) h
 
-  module _ (a : Accepted q) (b : ℕ) (e : q.back ≡ At b) (l : q.front ≤ b) where
+  module _ (a : Accepted q) (b : ℕ) (e : q.back ≡ Some b) (l : q.front ≤ b) where
     front-in : q.front < length q.flags
     front-in = omega (arith, a.back_fits b e)
 
     rest-holds : (v : ℕ) → get_or (set q.flags q.front false) v false ≡ not (eqb v q.front) && holds q v
     rest-holds v = flag-taken q.flags q.front v front-in
 
-    rest-accepted : Accepted (record { front = first_set (b + 1 - q.front) q.front (set q.flags q.front false); back = At b; flags = set q.flags q.front false })
+    rest-accepted : Accepted (record { front = first_set (b + 1 - q.front) q.front (set q.flags q.front false); back = Some b; flags = set q.flags q.front false })
     rest-accepted = record {
       front_fits = omega (arith, a.back_fits b e, bounds);
       back_fits = λ c d. rw (sym (at_same d)) (a.back_fits b e);
@@ -201,9 +200,9 @@ module _ (q : Queue) (full : length q.flags ≡ node_limit) where
         a : Accepted q
         a = (valid-exactly q).0 valid
 
-        out : (back : Back) → q.back ≡ back → empty_from q.front back ≡ true → (v : ℕ) → holds q v ≡ true → ⊥
+        out : (back : Option ℕ) → q.back ≡ back → empty_from q.front back ≡ true → (v : ℕ) → holds q v ≡ true → ⊥
         out None e h v k = clash (a.none-set v e (held_small v k)) k
-        out (At b) e h v k = let i = a.inside b v e (held_small v k) k in omega (arith, ltb-true b q.front h)
+        out (Some b) e h v k = let i = a.inside b v e (held_small v k) k in omega (arith, ltb-true b q.front h)
 
         none : is_empty q ≡ true → (v : ℕ) → (t : Bool) → holds q v ≡ t → holds q v ≡ false
         none h v true k = absurd (out q.back refl h v k)

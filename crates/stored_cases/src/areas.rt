@@ -11,32 +11,20 @@ pub const RESULT_MARK: u8 = 0xa5;
 pub fn result_left(res: &[u8], bytes: &[u8]) -> bool
     ensures { result ≡ true → ResultLeft res.now bytes.now }
 {
-    let mut at = 0usize;
-    while at < res.len() {
-        let byte = if at < bytes.len() {
-            bytes[at]
-        } else {
-            RESULT_MARK
-        };
-        if res[at] != byte {
-            return false;
-        }
-        at += 1;
+    match res.split_at_checked(bytes.len()) {
+        Some((used, rest)) => used == bytes && rest.iter().all(|byte| *byte == RESULT_MARK),
+        None => false,
     }
-    bytes.len() <= at
 }
 
 // Whether so many words of the work area are zero, and the others what they were before.
 pub fn work_left(work: &[u32], zeros: usize) -> bool
     ensures { result ≡ true → WorkLeft work.now zeros }
 {
-    let mut at = 0usize;
-    while at < work.len() {
-        let word = if at < zeros { 0 } else { WORK_MARK };
-        if work[at] != word {
-            return false;
+    match work.split_at_checked(zeros) {
+        Some((used, rest)) => {
+            used.iter().all(|word| *word == 0) && rest.iter().all(|word| *word == WORK_MARK)
         }
-        at += 1;
+        None => false,
     }
-    zeros <= at
 }

@@ -1,54 +1,85 @@
 // Bytes in hexadecimal (-: none): *bbcccccc repeats the last bb of them over cccccc bytes, and +bbcccccc
 // too, with the last word one higher each time.
-ghost use Rattle.std.specs.Prelude.{◌+◌, ◌≤◌, ◌<◌, length};
+ghost use Rattle.std.specs.Prelude.{◌+◌, ◌≤◌, ◌<◌, length, IfSome};
 ghost use Rattle.io.specs.Counts.{IsPrefixLen};
 
-use crate::hex::{digit, pair, wide};
+use crate::hex::byte_of;
 
-// Puts a byte behind the first n, and counts them.
-fn put_one(out: &mut [u8], n: usize, value: usize) -> usize
+// What a text puts behind the bytes that are there: a byte, or `more` bytes by the last `back` of them.
+#[derive(Clone, Copy)]
+enum Part {
+    Byte(u8),
+    Again { back: usize, more: usize },
+    Raised { back: usize, more: usize },
+}
+
+impl Part {
+    // The part that a text begins with.
+    fn of(text: &[u8]) -> Option<Part>
+        ensures { IfSome result (λ _. 0 < length text.now) }
+    {
+        let (mark, rest) = text.split_first()?;
+        if *mark != b'*' && *mark != b'+' {
+            return Some(Part::Byte(byte_of(text)?));
+        }
+        let back = byte_of(rest)? as usize;
+        let high = byte_of(rest.get(2..)?)?;
+        let mid = byte_of(rest.get(4..)?)?;
+        let low = byte_of(rest.get(6..)?)?;
+        let more = u32::from_be_bytes([0, high, mid, low]) as usize;
+        Some(if *mark == b'+' {
+            Part::Raised { back, more }
+        } else {
+            Part::Again { back, more }
+        })
+    }
+
+    // How many characters it has.
+    fn size(self) -> usize
+        ensures { (0 < result) × (result ≤ 9) }
+    {
+        match self {
+            Part::Byte(_) => 2,
+            _ => 9,
+        }
+    }
+
+    // Puts it behind the first n bytes, where there is room, and counts them.
+    fn put(self, out: &mut [u8], n: usize) -> usize
+        requires { n ≤ length out.old }
+        ensures { result ≤ length out.old }
+    {
+        match self {
+            Part::Byte(value) => put_one(out, n, value),
+            Part::Again { back, more } => put_again(out, n, back, more),
+            Part::Raised { back, more } => put_raised(out, n, back, more),
+        }
+    }
+}
+
+// Puts a byte behind the first n, and counts them. The area is the caller's and the count is what is
+// handed back, so that the two stay apart.
+fn put_one(out: &mut [u8], n: usize, value: u8) -> usize
     requires { n ≤ length out.old }
     ensures { result ≤ length out.old }
 {
-    if 255 < value {
-        return n;
-    }
     if n == out.len() {
         return n;
     }
-    out[n] = value as u8;
+    out[n] = value;
     n + 1
 }
 
-// Puts each byte from an index up to another as the one that stands so many before it.
-fn repeat(out: &mut [u8], from: usize, to: usize, back: usize)
-    requires { (back ≤ from) × (from ≤ to) × (to ≤ length out.old) }
-{
-    let mut at = from;
-    while at < to {
-        out[at] = out[at - back];
-        at += 1;
-    }
-}
-
-// Makes the two bytes at an index, as a number, one higher than those that stand so many before.
-fn raise(out: &mut [u8], at: usize, back: usize)
-    requires { (back ≤ at) × (at + 1 < length out.old) }
-{
-    let low = wide(out[at - back]);
-    let high = wide(out[at - back + 1]);
-    let value = 256 * high + low + 1;
-    out[at] = (value % 256) as u8;
-    out[at + 1] = (value / 256 % 256) as u8;
-}
-
-// Raises the last word of each part of so many bytes, from an index up to another.
+// Raises the last word of each part of so many bytes, from an index up to another: its low half is one
+// higher than in the part before. The steps are parts, so that no `for` counts them.
 fn raise_each(out: &mut [u8], from: usize, to: usize, back: usize)
     requires { (4 ≤ back) × (back ≤ from) × (from ≤ to) × (to ≤ length out.old) }
 {
     let mut at = from;
     while back <= to - at {
-        raise(out, at + back - 4, back);
+        let place = at + back - 4;
+        let before = u16::from_le_bytes([out[place - back], out[place - back + 1]]);
+        out[place..place + 2].copy_from_slice(&before.wrapping_add(1).to_le_bytes());
         at += back;
     }
 }
@@ -59,13 +90,12 @@ fn put_again(out: &mut [u8], n: usize, back: usize, more: usize) -> usize
     requires { n ≤ length out.old }
     ensures { (n ≤ result) × (result ≤ length out.old) }
 {
-    if n < back {
+    if n < back || out.len() - n < more {
         return n;
     }
-    if out.len() - n < more {
-        return n;
+    for at in n..n + more {
+        out[at] = out[at - back];
     }
-    repeat(out, n, n + more, back);
     n + more
 }
 
@@ -74,10 +104,7 @@ fn put_raised(out: &mut [u8], n: usize, back: usize, more: usize) -> usize
     requires { n ≤ length out.old }
     ensures { result ≤ length out.old }
 {
-    if back < 4 {
-        return n;
-    }
-    if n < back {
+    if back < 4 || n < back {
         return n;
     }
     let end = put_again(out, n, back, more);
@@ -85,52 +112,18 @@ fn put_raised(out: &mut [u8], n: usize, back: usize, more: usize) -> usize
     end
 }
 
-// Puts what the text has at an index behind the first n bytes, and counts them.
-fn put(text: &[u8], at: usize, out: &mut [u8], n: usize) -> usize
-    requires { (at < length text.now) × (n ≤ length out.old) }
-    ensures { result ≤ length out.old }
-{
-    let c = text[at];
-    if digit(c) < 16 {
-        return put_one(out, n, pair(text, at));
-    }
-    let back = pair(text, at + 1);
-    let more = 65536 * pair(text, at + 3) + 256 * pair(text, at + 5) + pair(text, at + 7);
-    if c == b'+' {
-        return put_raised(out, n, back, more);
-    }
-    put_again(out, n, back, more)
-}
-
-// How many characters what begins with this one has, 0 where no bytes begin so.
-fn size(c: u8) -> usize
-    ensures { result ≤ 9 }
-{
-    if digit(c) < 16 {
-        return 2;
-    }
-    if c == b'*' {
-        return 9;
-    }
-    if c == b'+' {
-        return 9;
-    }
-    0
-}
-
-// Puts the bytes that the text has from an index on into out, and counts them.
-pub fn bytes_of(text: &[u8], from: usize, out: &mut [u8]) -> usize
+// Puts the bytes that a text begins with into out, and counts them.
+pub fn bytes_of(text: &[u8], out: &mut [u8]) -> usize
     ensures { IsPrefixLen result out.new }
 {
     let mut n = 0usize;
-    let mut at = from;
-    while at < text.len() {
-        let s = size(text[at]);
-        if s == 0 {
-            return n;
-        }
-        n = put(text, at, out, n);
-        at += s;
+    let mut rest = text;
+    while let Some(part) = Part::of(rest) {
+        n = part.put(out, n);
+        let Some(after) = rest.get(part.size()..) else {
+            break;
+        };
+        rest = after;
     }
     n
 }

@@ -13,7 +13,8 @@ pub fn zeros<const N: usize>() -> [u8; N]
     [0; N]
 }
 
-// Reads until the buffer is full or the input ends, and counts the bytes at the buffer's start.
+// Reads until the buffer is full or the input ends, and counts the bytes at the buffer's start. The
+// library's calls fill a buffer whole or take memory, so that this loop stays.
 pub fn read_full(input: &mut impl Read, buf: &mut [u8]) -> io::Result<usize>
     ensures { IfOk result (λ n. IsPrefixLen n buf.new) }
 {

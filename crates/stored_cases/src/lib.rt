@@ -6,4 +6,5 @@ pub mod bytes;
 mod hex;
 pub mod input;
 pub mod lines;
+pub mod replay;
 pub mod tally;

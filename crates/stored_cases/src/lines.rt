@@ -1,64 +1,44 @@
-// Lines, their fields with a space between, and the decimal numbers in them.
-ghost use Rattle.std.specs.Prelude.{◌≤◌, length};
+// The fields of a line, with a space between, and the decimal numbers in them.
+ghost use Rattle.std.specs.Prelude.{◌≤◌};
 
-use crate::hex::{digit, wide};
+use crate::bytes::bytes_of;
 
-// Where the line that begins at an index ends.
-pub fn line_end(text: &[u8], from: usize) -> usize
-    requires { from ≤ length text.now }
-    ensures { (from ≤ result) × (result ≤ length text.now) }
-{
-    let mut at = from;
-    while at < text.len() {
-        if text[at] == b'\n' {
-            return at;
-        }
-        at += 1;
-    }
-    at
+// A line of stored cases.
+#[derive(Clone, Copy)]
+pub struct Line<'a> {
+    pub text: &'a [u8],
 }
 
-// Where the field behind so many spaces begins.
-pub fn field(line: &[u8], spaces: u8) -> usize
-    ensures { result ≤ length line.now }
-{
-    let mut left = spaces;
-    let mut at = 0usize;
-    while at < line.len() {
-        if left == 0 {
-            return at;
-        }
-        if line[at] == b' ' {
-            left -= 1;
-        }
-        at += 1;
-    }
-    at
-}
-
-// The decimal number that begins at an index, cut off behind its sixth digit.
-fn decimal(line: &[u8], from: usize) -> usize
+// The decimal number that a field begins with, cut off behind its sixth digit.
+fn decimal(field: &[u8]) -> usize
     ensures { result ≤ 999999 }
 {
     let mut n = 0usize;
-    let mut at = from;
-    while at < line.len() {
-        let d = digit(line[at]);
-        if 9 < d {
-            return n;
+    for c in field {
+        match char::from(*c).to_digit(10) {
+            Some(digit) if n <= 99999 => n = 10 * n + digit as usize,
+            _ => return n,
         }
-        if 99999 < n {
-            return n;
-        }
-        n = 10 * n + wide(d);
-        at += 1;
     }
     n
 }
 
-// The decimal number in the field behind so many spaces.
-pub fn number(line: &[u8], spaces: u8) -> usize
-    ensures { result ≤ 999999 }
-{
-    decimal(line, field(line, spaces))
+impl<'a> Line<'a> {
+    // The field behind so many spaces, none where there are fewer.
+    pub fn field(&self, spaces: usize) -> &'a [u8] {
+        self.text.split(|c| *c == b' ').nth(spaces).unwrap_or(&[])
+    }
+
+    // The decimal number in the field behind so many spaces.
+    pub fn number(&self, spaces: usize) -> usize
+        ensures { result ≤ 999999 }
+    {
+        decimal(self.field(spaces))
+    }
+
+    // The bytes in the field behind so many spaces, which are put into a buffer.
+    pub fn bytes<'b>(&self, spaces: usize, out: &'b mut [u8]) -> &'b [u8] {
+        let n = bytes_of(self.field(spaces), out);
+        &out[..n]
+    }
 }

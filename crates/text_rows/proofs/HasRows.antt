@@ -2,7 +2,7 @@
 use mathlib.Core.Path.{◌≡◌, refl, sym, ap, ◌∙◌, subst}
 use mathlib.Core.Logic.{◌⊎◌, inl, inr}
 use mathlib.Core.Bool.{Bool, true, false, not, ◌&&◌, ◌||◌, cond, false≢true, true≢false}
-use mathlib.Core.Option.{Option, none, some}
+use Rattle.std.proofs.Common.{Option, None, Some}
 use mathlib.Core.List.{List, [], ◌∷◌, ◌++◌, flat_map}
 use Prim.Native.Nat.{ℕ, zero, suc, ◌+◌, ◌-◌, ◌*◌, ◌≤◌, ◌<◌}
 use native.Mathlib.Omega.{arith}
@@ -132,10 +132,10 @@ module _ (rs : List Row) (rows : 1 ≤ length rs) where
 
       go : (qs : List Row) → 1 ≤ length qs → not (eqb (count_from (first_node qs) qs) 0) || eqb (get_or (mark_fields (first_node qs) qs) 0 0) 1 ≡ true
       go [] l = absurd (omega arith)
-      go (link s t i o w ∷ qs) l = ap (λ (b : Bool). not b || eqb (get_or (mark_fields s (link s t i o w ∷ qs)) 0 0) 1) (ne_eqb (count_from s (link s t i o w ∷ qs)) 0 (λ z. some z))
+      go (link s t i o w ∷ qs) l = ap (λ (b : Bool). not b || eqb (get_or (mark_fields s (link s t i o w ∷ qs)) 0 0) 1) (ne_eqb (count_from s (link s t i o w ∷ qs)) 0 (λ z. Some z))
         where
-          some : count_from s (link s t i o w ∷ qs) ≡ 0 → ⊥
-          some z = unfold count_from in omega (arith, z, ap {B = ℕ} (λ (b : Bool). cond b 1 0) (eq-eqb s s refl))
+          Some : count_from s (link s t i o w ∷ qs) ≡ 0 → ⊥
+          Some z = unfold count_from in omega (arith, z, ap {B = ℕ} (λ (b : Bool). cond b 1 0) (eq-eqb s s refl))
       go (final v w ∷ qs) l = at (not (eqb (count_from v (final v w ∷ qs)) 0)) marked
         where
           marked : get_or (mark_fields v (final v w ∷ qs)) 0 0 ≡ 1
@@ -194,36 +194,36 @@ some-row (c ∷ cs) e = go (is_newline c) (rows_of cs)
     go false (x ∷ R) = omega arith
 
 unfoldable told : Option (List Row) → ℕ
-told none = 0
-told (some x) = 1
+told None = 0
+told (Some x) = 1
 
-none-some : (rs : List Row) → none ≡ some rs → ⊥
+none-some : (rs : List Row) → None ≡ Some rs → ⊥
 unfolding told
 none-some rs e = omega (arith, ap told e)
 
-rows-some : (xs : List (List ℕ)) (rs : List Row) → 1 ≤ length xs → all_rows xs ≡ some rs → 1 ≤ length rs
+rows-some : (xs : List (List ℕ)) (rs : List Row) → 1 ≤ length xs → all_rows xs ≡ Some rs → 1 ≤ length rs
 unfolding all_rows
 rows-some [] rs l e = absurd (omega arith)
 rows-some (x ∷ xs) rs l e = go (row_of x) (all_rows xs) e
   where
-    go : (a : Option Row) (b : Option (List Row)) → and_then a (λ r. and_then b (λ rs. some (r ∷ rs))) ≡ some rs → 1 ≤ length rs
-    go none b e = absurd (none-some rs e)
-    go (some r) none e = absurd (none-some rs e)
-    go (some r) (some qs) e = omega (arith, ap (λ (o : Option (List Row)). length (or_no_rows o)) e)
+    go : (a : Option Row) (b : Option (List Row)) → and_then a (λ r. and_then b (λ rs. Some (r ∷ rs))) ≡ Some rs → 1 ≤ length rs
+    go None b e = absurd (none-some rs e)
+    go (Some r) None e = absurd (none-some rs e)
+    go (Some r) (Some qs) e = omega (arith, ap (λ (o : Option (List Row)). length (or_no_rows o)) e)
 
-read_some : (text : List ℕ) (rs : List Row) → read_rows text ≡ some rs → 1 ≤ length rs
+read_some : (text : List ℕ) (rs : List Row) → read_rows text ≡ Some rs → 1 ≤ length rs
 unfolding read_rows
 read_some text rs e = go (ended text) refl (all_rows (rows_of text)) refl e
   where
-    go : (b : Bool) → ended text ≡ b → (o : Option (List Row)) → all_rows (rows_of text) ≡ o → cond b (and_then o (λ qs. cond (finals_once qs) (some qs) none)) none ≡ some rs → 1 ≤ length rs
+    go : (b : Bool) → ended text ≡ b → (o : Option (List Row)) → all_rows (rows_of text) ≡ o → cond b (and_then o (λ qs. cond (finals_once qs) (Some qs) None)) None ≡ Some rs → 1 ≤ length rs
     go false q o r e = absurd (none-some rs e)
-    go true q none r e = absurd (none-some rs e)
-    go true q (some qs) r e = once (finals_once qs) e
+    go true q None r e = absurd (none-some rs e)
+    go true q (Some qs) r e = once (finals_once qs) e
       where
-        once : (c : Bool) → cond c (some qs) none ≡ some rs → 1 ≤ length rs
+        once : (c : Bool) → cond c (Some qs) None ≡ Some rs → 1 ≤ length rs
         once false e = absurd (none-some rs e)
         once true e = omega (arith, rows-some (rows_of text) qs (some-row text q) r, ap (λ (o : Option (List Row)). length (or_no_rows o)) e)
 
 -- What a text says has rows again.
-pub text-has-rows : (text : List ℕ) (rs : List Row) → read_rows text ≡ some rs → has_rows (parts_of_rows rs) ≡ true
+pub text-has-rows : (text : List ℕ) (rs : List Row) → read_rows text ≡ Some rs → has_rows (parts_of_rows rs) ≡ true
 text-has-rows text rs e = has-rows rs (read_some text rs e)

@@ -2,7 +2,7 @@
 -- or are whole numbers of units within the limit have fields that pass. Assumes nothing.
 use mathlib.Core.Path.{◌≡◌, refl, sym, ap, ◌∙◌, subst}
 use mathlib.Core.Bool.{Bool, true, false, not, ◌&&◌, ◌||◌, cond}
-use mathlib.Core.Option.{Option, none, some}
+use Rattle.std.proofs.Common.{Option, None, Some}
 use mathlib.Core.List.{List, [], ◌∷◌, ◌++◌, flat_map}
 use Prim.Native.Nat.{ℕ, zero, suc, ◌+◌, ◌*◌, ◌/◌, ◌%◌, ◌^◌, ◌≤◌, ◌<◌}
 use native.Mathlib.Omega.{arith}
@@ -225,7 +225,7 @@ module _ (rs : List Row) where
   verdict-is false e = refl
 
   -- 1 and 21 are the writer's; 4 is the text's, whose weights need not be whole numbers of units
-  pub number_is : (room : ℕ) → number_by (some rs) room ≡ cond (fields_hold rs && not (weights_pass rs)) 4 (write_number p room)
+  pub number_is : (room : ℕ) → number_by (Some rs) room ≡ cond (fields_hold rs && not (weights_pass rs)) 4 (write_number p room)
   unfolding write_number
   number_is room = go (fields_hold rs) refl (weights_pass rs) refl
     where
@@ -239,16 +239,16 @@ module _ (rs : List Row) where
 
 -- ---- the number of a text: 8 where it has no rows, 4 where a weight does not pass, else the writer's for the rows' parts
 abbrev pub number_of_rows : Option (List Row) → ℕ → ℕ
-number_of_rows none room = 8
-number_of_rows (some rs) room = cond (fields_hold rs && not (weights_pass rs)) 4 (write_number (parts_of_rows rs) room)
+number_of_rows None room = 8
+number_of_rows (Some rs) room = cond (fields_hold rs && not (weights_pass rs)) 4 (write_number (parts_of_rows rs) room)
 
 pub rows-number : (text : List ℕ) (room : ℕ) → rows_number text room ≡ number_of_rows (read_rows text) room
 unfolding rows_number
 rows-number text room = go (read_rows text)
   where
     go : (r : Option (List Row)) → number_by r room ≡ number_of_rows r room
-    go none = refl
-    go (some rs) = number_is rs room
+    go None = refl
+    go (Some rs) = number_is rs room
 
 -- The writer's number alone is not enough: the field of a weight off the grid is that of the units it is cut to. '0 0.3': 4, and 0 by the parts.
 unfoldable off-grid : List ℕ

@@ -1,7 +1,7 @@
 -- The tests that come before the one for room decide alone, whatever the room: a measured length is the least that is enough. Assumes nothing.
 use mathlib.Core.Path.{◌≡◌, refl, sym, ap}
 use mathlib.Core.Bool.{Bool, true, false, not, cond}
-use mathlib.Core.Option.{Option, none, some}
+use Rattle.std.proofs.Common.{Option, None, Some}
 use mathlib.Core.List.{List}
 use Prim.Native.Nat.{ℕ}
 use native.Mathlib.Omega.{arith}
@@ -26,8 +26,8 @@ unfolding rows_number
 rows-in-room text room = go (read_rows text)
   where
     go : (o : Option (List Row)) → number_by o room ≡ in_room (number_by o (length_of (or_no_rows o))) (length_of (or_no_rows o)) room
-    go none = refl
-    go (some rs) = by (fields_hold rs) (weights_pass rs)
+    go None = refl
+    go (Some rs) = by (fields_hold rs) (weights_pass rs)
       where
         by : (b c : Bool) → cond (not b) 1 (cond (not c) 4 (cond (ltb room (length_of rs)) 21 0)) ≡ in_room (cond (not b) 1 (cond (not c) 4 (cond (ltb (length_of rs) (length_of rs)) 21 0))) (length_of rs) room
         by false c = refl

@@ -1,7 +1,7 @@
 -- The numbers of rows that are read are 32-bit, and so are the words of their sheet. Assumes nothing.
 use mathlib.Core.Path.{◌≡◌, refl, sym, subst}
 use mathlib.Core.Bool.{Bool, true, false, cond}
-use mathlib.Core.Option.{Option, none, some}
+use Rattle.std.proofs.Common.{Option, None, Some}
 use mathlib.Core.List.{List, [], ◌∷◌, ◌++◌, flat_map}
 use Prim.Native.Nat.{ℕ, zero, suc, ◌+◌, ◌^◌, ◌≤◌, ◌<◌}
 use native.Mathlib.Omega.{arith}
@@ -26,71 +26,71 @@ abbrev pub AllFit : List Row → Type 0
 AllFit [] = Unit {0}
 AllFit (r ∷ rs) = RowFits r × AllFit rs
 
-number_fits : (f : List ℕ) (n : ℕ) → number_of f ≡ some n → n < 2 ^ 32
+number_fits : (f : List ℕ) (n : ℕ) → number_of f ≡ Some n → n < 2 ^ 32
 unfolding number_of
 number_fits f n e = go (digits_of f) e
   where
-    go : (o : Option ℕ) → and_then o (λ m. cond (ltb m (2 ^ 32)) (some m) none) ≡ some n → n < 2 ^ 32
-    go none e = let z : ◌≡◌ {A = ℕ} 0 1 = cc in absurd (omega arith)
-    go (some m) e = by (ltb m (2 ^ 32)) refl e
+    go : (o : Option ℕ) → and_then o (λ m. cond (ltb m (2 ^ 32)) (Some m) None) ≡ Some n → n < 2 ^ 32
+    go None e = absurd (cc)
+    go (Some m) e = by (ltb m (2 ^ 32)) refl e
       where
-        by : (b : Bool) → ltb m (2 ^ 32) ≡ b → cond b (some m) none ≡ some n → n < 2 ^ 32
-        by false q e = let z : ◌≡◌ {A = ℕ} 0 1 = cc in absurd (omega arith)
+        by : (b : Bool) → ltb m (2 ^ 32) ≡ b → cond b (Some m) None ≡ Some n → n < 2 ^ 32
+        by false q e = absurd (cc)
         by true q e = let z : m ≡ n = cc in omega (arith, ltb-true m (2 ^ 32) q)
 
-final-fits : (f : List ℕ) (w : Option Weight) (r : Row) → final_by (number_of f) w ≡ some r → RowFits r
+final-fits : (f : List ℕ) (w : Option Weight) (r : Row) → final_by (number_of f) w ≡ Some r → RowFits r
 final-fits f w r e = go (number_of f) refl w e
   where
-    go : (o : Option ℕ) → number_of f ≡ o → (w : Option Weight) → final_by o w ≡ some r → RowFits r
-    go none q w e = let z : ◌≡◌ {A = ℕ} 0 1 = cc in absurd (omega arith)
-    go (some v) q none e = let z : ◌≡◌ {A = ℕ} 0 1 = cc in absurd (omega arith)
-    go (some v) q (some x) e = let z : final v x ≡ r = cc in subst RowFits z (number_fits f v q)
+    go : (o : Option ℕ) → number_of f ≡ o → (w : Option Weight) → final_by o w ≡ Some r → RowFits r
+    go None q w e = absurd (cc)
+    go (Some v) q None e = absurd (cc)
+    go (Some v) q (Some x) e = let z : final v x ≡ r = cc in subst RowFits z (number_fits f v q)
 
-link_fits : (a b c d : List ℕ) (w : Option Weight) (r : Row) → link_by (number_of a) (number_of b) (number_of c) (number_of d) w ≡ some r → RowFits r
+link_fits : (a b c d : List ℕ) (w : Option Weight) (r : Row) → link_by (number_of a) (number_of b) (number_of c) (number_of d) w ≡ Some r → RowFits r
 link_fits a b c d w r e = go (number_of a) refl (number_of b) refl (number_of c) refl (number_of d) refl w e
   where
     go : (s : Option ℕ) → number_of a ≡ s → (t : Option ℕ) → number_of b ≡ t → (i : Option ℕ) → number_of c ≡ i → (o : Option ℕ) → number_of d ≡ o → (w : Option Weight)
-        → link_by s t i o w ≡ some r → RowFits r
-    go none p t q i x o y w e = let z : ◌≡◌ {A = ℕ} 0 1 = cc in absurd (omega arith)
-    go (some s) p none q i x o y w e = let z : ◌≡◌ {A = ℕ} 0 1 = cc in absurd (omega arith)
-    go (some s) p (some t) q none x o y w e = let z : ◌≡◌ {A = ℕ} 0 1 = cc in absurd (omega arith)
-    go (some s) p (some t) q (some i) x none y w e = let z : ◌≡◌ {A = ℕ} 0 1 = cc in absurd (omega arith)
-    go (some s) p (some t) q (some i) x (some o) y none e = let z : ◌≡◌ {A = ℕ} 0 1 = cc in absurd (omega arith)
-    go (some s) p (some t) q (some i) x (some o) y (some k) e =
+        → link_by s t i o w ≡ Some r → RowFits r
+    go None p t q i x o y w e = absurd (cc)
+    go (Some s) p None q i x o y w e = absurd (cc)
+    go (Some s) p (Some t) q None x o y w e = absurd (cc)
+    go (Some s) p (Some t) q (Some i) x None y w e = absurd (cc)
+    go (Some s) p (Some t) q (Some i) x (Some o) y None e = absurd (cc)
+    go (Some s) p (Some t) q (Some i) x (Some o) y (Some k) e =
         let z : link s t i o k ≡ r = cc in subst RowFits z (number_fits a s p, number_fits b t q, number_fits c i x, number_fits d o y)
 
-row_fits : (fs : List (List ℕ)) (r : Row) → row_by fs ≡ some r → RowFits r
+row_fits : (fs : List (List ℕ)) (r : Row) → row_by fs ≡ Some r → RowFits r
 unfolding row_by
-row_fits [] r e = let z : ◌≡◌ {A = ℕ} 0 1 = cc in absurd (omega arith)
-row_fits (v ∷ []) r e = final-fits v (some (finite (pos 0))) r e
+row_fits [] r e = absurd (cc)
+row_fits (v ∷ []) r e = final-fits v (Some (finite (pos 0))) r e
 row_fits (v ∷ w ∷ []) r e = final-fits v (weight_of w) r e
-row_fits (x ∷ y ∷ z ∷ []) r e = let z : ◌≡◌ {A = ℕ} 0 1 = cc in absurd (omega arith)
-row_fits (s ∷ t ∷ i ∷ o ∷ []) r e = link_fits s t i o (some (finite (pos 0))) r e
+row_fits (x ∷ y ∷ z ∷ []) r e = absurd (cc)
+row_fits (s ∷ t ∷ i ∷ o ∷ []) r e = link_fits s t i o (Some (finite (pos 0))) r e
 row_fits (s ∷ t ∷ i ∷ o ∷ w ∷ []) r e = link_fits s t i o (weight_of w) r e
-row_fits (s ∷ t ∷ i ∷ o ∷ w ∷ x ∷ xs) r e = let z : ◌≡◌ {A = ℕ} 0 1 = cc in absurd (omega arith)
+row_fits (s ∷ t ∷ i ∷ o ∷ w ∷ x ∷ xs) r e = absurd (cc)
 
-pub rows_fit : (xs : List (List ℕ)) (rs : List Row) → all_rows xs ≡ some rs → AllFit rs
+pub rows_fit : (xs : List (List ℕ)) (rs : List Row) → all_rows xs ≡ Some rs → AllFit rs
 unfolding all_rows
 rows_fit [] rs e = let z : [] ≡ rs = cc in subst AllFit z tt
 rows_fit (x ∷ xs) rs e = go (row_of x) refl (all_rows xs) refl e (rows_fit xs)
   where
-    go : (a : Option Row) → row_of x ≡ a → (b : Option (List Row)) → all_rows xs ≡ b → and_then a (λ r. and_then b (λ rs. some (r ∷ rs))) ≡ some rs
-        → ((qs : List Row) → all_rows xs ≡ some qs → AllFit qs) → AllFit rs
-    go none p b q e later = let z : ◌≡◌ {A = ℕ} 0 1 = cc in absurd (omega arith)
-    go (some r) p none q e later = let z : ◌≡◌ {A = ℕ} 0 1 = cc in absurd (omega arith)
-    go (some r) p (some qs) q e later = let z : r ∷ qs ≡ rs = cc in subst AllFit z (row_fits (fields_of x) r p, later qs q)
+    go : (a : Option Row) → row_of x ≡ a → (b : Option (List Row)) → all_rows xs ≡ b → and_then a (λ r. and_then b (λ rs. Some (r ∷ rs))) ≡ Some rs
+        → ((qs : List Row) → all_rows xs ≡ Some qs → AllFit qs) → AllFit rs
+    go None p b q e later = absurd (cc)
+    go (Some r) p None q e later = absurd (cc)
+    go (Some r) p (Some qs) q e later = let z : r ∷ qs ≡ rs = cc in subst AllFit z (row_fits (fields_of x) r p, later qs q)
 
-pub read-fit : (text : List ℕ) (rs : List Row) → read_rows text ≡ some rs → AllFit rs
+pub read-fit : (text : List ℕ) (rs : List Row) → read_rows text ≡ Some rs → AllFit rs
 unfolding read_rows
 read-fit text rs e = go (ended text) (all_rows (rows_of text)) refl e
   where
-    go : (b : Bool) (o : Option (List Row)) → all_rows (rows_of text) ≡ o → cond b (and_then o (λ qs. cond (finals_once qs) (some qs) none)) none ≡ some rs → AllFit rs
-    go false o q e = let z : ◌≡◌ {A = ℕ} 0 1 = cc in absurd (omega arith)
-    go true none q e = let z : ◌≡◌ {A = ℕ} 0 1 = cc in absurd (omega arith)
-    go true (some qs) q e = by (finals_once qs) e
+    go : (b : Bool) (o : Option (List Row)) → all_rows (rows_of text) ≡ o → cond b (and_then o (λ qs. cond (finals_once qs) (Some qs) None)) None ≡ Some rs → AllFit rs
+    go false o q e = absurd (cc)
+    go true None q e = absurd (cc)
+    go true (Some qs) q e = by (finals_once qs) e
       where
-        by : (c : Bool) → cond c (some qs) none ≡ some rs → AllFit rs
-        by false e = let z : ◌≡◌ {A = ℕ} 0 1 = cc in absurd (omega arith)
+        by : (c : Bool) → cond c (Some qs) None ≡ Some rs → AllFit rs
+        by false e = absurd (cc)
         by true e = let z : qs ≡ rs = cc in subst AllFit z (rows_fit (rows_of text) qs q)
 
 -- ---- words

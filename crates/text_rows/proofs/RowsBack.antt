@@ -2,7 +2,7 @@
 use mathlib.Core.Path.{◌≡◌, refl, sym, ap, ◌∙◌, subst}
 use mathlib.Core.Logic.{inl, inr}
 use mathlib.Core.Bool.{Bool, true, false, not, ◌&&◌, ◌||◌, cond}
-use mathlib.Core.Option.{Option, none, some}
+use Rattle.std.proofs.Common.{Option, None, Some}
 use mathlib.Core.List.{List, [], ◌∷◌, ◌++◌, flat_map, append-nil}
 use Prim.Native.Nat.{ℕ, ◌+◌, ◌-◌, ◌*◌, ◌≤◌, ◌<◌}
 use native.Mathlib.Omega.{arith}
@@ -46,27 +46,27 @@ zero-weight : (bits : ℕ) → eqb bits 0 ≡ true → weight_for bits ≡ finit
 zero-weight bits e = ap weight_for (eqb-true bits 0 e) ∙ none-zero
 
 module _ (v : ℕ) (v-in : v < 4294967296) (bits : ℕ) where
-  pub final-row : row_of (decimal v ++ and_weight bits) ≡ some (final v (weight_for bits))
+  pub final-row : row_of (decimal v ++ and_weight bits) ≡ Some (final v (weight_for bits))
   unfolding row_by
   final-row = go (eqb bits 0) refl
     where
-      go : (b : Bool) → eqb bits 0 ≡ b → row_by (fields_of (decimal v ++ cond b [] (9 ∷ field_text bits))) ≡ some (final v (weight_for bits))
+      go : (b : Bool) → eqb bits 0 ≡ b → row_by (fields_of (decimal v ++ cond b [] (9 ∷ field_text bits))) ≡ Some (final v (weight_for bits))
       go true e =
           ap (λ (l : List ℕ). row_by (fields_of l)) (append-nil (decimal v)) ∙ ap row_by (one_field (decimal v) (plain-decimal v) (long-decimal v))
-          ∙ (λ j. final_by (number-back v v-in j) (some (finite (pos 0)))) ∙ ap (λ (w : Weight). some (final v w)) (sym (zero-weight bits e))
+          ∙ (λ j. final_by (number-back v v-in j) (Some (finite (pos 0)))) ∙ ap (λ (w : Weight). Some (final v w)) (sym (zero-weight bits e))
       go false e =
           ap row_by (fields-more (decimal v) (field_text bits) (plain-weight bits) (long-weight bits) ∙ ap (λ (l : List (List ℕ)). l ++ (field_text bits ∷ [])) (one_field (decimal v) (plain-decimal v) (long-decimal v)))
           ∙ (λ j. final_by (number-back v v-in j) (weight-back bits j))
 
   module _ (t i o : ℕ) (t-in : t < 4294967296) (i-in : i < 4294967296) (o-in : o < 4294967296) where
-    pub link_row_lem : row_of (decimal v ++ and_number t ++ and_number i ++ and_number o ++ and_weight bits) ≡ some (link v t i o (weight_for bits))
+    pub link_row_lem : row_of (decimal v ++ and_number t ++ and_number i ++ and_number o ++ and_weight bits) ≡ Some (link v t i o (weight_for bits))
     unfolding row_by
     link_row_lem = go (eqb bits 0) refl
       where
-        go : (b : Bool) → eqb bits 0 ≡ b → row_by (fields_of (decimal v ++ and_number t ++ and_number i ++ and_number o ++ cond b [] (9 ∷ field_text bits))) ≡ some (link v t i o (weight_for bits))
+        go : (b : Bool) → eqb bits 0 ≡ b → row_by (fields_of (decimal v ++ and_number t ++ and_number i ++ and_number o ++ cond b [] (9 ∷ field_text bits))) ≡ Some (link v t i o (weight_for bits))
         go true e =
             ap (λ (l : List ℕ). row_by (fields_of l)) (append-nil (decimal v ++ and_number t ++ and_number i ++ and_number o)) ∙ ap row_by (four-fields v t i o)
-            ∙ (λ j. link_by (number-back v v-in j) (number-back t t-in j) (number-back i i-in j) (number-back o o-in j) (some (finite (pos 0)))) ∙ ap (λ (w : Weight). some (link v t i o w)) (sym (zero-weight bits e))
+            ∙ (λ j. link_by (number-back v v-in j) (number-back t t-in j) (number-back i i-in j) (number-back o o-in j) (Some (finite (pos 0)))) ∙ ap (λ (w : Weight). Some (link v t i o w)) (sym (zero-weight bits e))
         go false e =
             ap row_by (fields-more (decimal v ++ and_number t ++ and_number i ++ and_number o) (field_text bits) (plain-weight bits) (long-weight bits) ∙ ap (λ (l : List (List ℕ)). l ++ (field_text bits ∷ [])) (four-fields v t i o))
             ∙ (λ j. link_by (number-back v v-in j) (number-back t t-in j) (number-back i i-in j) (number-back o o-in j) (weight-back bits j))
@@ -92,7 +92,7 @@ lined-link v t i o bits =
     (lined-append (decimal v ++ and_number t) (and_number i) (lined-append (decimal v) (and_number t) (lined-decimal v) (lined-number t)) (lined-number i)) (lined-number o)) (lined-weight bits)
 
 -- the rows of no text
-no_text : all_rows (rows_of []) ≡ some []
+no_text : all_rows (rows_of []) ≡ Some []
 unfolding rows_of all_rows
 no_text = refl
 
@@ -157,10 +157,10 @@ module _ (p : Parts) (four : length p.links ≡ 4 * link_count p) (three : lengt
       go v true = inl refl
       go v false = ends-node v
 
-  all_read : all_rows (rows_of (text_of p)) ≡ some (rows_for p)
+  all_read : all_rows (rows_of (text_of p)) ≡ Some (rows_for p)
   all_read =
       ap (λ (t : List ℕ). all_rows (rows_of t)) (sym (append-nil (text_of p))) ∙ reads-text []
-      ∙ ap {B = Option (List Row)} (λ (o : Option (List Row)). and_then o (λ qs. some (rows_for p ++ qs))) no_text ∙ ap some (append-nil (rows_for p))
+      ∙ ap {B = Option (List Row)} (λ (o : Option (List Row)). and_then o (λ qs. Some (rows_for p ++ qs))) no_text ∙ ap Some (append-nil (rows_for p))
 
   module _ (has : has_rows p ≡ true) where
     own : has_own p p.start ≡ true
@@ -178,16 +178,16 @@ module _ (p : Parts) (four : length p.links ≡ 4 * link_count p) (three : lengt
         go : Ends (text_of p) → ended (text_of p) ≡ true
         go (inr e) = e
         go (inl e) =
-            let empty : some [] ≡ some (rows_for p) = sym no_text ∙ ap (λ (t : List ℕ). all_rows (rows_of t)) (sym e) ∙ all_read in
+            let empty : Some [] ≡ Some (rows_for p) = sym no_text ∙ ap (λ (t : List ℕ). all_rows (rows_of t)) (sym e) ∙ all_read in
             absurd (omega (arith, some-rows, ap (λ (o : Option (List Row)). length (or_no_rows o)) empty))
 
     -- The text of a sheet that has rows is read as those rows.
-    pub rows-read : read_rows (text_of p) ≡ some (rows_for p)
+    pub rows-read : read_rows (text_of p) ≡ Some (rows_for p)
     unfolding read_rows
     rows-read =
-        ap (λ (b : Bool). cond b (and_then (all_rows (rows_of (text_of p))) (λ rs. cond (finals_once rs) (some rs) none)) none) text-ended
-        ∙ ap {B = Option (List Row)} (λ (o : Option (List Row)). and_then o (λ rs. cond (finals_once rs) (some rs) none)) all_read
-        ∙ ap (λ (b : Bool). cond b (some (rows_for p)) none) (rows-once p four three links-below nodes-below nodes-fit nexts-fit weights-fit start-in)
+        ap (λ (b : Bool). cond b (and_then (all_rows (rows_of (text_of p))) (λ rs. cond (finals_once rs) (Some rs) None)) None) text-ended
+        ∙ ap {B = Option (List Row)} (λ (o : Option (List Row)). and_then o (λ rs. cond (finals_once rs) (Some rs) None)) all_read
+        ∙ ap (λ (b : Bool). cond b (Some (rows_for p)) None) (rows-once p four three links-below nodes-below nodes-fit nexts-fit weights-fit start-in)
 
     -- They convert to its parts.
     pub parts-read : parts_of_rows (or_no_rows (read_rows (text_of p))) ≡ p
@@ -243,7 +243,7 @@ module _ (bytes : List ℕ) (below : Below 256 bytes) (zero_number : read_number
   few-nodes = subst (λ (k : ℕ). k < 4294967296) (sym (read-fields bytes).nodes-are) (word_lt bytes (length bytes - 20 + 4 * 2) below)
 
   -- A sheet that is accepted and has rows, written as text, is read as its rows,
-  pub rows_back : read_rows (text_of p) ≡ some (rows_for p)
+  pub rows_back : read_rows (text_of p) ≡ Some (rows_for p)
   rows_back = rows-read p four-of three-of links-in nodes-in fit.0 fit.1 fit.2 (start-below p has) few-nodes has
 
   -- and they convert to that very sheet.

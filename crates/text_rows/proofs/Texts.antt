@@ -2,7 +2,7 @@
 use mathlib.Core.Path.{◌≡◌, refl, sym, ap, ◌∙◌, subst}
 use mathlib.Core.Logic.{◌⊎◌, inl, inr}
 use mathlib.Core.Bool.{Bool, true, false, not, ◌||◌, cond, false≢true}
-use mathlib.Core.Option.{Option, none, some}
+use Rattle.std.proofs.Common.{Option, None, Some}
 use mathlib.Core.List.{List, [], ◌∷◌, ◌++◌, flat_map, append_assoc, append-nil}
 use Prim.Native.Nat.{ℕ, zero, suc, ◌+◌, ◌-◌, ◌*◌, ◌/◌, ◌%◌, ◌^◌, ◌≤◌, ◌<◌}
 use native.Mathlib.Nat.{mul_assoc, pow-suc}
@@ -97,16 +97,16 @@ digits_of-on : (f : List ℕ) → 1 ≤ length f → digits_of f ≡ digits_onto
 digits_of-on [] h = absurd (omega arith)
 digits_of-on (c ∷ cs) h = refl
 
-digits-read : (k n : ℕ) → 1 ≤ k → n < 10 ^ k → digits_of (last_digits 10 k n) ≡ some n
-digits-read k n l h = digits_of-on (last_digits 10 k n) (omega (arith, length_digits k n)) ∙ digits-back k 0 n h ∙ ap some (let e : 0 * 10 ^ k + n ≡ n = omega arith in e)
+digits-read : (k n : ℕ) → 1 ≤ k → n < 10 ^ k → digits_of (last_digits 10 k n) ≡ Some n
+digits-read k n l h = digits_of-on (last_digits 10 k n) (omega (arith, length_digits k n)) ∙ digits-back k 0 n h ∙ ap Some (let e : 0 * 10 ^ k + n ≡ n = omega arith in e)
 
-pub decimal-read : (n : ℕ) → digits_of (decimal n) ≡ some n
+pub decimal-read : (n : ℕ) → digits_of (decimal n) ≡ Some n
 unfolding decimal
 decimal-read n = digits-read (places_by n (ltb n 10) n) n (one_place n (ltb n 10) n) (held n (ltb n 10) n refl (omega arith))
 
-pub number-back : (n : ℕ) → n < 4294967296 → number_of (decimal n) ≡ some n
+pub number-back : (n : ℕ) → n < 4294967296 → number_of (decimal n) ≡ Some n
 unfolding number_of
-number-back n h = ap (λ (o : Option ℕ). and_then o (λ m. cond (ltb m (2 ^ 32)) (some m) none)) (decimal-read n) ∙ ap (λ (b : Bool). cond b (some n) none) (lt-ltb n (2 ^ 32) h)
+number-back n h = ap (λ (o : Option ℕ). and_then o (λ m. cond (ltb m (2 ^ 32)) (Some m) None)) (decimal-read n) ∙ ap (λ (b : Bool). cond b (Some n) None) (lt-ltb n (2 ^ 32) h)
 
 -- ---- weights
 abbrev units : ℕ → ℤ
@@ -129,15 +129,15 @@ short (suc k) n h z = go (eqb (n % 10) 0) refl (short k (n / 10) (omega (arith, 
         (s.0, s.1, s.2, s.3, omega (arith, s.4), s.5, all)
     go false e later = (suc k, n, refl, omega arith, omega arith, h, ap (λ (x : ℕ). n * 10 ^ x) (let q : suc k - suc k ≡ 0 = omega arith in q) ∙ omega arith)
 
-pub part-back : (n : ℕ) → n < 1000000 → 0 < n → part_of (46 ∷ shortest 6 n) ≡ some n
+pub part-back : (n : ℕ) → n < 1000000 → 0 < n → part_of (46 ∷ shortest 6 n) ≡ Some n
 unfolding part_of
 part-back n h z =
     let s = short 6 n h z in
-    ap (λ (ds : List ℕ). and_then (digits_of ds) (λ x. cond (leb (length ds) 6) (some (x * 10 ^ (6 - length ds))) none)) s.2
-    ∙ ap (λ (o : Option ℕ). and_then o (λ x. cond (leb (length (last_digits 10 s.0 s.1)) 6) (some (x * 10 ^ (6 - length (last_digits 10 s.0 s.1)))) none)) (digits-read s.0 s.1 s.3 s.5)
-    ∙ ap (λ (k : ℕ). cond (leb k 6) (some (s.1 * 10 ^ (6 - k))) none) (length_digits s.0 s.1)
-    ∙ ap (λ (b : Bool). cond b (some (s.1 * 10 ^ (6 - s.0))) none) (le-leb s.0 6 s.4)
-    ∙ ap some s.6
+    ap (λ (ds : List ℕ). and_then (digits_of ds) (λ x. cond (leb (length ds) 6) (Some (x * 10 ^ (6 - length ds))) None)) s.2
+    ∙ ap (λ (o : Option ℕ). and_then o (λ x. cond (leb (length (last_digits 10 s.0 s.1)) 6) (Some (x * 10 ^ (6 - length (last_digits 10 s.0 s.1)))) None)) (digits-read s.0 s.1 s.3 s.5)
+    ∙ ap (λ (k : ℕ). cond (leb k 6) (Some (s.1 * 10 ^ (6 - k))) None) (length_digits s.0 s.1)
+    ∙ ap (λ (b : Bool). cond b (Some (s.1 * 10 ^ (6 - s.0))) None) (le-leb s.0 6 s.4)
+    ∙ ap Some s.6
 
 plain-short : (n : ℕ) → n < 1000000 → 0 < n → Plain (shortest 6 n)
 plain-short n h z = let s = short 6 n h z in subst Plain (sym s.2) (plain-numeric (last_digits 10 s.0 s.1) (numeric-digits s.0 s.1))
@@ -163,38 +163,38 @@ no-point (c ∷ f) h =
       (λ i. cond (no i) (c ∷ f) (from_point f)) ∙ r.1,
     )
 
-pub magnitude-back : (k : ℕ) → magnitude_of (magnitude_text k) ≡ some (15625 * k)
+pub magnitude-back : (k : ℕ) → magnitude_of (magnitude_text k) ≡ Some (15625 * k)
 unfolding magnitude_of magnitude_text
 magnitude-back k = go (eqb (k % 64 * 15625) 0) refl
   where
     go : (b : Bool) → eqb (k % 64 * 15625) 0 ≡ b
-        → both_parts (digits_of (before_point (decimal (k / 64) ++ cond b [] (46 ∷ shortest 6 (k % 64 * 15625))))) (part_of (from_point (decimal (k / 64) ++ cond b [] (46 ∷ shortest 6 (k % 64 * 15625))))) ≡ some (15625 * k)
+        → both_parts (digits_of (before_point (decimal (k / 64) ++ cond b [] (46 ∷ shortest 6 (k % 64 * 15625))))) (part_of (from_point (decimal (k / 64) ++ cond b [] (46 ∷ shortest 6 (k % 64 * 15625))))) ≡ Some (15625 * k)
     go true e =
         let r = no-point (decimal (k / 64)) (numeric-decimal (k / 64)) in
         let z : k % 64 * 15625 ≡ 0 = eqb-true (k % 64 * 15625) 0 e in
         ap (λ (f : List ℕ). both_parts (digits_of (before_point f)) (part_of (from_point f))) (append-nil (decimal (k / 64)))
         ∙ (λ i. both_parts (digits_of (r.0 i)) (part_of (r.1 i)))
-        ∙ (λ i. both_parts (decimal-read (k / 64) i) (unfold part_of in some 0))
-        ∙ ap some (let q : k / 64 * 1000000 + 0 ≡ 15625 * k = omega (arith, z) in q)
+        ∙ (λ i. both_parts (decimal-read (k / 64) i) (unfold part_of in Some 0))
+        ∙ ap Some (let q : k / 64 * 1000000 + 0 ≡ 15625 * k = omega (arith, z) in q)
     go false e =
         let r = at-point (decimal (k / 64)) (shortest 6 (k % 64 * 15625)) (numeric-decimal (k / 64)) in
         let z : k % 64 * 15625 ≡ 0 → ⊥ = eqb-false (k % 64 * 15625) 0 e in
         (λ i. both_parts (digits_of (r.0 i)) (part_of (r.1 i)))
         ∙ (λ i. both_parts (decimal-read (k / 64) i) (part-back (k % 64 * 15625) (omega arith) (omega (arith, z)) i))
-        ∙ ap some (let q : k / 64 * 1000000 + k % 64 * 15625 ≡ 15625 * k = omega arith in q)
+        ∙ ap Some (let q : k / 64 * 1000000 + k % 64 * 15625 ≡ 15625 * k = omega arith in q)
 
-no_minus : (f rest : List ℕ) → Numeric f → 1 ≤ length f → decimal_of (f ++ rest) ≡ and_then (magnitude_of (f ++ rest)) (λ n. some (pos n))
+no_minus : (f rest : List ℕ) → Numeric f → 1 ≤ length f → decimal_of (f ++ rest) ≡ and_then (magnitude_of (f ++ rest)) (λ n. Some (pos n))
 unfolding decimal_of
 no_minus [] rest h l = absurd (omega arith)
 no_minus (c ∷ f) rest h l =
-    ap (λ (b : Bool). cond b (and_then (magnitude_of (f ++ rest)) (λ n. some (neg_ℤ (pos n)))) (and_then (magnitude_of (c ∷ f ++ rest)) (λ n. some (pos n)))) (ne_eqb c 45 (λ e. omega (arith, e, h.0)))
+    ap (λ (b : Bool). cond b (and_then (magnitude_of (f ++ rest)) (λ n. Some (neg_ℤ (pos n)))) (and_then (magnitude_of (c ∷ f ++ rest)) (λ n. Some (pos n)))) (ne_eqb c 45 (λ e. omega (arith, e, h.0)))
 
-decimal-back : (k : ℤ) → decimal_of (weight_text k) ≡ some (in_millionths k)
+decimal-back : (k : ℤ) → decimal_of (weight_text k) ≡ Some (in_millionths k)
 unfolding weight_text magnitude_text
 decimal-back (pos k) =
     no_minus (decimal (k / 64)) (part_text (k % 64 * 15625)) (numeric-decimal (k / 64)) (long-decimal (k / 64))
-    ∙ ap {B = Option ℤ} (λ (o : Option ℕ). and_then o (λ n. some (pos n))) (magnitude-back k)
-decimal-back (negsuc k) = unfold decimal_of in ap {B = Option ℤ} (λ (o : Option ℕ). and_then o (λ n. some (neg_ℤ (pos n)))) (magnitude-back (suc k))
+    ∙ ap {B = Option ℤ} (λ (o : Option ℕ). and_then o (λ n. Some (pos n))) (magnitude-back k)
+decimal-back (negsuc k) = unfold decimal_of in ap {B = Option ℤ} (λ (o : Option ℕ). and_then o (λ n. Some (neg_ℤ (pos n)))) (magnitude-back (suc k))
 
 -- a decimal is no Infinity
 same_text_lem : (xs ys : List ℕ) → same_text xs ys ≡ true → xs ≡ ys
@@ -204,28 +204,28 @@ same_text_lem [] (y ∷ ys) e = absurd (false≢true e)
 same_text_lem (x ∷ xs) [] e = absurd (false≢true e)
 same_text_lem (x ∷ xs) (y ∷ ys) e = let b = both (eqb x y) (same_text xs ys) e in λ i. eqb-true x y b.0 i ∷ same_text_lem xs ys b.1 i
 
-infinity-none : decimal_of infinity_text ≡ none
+infinity-none : decimal_of infinity_text ≡ None
 unfolding decimal_of infinity_text
 infinity-none = refl
 
-pub decimal-weight : (f : List ℕ) (w : ℤ) → decimal_of f ≡ some w → weight_of f ≡ some (finite w)
+pub decimal-weight : (f : List ℕ) (w : ℤ) → decimal_of f ≡ Some w → weight_of f ≡ Some (finite w)
 unfolding weight_of
 decimal-weight f w e = go (same_text f infinity_text) refl
   where
-    go : (b : Bool) → same_text f infinity_text ≡ b → cond b (some barred) (and_then (decimal_of f) (λ w. some (finite w))) ≡ some (finite w)
-    go true q = let clash : none ≡ some w = sym infinity-none ∙ ap decimal_of (sym (same_text_lem f infinity_text q)) ∙ e in let z : ◌≡◌ {A = ℕ} 0 1 = cc in absurd (omega arith)
-    go false q = ap {B = Option Weight} (λ (o : Option ℤ). and_then o (λ w. some (finite w))) e
+    go : (b : Bool) → same_text f infinity_text ≡ b → cond b (Some barred) (and_then (decimal_of f) (λ w. Some (finite w))) ≡ Some (finite w)
+    go true q = let clash : None ≡ Some w = sym infinity-none ∙ ap decimal_of (sym (same_text_lem f infinity_text q)) ∙ e in absurd (cc)
+    go false q = ap {B = Option Weight} (λ (o : Option ℤ). and_then o (λ w. Some (finite w))) e
 
-pub infinity-weight : weight_of infinity_text ≡ some barred
+pub infinity-weight : weight_of infinity_text ≡ Some barred
 unfolding weight_of infinity_text
 infinity-weight = refl
 
 -- the text of a field is read as its weight
-pub weight-back : (bits : ℕ) → weight_of (field_text bits) ≡ some (weight_for bits)
+pub weight-back : (bits : ℕ) → weight_of (field_text bits) ≡ Some (weight_for bits)
 unfolding millionths
 weight-back bits = go (eqb bits barred_bits)
   where
-    go : (b : Bool) → weight_of (cond b infinity_text (weight_text (units bits))) ≡ some (cond b barred (finite (millionths bits)))
+    go : (b : Bool) → weight_of (cond b infinity_text (weight_text (units bits))) ≡ Some (cond b barred (finite (millionths bits)))
     go true = infinity-weight
     go false = decimal-weight (weight_text (units bits)) (in_millionths (units bits)) (decimal-back (units bits))
 
@@ -316,28 +316,28 @@ line-rows (c ∷ cs) rest h = (λ j. cond (h.0 j) ([] ∷ rows_of (cs ++ (10 ∷
 
 -- a text that says these rows, whatever follows
 abbrev pub Reads : List ℕ → List Row → Type 0
-Reads t rs = (rest : List ℕ) → all_rows (rows_of (t ++ rest)) ≡ and_then (all_rows (rows_of rest)) (λ qs. some (rs ++ qs))
+Reads t rs = (rest : List ℕ) → all_rows (rows_of (t ++ rest)) ≡ and_then (all_rows (rows_of rest)) (λ qs. Some (rs ++ qs))
 
 pub reads_none : Reads [] []
 reads_none rest = go (all_rows (rows_of rest))
   where
-    go : (o : Option (List Row)) → o ≡ and_then o (λ qs. some qs)
-    go none = refl
-    go (some qs) = refl
+    go : (o : Option (List Row)) → o ≡ and_then o (λ qs. Some qs)
+    go None = refl
+    go (Some qs) = refl
 
 pub reads-append : (t u : List ℕ) (rs qs : List Row) → Reads t rs → Reads u qs → Reads (t ++ u) (rs ++ qs)
 reads-append t u rs qs h k rest =
     ap (λ (l : List ℕ). all_rows (rows_of l)) (append_assoc t u rest) ∙ h (u ++ rest)
-    ∙ ap {B = Option (List Row)} (λ (o : Option (List Row)). and_then o (λ xs. some (rs ++ xs))) (k rest) ∙ go (all_rows (rows_of rest))
+    ∙ ap {B = Option (List Row)} (λ (o : Option (List Row)). and_then o (λ xs. Some (rs ++ xs))) (k rest) ∙ go (all_rows (rows_of rest))
   where
-    go : (o : Option (List Row)) → and_then (and_then o (λ xs. some (qs ++ xs))) (λ xs. some (rs ++ xs)) ≡ and_then o (λ xs. some (rs ++ qs ++ xs))
-    go none = refl
-    go (some xs) = ap some (sym (append_assoc rs qs xs))
+    go : (o : Option (List Row)) → and_then (and_then o (λ xs. Some (qs ++ xs))) (λ xs. Some (rs ++ xs)) ≡ and_then o (λ xs. Some (rs ++ qs ++ xs))
+    go None = refl
+    go (Some xs) = ap Some (sym (append_assoc rs qs xs))
 
-pub reads-line : (row : List ℕ) (r : Row) → Lined row → row_of row ≡ some r → Reads (row ++ (10 ∷ [])) (r ∷ [])
+pub reads-line : (row : List ℕ) (r : Row) → Lined row → row_of row ≡ Some r → Reads (row ++ (10 ∷ [])) (r ∷ [])
 unfolding all_rows
 reads-line row r h e rest =
-    ap all_rows (line-rows row rest h) ∙ ap {B = Option (List Row)} (λ (o : Option Row). and_then o (λ r. and_then (all_rows (rows_of rest)) (λ rs. some (r ∷ rs)))) e
+    ap all_rows (line-rows row rest h) ∙ ap {B = Option (List Row)} (λ (o : Option Row). and_then o (λ r. and_then (all_rows (rows_of rest)) (λ rs. Some (r ∷ rs)))) e
 
 pub reads_all : (n : ℕ) (f : ℕ → List ℕ) (g : ℕ → List Row) → ((u : ℕ) → u < n → Reads (f u) (g u)) → Reads (flat_map f (list_below n (λ u. u))) (flat_map g (list_below n (λ u. u)))
 unfolding list_below flat_map

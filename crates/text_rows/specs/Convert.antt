@@ -1,6 +1,5 @@
 -- The sheet of rows, and the number that converting them answers. Definitions only.
-use Rattle.std.specs.Prelude.{ℕ, ◌+◌, ◌*◌, ◌^◌, Bool, not, ◌&&◌, cond, ltb, eqb, length, drop}
-use Rattle.std.proofs.Math.Option.{Option, none, some}
+use Rattle.std.specs.Prelude.{ℕ, ◌+◌, ◌*◌, ◌^◌, Bool, not, ◌&&◌, cond, ltb, eqb, length, drop, Option, None, Some}
 use mathlib.Core.List.{List, [], ◌∷◌, ◌++◌, flat_map}
 use Rattle.sheet.specs.Below.{list_below}
 use Rattle.sheet.specs.Sheet.{Parts, sheet_of, trailer_length}
@@ -61,16 +60,16 @@ abbrev pub fields_hold : List Row → Bool
 fields_hold rs = ltb (nodes_in rs) (2 ^ 32) && ltb (16 * links_in rs) (2 ^ 32)
 
 abbrev pub number_by : Option (List Row) → ℕ → ℕ
-number_by none room = 8
-number_by (some rs) room = cond (not (fields_hold rs)) 1 (cond (not (weights_pass rs)) 4 (cond (ltb room (length_of rs)) 21 0))
+number_by None room = 8
+number_by (Some rs) room = cond (not (fields_hold rs)) 1 (cond (not (weights_pass rs)) 4 (cond (ltb room (length_of rs)) 21 0))
 
 unfoldable pub rows_number : List ℕ → ℕ → ℕ
 unfolding read_rows highest links_in weights_pass
 rows_number text room = number_by (read_rows text) room
 
 abbrev pub or_no_rows : Option (List Row) → List Row
-or_no_rows none = []
-or_no_rows (some rs) = rs
+or_no_rows None = []
+or_no_rows (Some rs) = rs
 
 -- the rows of a text that is not refused
 abbrev pub rows_in : List ℕ → List Row

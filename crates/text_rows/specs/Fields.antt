@@ -1,12 +1,11 @@
 -- Text rows: rows, fields and numbers. A text is a list of bytes. Definitions only.
-use Rattle.std.specs.Prelude.{ℕ, ◌+◌, ◌-◌, ◌*◌, ◌^◌, Bool, true, false, not, ◌&&◌, ◌||◌, cond, List, [], ◌∷◌, leb, ltb, eqb, ℤ, pos, neg_ℤ, length}
-use Rattle.std.proofs.Math.Option.{Option, none, some}
+use Rattle.std.specs.Prelude.{ℕ, ◌+◌, ◌-◌, ◌*◌, ◌^◌, Bool, true, false, not, ◌&&◌, ◌||◌, cond, List, [], ◌∷◌, leb, ltb, eqb, ℤ, pos, neg_ℤ, length, Option, None, Some}
 use Rattle.decimals.specs.Decimal.{digits_onto, digits_of}
 
 -- f of what is there, or none
 abbrev pub and_then : {A B : Type 0} → Option A → (A → Option B) → Option B
-and_then none f = none
-and_then (some x) f = f x
+and_then None f = None
+and_then (Some x) f = f x
 
 abbrev pub is_newline : ℕ → Bool
 is_newline c = eqb c 10
@@ -47,7 +46,7 @@ fields_of (c ∷ cs) = cond (is_blank c) (fields_of cs) (cond (goes_on cs) (onto
 -- a node or a label: digits within 32 bits
 unfoldable pub number_of : List ℕ → Option ℕ
 unfolding digits_onto
-number_of f = and_then (digits_of f) (λ n. cond (ltb n (2 ^ 32)) (some n) none)
+number_of f = and_then (digits_of f) (λ n. cond (ltb n (2 ^ 32)) (Some n) None)
 
 -- ---- weights
 -- A weight as it is written: a decimal, in millionths, or infinity, which bars.
@@ -83,11 +82,11 @@ from_point (c ∷ cs) = cond (eqb c 46) (c ∷ cs) (from_point cs)
 -- nothing, or a point and one to six digits
 unfoldable pub part_of : List ℕ → Option ℕ
 unfolding digits_onto
-part_of [] = some 0
-part_of (point ∷ digits) = and_then (digits_of digits) (λ n. cond (leb (length digits) 6) (some (n * 10 ^ (6 - length digits))) none)
+part_of [] = Some 0
+part_of (point ∷ digits) = and_then (digits_of digits) (λ n. cond (leb (length digits) 6) (Some (n * 10 ^ (6 - length digits))) None)
 
 abbrev pub both_parts : Option ℕ → Option ℕ → Option ℕ
-both_parts whole part = and_then whole (λ w. and_then part (λ m. some (w * million + m)))
+both_parts whole part = and_then whole (λ w. and_then part (λ m. Some (w * million + m)))
 
 unfoldable pub magnitude_of : List ℕ → Option ℕ
 unfolding before_point from_point part_of digits_onto
@@ -96,10 +95,10 @@ magnitude_of f = both_parts (digits_of (before_point f)) (part_of (from_point f)
 -- an optional minus sign before; -0 is 0
 unfoldable pub decimal_of : List ℕ → Option ℤ
 unfolding magnitude_of
-decimal_of [] = none
-decimal_of (c ∷ cs) = cond (eqb c 45) (and_then (magnitude_of cs) (λ n. some (neg_ℤ (pos n)))) (and_then (magnitude_of (c ∷ cs)) (λ n. some (pos n)))
+decimal_of [] = None
+decimal_of (c ∷ cs) = cond (eqb c 45) (and_then (magnitude_of cs) (λ n. Some (neg_ℤ (pos n)))) (and_then (magnitude_of (c ∷ cs)) (λ n. Some (pos n)))
 
 -- a weight
 unfoldable pub weight_of : List ℕ → Option Weight
 unfolding infinity_text same_text decimal_of
-weight_of f = cond (same_text f infinity_text) (some barred) (and_then (decimal_of f) (λ w. some (finite w)))
+weight_of f = cond (same_text f infinity_text) (Some barred) (and_then (decimal_of f) (λ w. Some (finite w)))

@@ -1,6 +1,5 @@
 -- What rows say. Definitions only.
-use Rattle.std.specs.Prelude.{ℕ, ◌+◌, ◌*◌, ◌/◌, ◌%◌, ◌^◌, max, Bool, true, false, not, ◌&&◌, ◌||◌, cond, List, [], ◌∷◌, leb, eqb, ℤ, pos, negsuc, nat_abs, neg_ℤ}
-use Rattle.std.proofs.Math.Option.{Option, none, some}
+use Rattle.std.specs.Prelude.{ℕ, ◌+◌, ◌*◌, ◌/◌, ◌%◌, ◌^◌, max, Bool, true, false, not, ◌&&◌, ◌||◌, cond, List, [], ◌∷◌, leb, eqb, ℤ, pos, negsuc, nat_abs, neg_ℤ, Option, None, Some}
 use Rattle.tropical_weight.specs.Limits.{unit, weight_limit}
 use Rattle.tropical_weight.specs.Tropical.{Tropical, fin, inf}
 use Rattle.text_rows.specs.Fields.{Weight, finite, barred, million, and_then, rows_of, ended, fields_of, number_of, weight_of}
@@ -12,29 +11,29 @@ pub data Row : Type 0 where
 
 -- ---- reading a row
 abbrev pub link_by : Option ℕ → Option ℕ → Option ℕ → Option ℕ → Option Weight → Option Row
-link_by s t i o w = and_then s (λ s'. and_then t (λ t'. and_then i (λ i'. and_then o (λ o'. and_then w (λ w'. some (link s' t' i' o' w'))))))
+link_by s t i o w = and_then s (λ s'. and_then t (λ t'. and_then i (λ i'. and_then o (λ o'. and_then w (λ w'. Some (link s' t' i' o' w'))))))
 
 abbrev pub final_by : Option ℕ → Option Weight → Option Row
-final_by v w = and_then v (λ v'. and_then w (λ w'. some (final v' w')))
+final_by v w = and_then v (λ v'. and_then w (λ w'. Some (final v' w')))
 
 -- an absent weight is 0
 unfoldable pub row_by : List (List ℕ) → Option Row
 unfolding number_of weight_of
-row_by [] = none
-row_by (v ∷ []) = final_by (number_of v) (some (finite (pos 0)))
+row_by [] = None
+row_by (v ∷ []) = final_by (number_of v) (Some (finite (pos 0)))
 row_by (v ∷ w ∷ []) = final_by (number_of v) (weight_of w)
-row_by (x ∷ y ∷ z ∷ []) = none
-row_by (s ∷ t ∷ i ∷ o ∷ []) = link_by (number_of s) (number_of t) (number_of i) (number_of o) (some (finite (pos 0)))
+row_by (x ∷ y ∷ z ∷ []) = None
+row_by (s ∷ t ∷ i ∷ o ∷ []) = link_by (number_of s) (number_of t) (number_of i) (number_of o) (Some (finite (pos 0)))
 row_by (s ∷ t ∷ i ∷ o ∷ w ∷ []) = link_by (number_of s) (number_of t) (number_of i) (number_of o) (weight_of w)
-row_by (s ∷ t ∷ i ∷ o ∷ w ∷ x ∷ xs) = none
+row_by (s ∷ t ∷ i ∷ o ∷ w ∷ x ∷ xs) = None
 
 abbrev pub row_of : List ℕ → Option Row
 row_of row = row_by (fields_of row)
 
 unfoldable pub all_rows : List (List ℕ) → Option (List Row)
 unfolding fields_of row_by
-all_rows [] = some []
-all_rows (x ∷ xs) = and_then (row_of x) (λ r. and_then (all_rows xs) (λ rs. some (r ∷ rs)))
+all_rows [] = Some []
+all_rows (x ∷ xs) = and_then (row_of x) (λ r. and_then (all_rows xs) (λ rs. Some (r ∷ rs)))
 
 -- ---- no node has two final rows
 abbrev pub is_final_of : ℕ → Row → Bool
@@ -54,7 +53,7 @@ finals_once (final v w ∷ rs) = not (any_final v rs) && finals_once rs
 -- The rows of a text, or none: refusal 8.
 unfoldable pub read_rows : List ℕ → Option (List Row)
 unfolding rows_of ended all_rows finals_once
-read_rows text = cond (ended text) (and_then (all_rows (rows_of text)) (λ rs. cond (finals_once rs) (some rs) none)) none
+read_rows text = cond (ended text) (and_then (all_rows (rows_of text)) (λ rs. cond (finals_once rs) (Some rs) None)) None
 
 -- ---- what rows name
 abbrev pub first_node : List Row → ℕ

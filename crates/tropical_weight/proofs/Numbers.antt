@@ -1,27 +1,19 @@
 -- Patterns that are no NaN's. Assumes nothing.
-use Rattle.std.proofs.Common.{◌≡◌, ℕ, ◌%◌, ◌≤◌, Bool, true, false, cond, not, T, ltb, sym, refl, ap, ◌∙◌, subst, arith, ltb-false}
-use lib.Ieee.{Float, nan, inf, fin, binary32, is_nan, ne, fits, to_bits}
-use lib.Ieee.Bits.{is_false, nan_bits_is, nan_bits_above, of_bits-to_bits}
-use lib.Ieee.Compare.{differs_from_itself, nan_differs}
+use Rattle.std.proofs.Common.{◌≡◌, ℕ, ◌%◌, ◌≤◌, Bool, true, false, cond, T, ltb, sym, refl, ap, ◌∙◌, subst, arith, ltb-false}
+use lib.Ieee.{Float, nan, inf, fin, binary32, is_nan, fits, to_bits}
+use lib.Ieee.Bits.{nan_bits_is, nan_bits_above, of_bits-to_bits}
 use Rattle.tropical_weight.specs.Limits.{finest, sum_limit}
 use Rattle.tropical_weight.specs.Tropical.{Tropical, Within}
 use Rattle.tropical_weight.specs.Grid.{of_t}
 use Rattle.tropical_weight.specs.Single.{Number, number_bits}
 use Rattle.tropical_weight.proofs.Exact.{of_t-fits, of_t-no-nan}
 
--- ---- a NaN is what differs from itself
-pub is-nan : (x : Float) → ne x x ≡ true → is_nan x ≡ true
+-- ---- a NaN is one value
+pub nan-alone : (x : Float) → is_nan x ≡ true → nan ≡ x
 unfolding is_nan
-is-nan x e = ap is_nan (differs_from_itself x (subst T (sym e) tt))
-
-pub no_nan : (x : Float) → ne x x ≡ false → T (not (is_nan x))
-unfolding is_nan
-no_nan nan e = absurd (subst T (sym nan_differs ∙ e) tt)
-no_nan (inf s) e = tt
-no_nan (fin s m e) p = tt
-
-pub nan-no : (x : Float) → ne x x ≡ false → is_nan x ≡ false
-nan-no x e = is_false (is_nan x) (no_nan x e)
+nan-alone nan e = refl
+nan-alone (inf s) e = absurd (subst T (sym e) tt)
+nan-alone (fin s m e) p = absurd (subst T (sym p) tt)
 
 -- ---- patterns
 -- past its sign only a NaN's pattern is above infinity's

@@ -10,10 +10,13 @@ ghost use Rattle.std.specs.Float.Ieee.{add, lt};
 ghost use Rattle.tropical_weight.specs.Limits.{unit, finest, weight_limit, sum_limit};
 ghost use Rattle.tropical_weight.specs.Tropical as Tropical;
 ghost use Rattle.tropical_weight.specs.Tropical.{◌⊕◌, ◌⊗◌, lt_t};
-ghost use Rattle.tropical_weight.specs.Grid.{of_k, of_t, grid_bits, grid_shift, significand, ShiftTable};
+ghost use Rattle.tropical_weight.specs.Grid.{of_k, of_t, grid_bits};
 ghost use Rattle.tropical_weight.specs.Single.{lesser, Number, number_bits, Computes, Decides, Approx, Costs};
 
-mod shifts;
+pub mod shifts;
+
+use shifts::GridShifts;
+use std::num::saturating_f32_to_i32;
 
 // The unit is 1 / 2 ^ UNIT: weights are whole numbers of 64ths.
 pub const UNIT: u32 = 6;
@@ -35,9 +38,6 @@ pub const LINK_LIMIT: usize = 16384;
 
 // The most readings that a list is asked for.
 pub const LIST_LIMIT: u32 = 64;
-
-// The exponent's field of the values from 2 ^ 23 units up to 2 ^ 24, whose last digit is the unit.
-const LAST_IS_UNIT: u32 = 150 - UNIT;
 
 // The semiring's zero, neutral for `plus`: infinity.
 pub fn zero() -> f32
@@ -81,63 +81,12 @@ pub fn approx_equal(a: f32, b: f32, delta: f32) -> bool
     a <= b + delta && b <= a + delta
 }
 
-// The table of shifts, one for each exponent's field. A constant array is laid out anew wherever it is
-// read, so that a loop over weights makes the table once and lends it.
-pub fn grid_shifts() -> [u8; 256]
-    ensures { ShiftTable unit result }
-{
-    shifts::SHIFTS
-}
-
-// How many low digits of a significand lie below the unit, held between 0 and 24.
-fn grid_shift(shifts: &[u8; 256], exponent: u32) -> u32
-    requires shift_table { ShiftTable unit shifts.now }
-    requires exponent_bound { exponent < 256 }
-    ensures { result ≡ grid_shift unit exponent }
-{
-    shifts[exponent as usize] as u32
-}
-
-// The 24 digits of a finite value, by its exponent's field and its stored digits.
-fn significand_of(exponent: u32, digits: u32) -> u32
-    requires { digits < 0x80_0000 }
-    ensures { result ≡ significand exponent digits }
-{
-    if exponent == 0 {
-        digits
-    } else {
-        0x80_0000 + digits
-    }
-}
-
 // The grid test: whether `bits` is the pattern of a whole number of units within the limit. NaN,
 // the infinities and negative zero are off the grid.
 pub fn on_grid(bits: u32) -> bool
     ensures { result ≡ grid_bits unit weight_limit bits }
 {
-    let shifts = grid_shifts();
-    on_grid_by(&shifts, bits)
-}
-
-// The grid test of one of many weights, by the table that is lent.
-pub fn on_grid_by(shifts: &[u8; 256], bits: u32) -> bool
-    requires { ShiftTable unit shifts.now }
-    ensures { result ≡ grid_bits unit weight_limit bits }
-{
-    let exponent = bits / 0x80_0000 % 0x100;
-    if LAST_IS_UNIT < exponent {
-        return false;
-    }
-    let digits = significand_of(exponent, bits % 0x80_0000);
-    let shift = grid_shift(shifts, exponent);
-    let units = digits >> shift;
-    if units << shift != digits {
-        return false;
-    }
-    if WEIGHT_LIMIT < units {
-        return false;
-    }
-    bits != 0x8000_0000
+    GridShifts::new().on_grid(bits)
 }
 
 // The value of a bit pattern; a NaN's is a NaN, of no particular pattern.
@@ -154,7 +103,7 @@ pub fn from_bits(bits: u32) -> f32
 pub fn to_bits(value: f32) -> u32
     ensures { result ≡ to_bits binary32 value }
 {
-    if value != value {
+    if value.is_nan() {
         return 0x7fc0_0000;
     }
     f32::to_bits(value)
@@ -172,7 +121,7 @@ pub fn from_number_bits(bits: u32) -> f32
 pub fn to_number_bits(value: f32) -> u32
     ensures { result ≡ number_bits value }
 {
-    if value != value {
+    if value.is_nan() {
         return 0x7f80_0000;
     }
     f32::to_bits(value)
@@ -182,17 +131,7 @@ pub fn to_number_bits(value: f32) -> u32
 pub fn cost(weight: f32) -> i32
     ensures { Costs unit weight result }
 {
-    let units = weight * UNITS;
-    if units >= 2147483648.0 {
-        return 2147483647;
-    }
-    if units > -2147483648.0 {
-        return std::num::truncating_f32_to_i64(units) as i32;
-    }
-    if units != units {
-        return 0;
-    }
-    -2147483648
+    saturating_f32_to_i32(weight * UNITS)
 }
 
 // The weight of so many units: exact up to 2^24 of them.
@@ -207,10 +146,5 @@ pub fn from_units(units: i32) -> f32
 pub fn magnitude(cost: i32) -> u32
     ensures { result ≡ unsigned_abs cost }
 {
-    if cost < 0 {
-        // -cost does not fit at the least i32, so one is added after the cast
-        ((-1 - cost) as u32) + 1
-    } else {
-        cost as u32
-    }
+    cost.unsigned_abs()
 }

@@ -1,3 +1,14 @@
+// The grid test by a table of shifts.
+
+ghost use Rattle.std.specs.Prelude.{◌≡◌, ◌<◌};
+ghost use Rattle.tropical_weight.specs.Limits.{unit, weight_limit};
+ghost use Rattle.tropical_weight.specs.Grid.{grid_bits, grid_shift, significand, ShiftTable};
+
+use crate::{UNIT, WEIGHT_LIMIT};
+
+// The exponent's field of the values from 2 ^ 23 units up to 2 ^ 24, whose last digit is the unit.
+const LAST_IS_UNIT: u32 = 150 - UNIT;
+
 // For each exponent's field how many low digits of a significand lie below the unit: 144 less the
 // field, held between 0 and 24.
 pub const SHIFTS: [u8; 256] = [
@@ -12,3 +23,58 @@ pub const SHIFTS: [u8; 256] = [
     0, 0, 0, 0, 0, 0, 0, 0, 0, 0, 0, 0, 0, 0, 0, 0, 0, 0, 0, 0, 0, 0, 0, 0, 0, 0, 0, 0, 0, 0, 0, 0,
     0, 0, 0, 0, 0, 0, 0, 0, 0, 0, 0, 0, 0,
 ];
+
+// The table, by which weights are tested. A constant array is laid out anew wherever it is read, so that
+// a loop over weights makes this once.
+#[derive(Clone, Copy)]
+pub struct GridShifts {
+    pub table: [u8; 256],
+    pub ghost rule: { ShiftTable unit table },
+}
+
+// The 24 digits of a finite value, by its exponent's field and its stored digits.
+#[tactic(auto, unfolding(crate::specs::Grid::significand))]
+fn significand_of(exponent: u32, digits: u32) -> u32
+    requires { digits < 0x80_0000 }
+    ensures { result ≡ significand exponent digits }
+{
+    if exponent == 0 {
+        digits
+    } else {
+        0x80_0000 + digits
+    }
+}
+
+impl GridShifts {
+    pub fn new() -> GridShifts {
+        GridShifts { table: SHIFTS }
+    }
+
+    // How many low digits of a significand lie below the unit, held between 0 and 24.
+    pub fn shift(&self, exponent: u32) -> u32
+        requires { exponent < 256 }
+        ensures { result ≡ grid_shift unit exponent }
+    {
+        self.table[exponent as usize] as u32
+    }
+
+    // The grid test of one of many weights.
+    pub fn on_grid(&self, bits: u32) -> bool
+        ensures { result ≡ grid_bits unit weight_limit bits }
+    {
+        let exponent = bits / 0x80_0000 % 0x100;
+        if LAST_IS_UNIT < exponent {
+            return false;
+        }
+        let digits = significand_of(exponent, bits % 0x80_0000);
+        let shift = self.shift(exponent);
+        let units = digits >> shift;
+        if units << shift != digits {
+            return false;
+        }
+        if WEIGHT_LIMIT < units {
+            return false;
+        }
+        bits != 0x8000_0000
+    }
+}

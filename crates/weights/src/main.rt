@@ -4,6 +4,7 @@
 #![tactic(auto)]
 
 use std::io;
+use tropical_weight::shifts::GridShifts;
 
 const PATTERNS: [u32; 28] = [
     0x4300_0000, // 128
@@ -36,52 +37,34 @@ const PATTERNS: [u32; 28] = [
     0x0080_0000, // the least normal value
 ];
 
-// A cost by its sign and its magnitude.
-fn print_cost(rt: &impl Print, cost: i32) -> io::Result<()> {
-    if cost < 0 {
-        print!(rt; "-")?;
-    }
-    print!(rt; "{}", tropical_weight::magnitude(cost))
-}
-
 // The pattern, and its number of units where it is on the grid.
 fn print_weight(rt: &impl Print, bits: u32) -> io::Result<()> {
     print!(rt; "{bits:08x}")?;
     if tropical_weight::on_grid(bits) {
-        print!(rt; " ")?;
-        print_cost(rt, tropical_weight::cost(tropical_weight::from_bits(bits)))?;
-        println!(rt; "")
+        let cost = tropical_weight::cost(tropical_weight::from_bits(bits));
+        println!(rt; " {cost}")
     } else {
         println!(rt; " off the grid")
     }
 }
 
 fn print_weights(rt: &impl Print) -> io::Result<()> {
-    let mut i = 0usize;
-    while i < 28 {
-        print_weight(rt, PATTERNS[i])?;
-        i += 1;
+    for bits in &PATTERNS {
+        print_weight(rt, *bits)?;
     }
     Ok(())
 }
 
-fn print_turn(rt: &impl Print, exponent: u64, shift: u64) -> io::Result<()> {
-    println!(rt; "from exponent {exponent} shift {shift}")
-}
-
 // Each turn of the table.
 fn print_turns(rt: &impl Print) -> io::Result<()> {
-    let shifts = tropical_weight::grid_shifts();
-    // no shift
-    let mut last = 0xffu8;
-    let mut exponent = 0usize;
-    while exponent < 256 {
-        let shift = shifts[exponent];
-        if shift != last {
-            print_turn(rt, exponent as u64, shift as u64)?;
+    let shifts = GridShifts::new();
+    let mut last = None;
+    for exponent in 0..256u32 {
+        let shift = shifts.shift(exponent);
+        if last != Some(shift) {
+            println!(rt; "from exponent {exponent} shift {shift}")?;
         }
-        last = shift;
-        exponent += 1;
+        last = Some(shift);
     }
     Ok(())
 }

@@ -6,21 +6,21 @@ use Prim.Native.Nat.{ℕ, ◌≤◌, ◌<◌}
 use lib.Dec.{eqb}
 use lib.ListN.{length}
 use borrow.Author.Tests.{lt-ltb, le-ltb, eqb-true}
-use Rattle.sheet.specs.declared.reader.Step.{Step}
+use Rattle.std.specs.Prelude.{Option, None, Some, Result, Ok, Err}
+use Rattle.sheet.specs.declared.refusal.Refusal.{Refusal}
+use Rattle.sheet.specs.declared.tr.Link.{Link}
+use Rattle.sheet.specs.declared.tr.Node.{Node}
+use Rattle.sheet.specs.Refusals.{number_in}
 use Rattle.sheet.specs.Machine.{Machine, link_fields}
 use Rattle.machine.specs.Readings.{link}
-use Rattle.sheet_fields.specs.declared.nodes.NodeStep.{NodeStep}
-use Rattle.sheet_fields.specs.Counts.{counts_by}
+use Rattle.sheet_fields.specs.declared.counts.SheetCounts.{SheetCounts}
 use Rattle.sheet_fields.specs.Fields.{fields_of_node, LinkOf, NodeOf}
 use Rattle.yeldmur.specs.Told.{counts_told, link_told, node_told, numbered}
 
 -- the number of the refusal, or 0
-pub counts-number : (sheet : List ℕ) (k nodes links finals start : ℕ) → (counts_told (counts_by (eqb k 0) sheet k) nodes links finals start).0 ≡ k
-counts-number sheet k nodes links finals start = go (eqb k 0) refl
-  where
-    go : (b : Bool) → eqb k 0 ≡ b → (counts_told (counts_by b sheet k) nodes links finals start).0 ≡ k
-    go true q = sym (eqb-true k 0 q)
-    go false q = refl
+pub counts-number : (a : Result SheetCounts Refusal) (nodes links finals start : ℕ) → (counts_told a nodes links finals start).0 ≡ number_in a
+counts-number (Ok c) nodes links finals start = refl
+counts-number (Err r) nodes links finals start = refl
 
 module _ (number count : ℕ) (fields old : List ℕ) where
   among : number < count → 0 ∷ fields ≡ numbered number count fields old
@@ -30,10 +30,10 @@ module _ (number count : ℕ) (fields old : List ℕ) where
   past h = sym (ap (λ (b : Bool). cond b (0 ∷ fields) (31 ∷ old)) (le-ltb number count h))
 
 module _ (m : Machine) (number : ℕ) (old : List ℕ) where
-  pub link-numbered : (s : Step) → LinkOf m number s → link_told s old ≡ numbered number (length m.links) (link_fields (link m number)) old
-  link-numbered (Step.Link k) h = ap (λ (ws : List ℕ). 0 ∷ ws) h.1 ∙ among number (length m.links) (link_fields (link m number)) old h.0
-  link-numbered Step.End h = past number (length m.links) (link_fields (link m number)) old h
+  pub link-numbered : (s : Option Link) → LinkOf m number s → link_told s old ≡ numbered number (length m.links) (link_fields (link m number)) old
+  link-numbered (Some k) h = ap (λ (ws : List ℕ). 0 ∷ ws) h.1 ∙ among number (length m.links) (link_fields (link m number)) old h.0
+  link-numbered None h = past number (length m.links) (link_fields (link m number)) old h
 
-  pub node-numbered : (s : NodeStep) → NodeOf m number s → node_told s old ≡ numbered number (length m.finals) (fields_of_node m number) old
-  node-numbered (NodeStep.Node n) h = ap (λ (ws : List ℕ). 0 ∷ ws) h.1 ∙ among number (length m.finals) (fields_of_node m number) old h.0
-  node-numbered NodeStep.End h = past number (length m.finals) (fields_of_node m number) old h
+  pub node-numbered : (s : Option Node) → NodeOf m number s → node_told s old ≡ numbered number (length m.finals) (fields_of_node m number) old
+  node-numbered (Some n) h = ap (λ (ws : List ℕ). 0 ∷ ws) h.1 ∙ among number (length m.finals) (fields_of_node m number) old h.0
+  node-numbered None h = past number (length m.finals) (fields_of_node m number) old h

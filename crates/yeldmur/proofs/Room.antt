@@ -9,22 +9,21 @@ use lib.Dec.{leb, ltb}
 use lib.ListN.{length}
 use borrow.Author.Tests.{le-ltb, lt-ltb, le-leb, lt-leb, ltb-true, ltb-false}
 use Rattle.tropical_weight.specs.Limits.{node_limit, link_limit, list_limit}
-use Rattle.sheet.specs.declared.tr.Trailer.{Trailer}
-use Rattle.sheet.specs.Records.{trailer_at}
 use Rattle.sheet.specs.Machine.{Machine, machine}
 use Rattle.sheet.proofs.Round.{Below}
 use Rattle.machine.specs.Readings.{marked}
 use Rattle.machine.specs.Input.{input_number}
+use Rattle.machine.specs.declared.climbing.Machine.{Machine as Climbing}
+use Rattle.read_back.proofs.Follow.{fields_in}
 use Rattle.search.specs.ListMachine.{result_for, result_bytes}
 use Rattle.search.proofs.Lists.{Accepted, accepted, marked-few}
 use Rattle.search.proofs.Sizes.{result-length, zero-holds, one_holds, many-holds}
-use Rattle.machine.specs.Finals.{final_count}
+use Rattle.machine.specs.Finals.{finals_at, final_count}
 use Rattle.sheet.specs.Sheet.{parts_of}
 use Rattle.sheet.proofs.Sources.{machine-nodes}
 use Rattle.shortest_distance.specs.Outcome.{distance_number}
 use Rattle.shortest_distance.proofs.Outcomes.{number-room}
 use Rattle.shortest_path.specs.Outcome.{answer_of, slots_needed, tested_number, list_number}
-use Rattle.shortest_path.proofs.Joining as Joining
 use Rattle.shortest_path.proofs.Outcomes.{tested-seven, tested-last, number-areas}
 use Rattle.list_answer.specs.ListAnswer.{slots_of}
 use Rattle.yeldmur.specs.Areas.{entries_bytes, bytes_of, bytes_for, bytes_enough, Enough, counts_number, finals_of, Serves}
@@ -113,39 +112,43 @@ module _ (nodes links n : ℕ) where
     pub counts_zero : n ≤ list_limit → counts_number nodes links n ≡ 0
     counts_zero h = counts-fit ∙ ap {B = ℕ} (λ (b : Bool). cond b 7 0) (le-ltb list_limit n h)
 
--- ---- of an accepted sheet's own counts
-module _ (sheet : List ℕ) (below : Below 256 sheet) (ok : input_number sheet ≡ 0) (t : Trailer) (same : t ≡ trailer_at sheet) (finals : ℕ) (counted : finals ≡ final_count sheet t.links t.nodes) (few : finals ≤ t.nodes) (n : ℕ) where
-  nodes-are : t.nodes ≡ length (machine sheet).finals
-  nodes-are = Joining.nodes-is sheet below ok t same finals counted
+-- ---- of a machine's own counts
+module _ (c : Climbing) (finals : ℕ) (counted : finals ≡ final_count c.sheet.bytes.now c.sheet.links c.sheet.nodes) (few : finals ≤ c.sheet.nodes) (n : ℕ) where
+  abbrev sheet : List ℕ
+  sheet = c.sheet.bytes.now
 
-  links-are : t.links ≡ length (machine sheet).links
-  links-are = Joining.links-is sheet below ok t same finals counted
+  nodes-are : c.sheet.nodes ≡ length (machine c.sheet.bytes.now).finals
+  nodes-are = sym (fields_in c).nodes-are
 
-  finals-are : finals ≡ marked (machine sheet).finals
-  finals-are = Joining.finals-is sheet below ok t same finals counted
+  links-are : c.sheet.links ≡ length (machine c.sheet.bytes.now).links
+  links-are = sym (fields_in c).links-are
 
-  pub number_same : counts_number t.nodes t.links n ≡ tested_number sheet n 0
+  finals-are : finals ≡ marked (machine c.sheet.bytes.now).finals
+  unfolding finals_at
+  finals-are = counted ∙ ap marked (fields_in c).finals-are
+
+  pub number_same : counts_number c.sheet.nodes c.sheet.links n ≡ tested_number c.sheet.bytes.now n 0
   number_same = go (ltb list_limit n) refl
     where
-      nodes : t.nodes ≤ node_limit
-      nodes = Joining.few-nodes sheet below ok t same finals counted
+      nodes : c.sheet.nodes ≤ node_limit
+      nodes = (fields_in c).few-nodes
 
-      links : t.links ≤ link_limit
-      links = Joining.few-links sheet below ok t same finals counted
+      links : c.sheet.links ≤ link_limit
+      links = (fields_in c).few-links
 
-      go : (b : Bool) → ltb list_limit n ≡ b → counts_number t.nodes t.links n ≡ tested_number sheet n 0
-      go true q = counts-n t.nodes t.links n nodes links (ltb-true list_limit n q) ∙ sym (tested-seven sheet n 0 ok (ltb-true list_limit n q))
-      go false q = counts_zero t.nodes t.links n nodes links (ltb-false list_limit n q) ∙ sym (tested-last sheet n 0 ok (ltb-false list_limit n q))
+      go : (b : Bool) → ltb list_limit n ≡ b → counts_number c.sheet.nodes c.sheet.links n ≡ tested_number sheet n 0
+      go true q = counts-n c.sheet.nodes c.sheet.links n nodes links (ltb-true list_limit n q) ∙ sym (tested-seven sheet n 0 c.climbs (ltb-true list_limit n q))
+      go false q = counts_zero c.sheet.nodes c.sheet.links n nodes links (ltb-false list_limit n q) ∙ sym (tested-last sheet n 0 c.climbs (ltb-false list_limit n q))
 
-  all-finals : finals_of t.nodes finals ≡ finals
-  all-finals = ap {B = ℕ} (λ (b : Bool). cond b t.nodes finals) (le-ltb t.nodes finals few)
+  all-finals : finals_of c.sheet.nodes finals ≡ finals
+  all-finals = ap {B = ℕ} (λ (b : Bool). cond b c.sheet.nodes finals) (le-ltb c.sheet.nodes finals few)
 
-  pub slots-told : slots_of t.nodes t.links (finals_of t.nodes finals) n ≡ slots_needed sheet n
+  pub slots-told : slots_of c.sheet.nodes c.sheet.links (finals_of c.sheet.nodes finals) n ≡ slots_needed c.sheet.bytes.now n
   slots-told = λ i. slots_of (nodes-are i) (links-are i) ((all-finals ∙ finals-are) i) n
 
-  pub bytes-told : bytes_of t.nodes t.links (finals_of t.nodes finals) n ≡ bytes_enough sheet n
+  pub bytes-told : bytes_of c.sheet.nodes c.sheet.links (finals_of c.sheet.nodes finals) n ≡ bytes_enough c.sheet.bytes.now n
   bytes-told = λ i. bytes_of (nodes-are i) (links-are i) ((all-finals ∙ finals-are) i) n
 
   -- it has at most its own counts
-  pub own-counts : (length (machine sheet).finals ≤ t.nodes) × (length (machine sheet).links ≤ t.links) × (marked (machine sheet).finals ≤ finals)
+  pub own-counts : (length (machine c.sheet.bytes.now).finals ≤ c.sheet.nodes) × (length (machine c.sheet.bytes.now).links ≤ c.sheet.links) × (marked (machine c.sheet.bytes.now).finals ≤ finals)
   own-counts = (le_of_eq (sym nodes-are), le_of_eq (sym links-are), le_of_eq (sym finals-are))

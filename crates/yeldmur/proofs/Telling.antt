@@ -1,121 +1,124 @@
 -- What the answers tell by numbers: first the number of the refusal, or 0, that their definitions give. Assumes nothing.
-use mathlib.Core.Path.{◌≡◌, refl, sym, ap, ◌∙◌}
-use mathlib.Core.Bool.{Bool, true, false, not, cond}
-use Prim.Native.Nat.{ℕ, suc}
-use native.Mathlib.Omega.{arith}
-use lib.Dec.{ltb, eqb}
-use borrow.Author.Tests.{ne_eqb, eqb-true, eqb-false}
-use Rattle.sheet.specs.declared.write.Written.TheVariants as Written
-use Rattle.sheet.specs.Sheet.{Parts}
-use Rattle.sheet.specs.Answers.{written_by}
-use Rattle.rows.specs.declared.converted.Converted.{Converted}
-use Rattle.rows.specs.Answers.{converted_by}
+use mathlib.Core.Path.{◌≡◌, refl, sym, ap, ◌∙◌, subst}
+use mathlib.Core.Logic.{inl, inr}
+use mathlib.Core.Bool.{Bool, not, cond}
+use mathlib.Core.List.{List}
+use mathlib.Core.Option.{Option as Maybe, none, some}
+use Prim.Native.Nat.{ℕ, ◌/◌}
+use lib.Dec.{leb, ltb, eqb}
+use lib.ListN.{length}
+use borrow.Author.Tests.{ne_eqb}
+use Rattle.std.specs.Prelude.{Option, None, Some, Result, Ok, Err}
+use Rattle.tropical_weight.specs.Limits.{list_limit}
+use Rattle.sheet.specs.declared.refusal.Refusal.{Refusal}
+use Rattle.sheet.specs.declared.refusal.Refusal.TheVariants as Refusal
+use Rattle.sheet.specs.Refusals.{number_of, answer, number_in}
+use Rattle.sheet.specs.Sheet.{Parts, records_fit, verdict, sheet_length, parts_of, read_number, write_number}
+use Rattle.sheet.proofs.Refusals.{Known, known, known-cond, number-told, number-positive, same-refusal, answer-ok, answer-err}
+use Rattle.sheet.proofs.AcceptedSheet.{verdict-known, read-known}
+use Rattle.machine.specs.Input.{input_number}
+use Rattle.machine.proofs.Machines.{input-known}
+use Rattle.sheet.specs.Machine.{machine}
+use Rattle.text_rows.specs.Rows.{Row, read_rows, weights_pass}
+use Rattle.text_rows.specs.Convert.{fields_hold, length_of, number_by, rows_number}
+use Rattle.text_rows.specs.Written.{has_rows, text_of, text_number}
 use Rattle.text_rows.proofs.Measuring.{in_room}
-use Rattle.shortest_distance.specs.declared.Distances.TheVariants as Distances
-use Rattle.shortest_distance.specs.Outcome.{distances_by}
-use Rattle.search.specs.ListMachine.{Result}
-use Rattle.list_answer.specs.declared.Listed.TheVariants as Listed
-use Rattle.shortest_path.specs.Outcome.{list_by}
+use Rattle.shortest_distance.specs.Outcome.{answer_of as distances_of, slots_needed as distance_slots, distance_number}
+use Rattle.shortest_path.specs.Outcome.{answer_of, slots_needed, tested_number, areas_number, list_number}
+use Rattle.read_back.specs.Way.{count_in, is_list}
+use Rattle.read_back.specs.Answers.{count_number, held_reading, room_number, held_number, reading_number}
 use Rattle.yeldmur.specs.Areas.{measured_number}
-use Rattle.yeldmur.specs.Told.{written_told, converted_told, distances_told, listed_told}
+use Rattle.yeldmur.specs.Told.{value_told}
 
--- an answer that is known both by its case and by its definition, told with its number among the values
-pub told : {A B : Type 0} (tells : A → B) (number : B → ℕ) (k : ℕ) {answer case is : A} → answer ≡ case → answer ≡ is → number (tells is) ≡ k → (number (tells case) ≡ k) × (tells case ≡ tells is)
-told tells number k e d h = (ap (λ a. number (tells a)) (sym e ∙ d) ∙ h, ap tells (sym e ∙ d))
+-- ---- each number is 0 or a refusal's
+room-known : (b : Bool) → Known (cond b 21 0)
+room-known b = known-cond b 21 0 (known Refusal.Room) (inl refl)
 
--- a conversion by its numbers: where no refusal is 0, the number 0 tells of a length, and any other of a refusal
-module _ (a : Converted) (old : ℕ) {r s : ℕ} (e : (r, s) ≡ converted_told a old) where
-  told-length : ((j : ℕ) → a ≡ Converted.Refused j → j ≡ 0 → ⊥) → r ≡ 0 → a ≡ Converted.Length s
-  told-length h z = go a refl
-    where
-      go : (b : Converted) → a ≡ b → a ≡ Converted.Length s
-      go (Converted.Length n) q = q ∙ ap Converted.Length (sym (ap (λ (x : ℕ × ℕ). x.1) (e ∙ ap (λ (b : Converted). converted_told b old) q)))
-      go (Converted.Refused j) q = absurd (h j q (sym (ap (λ (x : ℕ × ℕ). x.0) (e ∙ ap (λ (b : Converted). converted_told b old) q)) ∙ z))
+pub write-known : (p : Parts) (room : ℕ) → Known (write_number p room)
+unfolding write_number
+write-known p room =
+    known-cond (not (eqb (verdict (records_fit p) p) 0)) (verdict (records_fit p) p) (cond (ltb room (sheet_length p)) 21 0) (verdict-known (records_fit p) p) (room-known (ltb room (sheet_length p)))
 
-  pub told-refused : (j : ℕ) → r ≡ suc j → a ≡ Converted.Refused (suc j)
-  told-refused j z = go a refl
-    where
-      go : (b : Converted) → a ≡ b → a ≡ Converted.Refused (suc j)
-      go (Converted.Length n) q = absurd (omega (arith, ap (λ (x : ℕ × ℕ). x.0) (e ∙ ap (λ (b : Converted). converted_told b old) q)))
-      go (Converted.Refused i) q = q ∙ ap Converted.Refused (sym (ap (λ (x : ℕ × ℕ). x.0) (e ∙ ap (λ (b : Converted). converted_told b old) q)) ∙ z)
+by-known : (o : Option (List Row)) (room : ℕ) → Known (number_by o room)
+by-known None room = known Refusal.Rows
+by-known (Some rs) room =
+    known-cond (not (fields_hold rs)) 1 (cond (not (weights_pass rs)) 4 (cond (ltb room (length_of rs)) 21 0)) (known Refusal.Layout)
+    (known-cond (not (weights_pass rs)) 4 (cond (ltb room (length_of rs)) 21 0) (known Refusal.Weight) (room-known (ltb room (length_of rs))))
 
-module _ (k : ℕ) where
-  -- what a refusal leaves
-  pub kept : (new old : ℕ) → (k ≡ 0 → ⊥) → old ≡ cond (eqb k 0) new old
-  kept new old h = sym (ap (λ (b : Bool). cond b new old) (ne_eqb k 0 h))
+pub rows-known : (text : List ℕ) (room : ℕ) → Known (rows_number text room)
+unfolding rows_number
+rows-known text room = by-known (read_rows text) room
 
-  pub written-number : (p : Parts) (length : ℕ) → (written_told (written_by (eqb k 0) p k) length).0 ≡ k
-  written-number p length = go (eqb k 0) refl
-    where
-      go : (b : Bool) → eqb k 0 ≡ b → (written_told (written_by b p k) length).0 ≡ k
-      go true q = sym (eqb-true k 0 q)
-      go false q = refl
+pub text-known : (bytes : List ℕ) (room : ℕ) → Known (text_number bytes room)
+unfolding text_number
+text-known bytes room =
+    known-cond (not (eqb (read_number bytes) 0)) (read_number bytes) (cond (not (has_rows (parts_of bytes))) 9 (cond (ltb room (length (text_of (parts_of bytes)))) 21 0)) (read-known bytes)
+    (known-cond (not (has_rows (parts_of bytes))) 9 (cond (ltb room (length (text_of (parts_of bytes)))) 21 0) (known Refusal.NoRows) (room-known (ltb room (length (text_of (parts_of bytes))))))
 
-  -- no refusal to write has the number 0
-  pub written-refused : (p : Parts) (j : ℕ) → Written.Refused j ≡ written_by (eqb k 0) p k → j ≡ 0 → ⊥
-  written-refused p j h z = go (eqb k 0) refl h
-    where
-      go : (b : Bool) → eqb k 0 ≡ b → Written.Refused j ≡ written_by b p k → ⊥
-      go true q h = let z : ◌≡◌ {A = ℕ} 0 1 = cc in omega arith
-      go false q h = let same : j ≡ k = cc in eqb-false k 0 q (sym same ∙ z)
+areas-known : (b c : Bool) → Known (cond b 20 (cond c 21 0))
+areas-known b c = known-cond b 20 (cond c 21 0) (known Refusal.Work) (room-known c)
 
-  pub converted-number : (size length : ℕ) → (converted_told (converted_by (eqb k 0) size k) length).0 ≡ k
-  converted-number size length = go (eqb k 0) refl
-    where
-      go : (b : Bool) → eqb k 0 ≡ b → (converted_told (converted_by b size k) length).0 ≡ k
-      go true q = sym (eqb-true k 0 q)
-      go false q = refl
+pub distance-known : (bytes : List ℕ) (words room : ℕ) → Known (distance_number bytes words room)
+unfolding distance_number
+distance-known bytes words room =
+    known-cond (not (eqb (input_number bytes) 0)) (input_number bytes) (cond (ltb (words / 8) (distance_slots bytes)) 20 (cond (ltb room (length (distances_of bytes))) 21 0)) (input-known bytes)
+    (areas-known (ltb (words / 8) (distance_slots bytes)) (ltb room (length (distances_of bytes))))
 
-  -- no refusal to convert has the number 0
-  converted-refused : (size j : ℕ) → converted_by (eqb k 0) size k ≡ Converted.Refused j → j ≡ 0 → ⊥
-  converted-refused size j h z = go (eqb k 0) refl h
-    where
-      go : (b : Bool) → eqb k 0 ≡ b → converted_by b size k ≡ Converted.Refused j → ⊥
-      go true q h = let z : ◌≡◌ {A = ℕ} 0 1 = cc in omega arith
-      go false q h = let same : k ≡ j = cc in eqb-false k 0 q (same ∙ z)
+tested-known : (bytes : List ℕ) (n last : ℕ) → Known last → Known (tested_number bytes n last)
+unfolding tested_number
+tested-known bytes n last h =
+    known-cond (not (eqb (input_number bytes) 0)) (input_number bytes) (cond (ltb list_limit n) 7 last) (input-known bytes) (known-cond (ltb list_limit n) 7 last (known Refusal.Count) h)
 
-  -- so that 0 tells of a length
-  pub length-told : (size : ℕ) (a : Converted) (old : ℕ) {r s : ℕ} → (r, s) ≡ converted_told a old → a ≡ converted_by (eqb k 0) size k → r ≡ 0 → a ≡ Converted.Length s
-  length-told size a old e is z = told-length a old e (λ j q. converted-refused size j (sym is ∙ q)) z
+pub list-known : (bytes : List ℕ) (n words room : ℕ) → Known (list_number bytes n words room)
+unfolding list_number
+list-known bytes n words room = tested-known bytes n (areas_number bytes n words room) (areas-known (ltb (words / 8) (slots_needed bytes n)) (ltb room (length (answer_of bytes n))))
 
-  -- what measuring tells is the number in any room
-  measured : (size length room : ℕ) → in_room k size room ≡ measured_number (converted_told (converted_by (eqb k 0) size k) length).0 (converted_told (converted_by (eqb k 0) size k) length).1 room
-  measured size length room = go (eqb k 0) refl
-    where
-      go : (b : Bool) → eqb k 0 ≡ b
-          → cond (not b) k (cond (ltb room size) 21 0) ≡ measured_number (converted_told (converted_by b size k) length).0 (converted_told (converted_by b size k) length).1 room
-      go true q = refl
-      go false q = sym (ap (λ (b : Bool). cond b (cond (ltb room length) 21 0) k) q)
+pub count-known : (result : List ℕ) (n states links : ℕ) → Known (count_number result n states links)
+unfolding count_number
+count-known result n states links =
+    known-cond (ltb list_limit n) 7 (cond (not (is_list result states links n)) 30 0) (known Refusal.Count) (known-cond (not (is_list result states links n)) 30 0 (known Refusal.NoAnswer) (inl refl))
 
-  pub told-in-room : (size old : ℕ) {r s : ℕ} → (r, s) ≡ converted_told (converted_by (eqb k 0) size k) old → (room : ℕ) → in_room k size room ≡ measured_number r s room
-  told-in-room size old e room = measured size old room ∙ ap (λ (x : ℕ × ℕ). measured_number x.0 x.1 room) (sym e)
+held-known : (o : Maybe (List ℕ)) (room : ℕ) → Known (room_number o room)
+held-known none room = known Refusal.NoAnswer
+held-known (some run) room = room-known (ltb room (length run))
 
-  pub distances-number : (count values : ℕ) → (distances_told (distances_by (eqb k 0) count k) values).0 ≡ k
-  distances-number count values = go (eqb k 0) refl
-    where
-      go : (b : Bool) → eqb k 0 ≡ b → (distances_told (distances_by b count k) values).0 ≡ k
-      go true q = sym (eqb-true k 0 q)
-      go false q = refl
+pub reading-known : (sheet : List ℕ) (n : ℕ) (result : List ℕ) (states links k room : ℕ) → Known (reading_number sheet n result states links k room)
+unfolding reading_number
+reading-known sheet n result states links k room =
+    let last = room_number (held_reading (machine sheet) result n states links k) room in
+    tested-known sheet n (held_number (machine sheet) result n states links k room)
+    (known-cond (not (is_list result states links n)) 30 (cond (leb (count_in result states links n) k) 31 last) (known Refusal.NoAnswer)
+    (known-cond (leb (count_in result states links n) k) 31 last (known Refusal.Absent) (held-known (held_reading (machine sheet) result n states links k) room)))
 
-  -- no refusal of distances has the number 0
-  pub distances-refused : (count j : ℕ) → Distances.Refused j ≡ distances_by (eqb k 0) count k → j ≡ 0 → ⊥
-  distances-refused count j h z = go (eqb k 0) refl h
-    where
-      go : (b : Bool) → eqb k 0 ≡ b → Distances.Refused j ≡ distances_by b count k → ⊥
-      go true q h = let z : ◌≡◌ {A = ℕ} 0 1 = cc in omega arith
-      go false q h = let same : j ≡ k = cc in eqb-false k 0 q (sym same ∙ z)
+-- ---- what is told
+-- what a refusal leaves
+pub kept : (k new old : ℕ) → (k ≡ 0 → ⊥) → old ≡ cond (eqb k 0) new old
+kept k new old h = sym (ap (λ (b : Bool). cond b new old) (ne_eqb k 0 h))
 
-  pub listed-number : (r : Result) (states links taken : ℕ) → (listed_told (list_by (eqb k 0) r k) states links taken).0 ≡ k
-  listed-number r states links taken = go (eqb k 0) refl
-    where
-      go : (b : Bool) → eqb k 0 ≡ b → (listed_told (list_by b r k) states links taken).0 ≡ k
-      go true q = sym (eqb-true k 0 q)
-      go false q = refl
+-- first the number
+number-first : (a : Result ℕ Refusal) (old : ℕ) → (value_told a old).0 ≡ number_in a
+number-first (Ok value) old = refl
+number-first (Err r) old = refl
 
-  -- no refusal of a list has the number 0
-  pub listed-refused : (r : Result) (j : ℕ) → Listed.Refused j ≡ list_by (eqb k 0) r k → j ≡ 0 → ⊥
-  listed-refused r j h z = go (eqb k 0) refl h
-    where
-      go : (b : Bool) → eqb k 0 ≡ b → Listed.Refused j ≡ list_by b r k → ⊥
-      go true q h = let z : ◌≡◌ {A = ℕ} 0 1 = cc in omega arith
-      go false q h = let same : j ≡ k = cc in eqb-false k 0 q (sym same ∙ z)
+pub value-number : (value k old : ℕ) {r s : ℕ} → Known k → (r, s) ≡ value_told (answer value k) old → r ≡ k
+value-number value k old n e = ap (λ (x : ℕ × ℕ). x.0) e ∙ number-first (answer value k) old ∙ number-told value k n
+
+-- the number 0 tells of a value, and a refusal's of that refusal
+pub length-told : (a : Result ℕ Refusal) (old : ℕ) {r s : ℕ} → (r, s) ≡ value_told a old → r ≡ 0 → a ≡ Ok s
+length-told (Ok value) old e z = ap Ok (sym (ap (λ (x : ℕ × ℕ). x.1) e))
+length-told (Err q) old e z = absurd (number-positive q (sym (ap (λ (x : ℕ × ℕ). x.0) e) ∙ z))
+
+pub told-refused : (a : Result ℕ Refusal) (old : ℕ) {r s : ℕ} (q : Refusal) → (r, s) ≡ value_told a old → r ≡ number_of q → a ≡ Err q
+told-refused (Ok value) old q e z = absurd (number-positive q (sym z ∙ ap (λ (x : ℕ × ℕ). x.0) e))
+told-refused (Err p) old q e z = ap Err (same-refusal p q (sym (ap (λ (x : ℕ × ℕ). x.0) e) ∙ z))
+
+-- what measuring tells is the number in any room
+pub told-in-room : (k size old : ℕ) {r s : ℕ} → Known k → (r, s) ≡ value_told (answer size k) old → (room : ℕ) → in_room k size room ≡ measured_number r s room
+told-in-room k size old (inl z) e room =
+    let whole = e ∙ ap (λ (a : Result ℕ Refusal). value_told a old) (answer-ok size k z) in
+    ap (λ (j : ℕ). in_room j size room) z ∙ sym (ap (λ (x : ℕ × ℕ). measured_number x.0 x.1 room) whole)
+told-in-room k size old (inr (q, z)) e room =
+    let whole = e ∙ ap (λ (a : Result ℕ Refusal). value_told a old) (answer-err size k q z) in
+    let positive = ne_eqb (number_of q) 0 (number-positive q) in
+    ap (λ (j : ℕ). in_room j size room) z ∙ ap (λ (b : Bool). cond (not b) (number_of q) (cond (ltb room size) 21 0)) positive
+    ∙ sym (ap (λ (b : Bool). cond b (cond (ltb room old) 21 0) (number_of q)) positive) ∙ sym (ap (λ (x : ℕ × ℕ). measured_number x.0 x.1 room) whole)

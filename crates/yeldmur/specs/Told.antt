@@ -1,52 +1,34 @@
 -- Answers by numbers, for callers without enums: 0 or the number of the refusal, then the values, which a refusal leaves as they were. Definitions only.
-use Rattle.std.specs.Prelude.{◌≡◌, cond, List, [], ◌∷◌, ℕ, ◌≤◌, ◌<◌, ltb, ℤ, pos, length, get_or}
+use Rattle.std.specs.Prelude.{◌≡◌, cond, List, [], ◌∷◌, ℕ, ◌≤◌, ◌<◌, ltb, ℤ, pos, length, get_or, Option, Some, None, Result, Ok, Err}
 use Rattle.std.proofs.lemmas.List.Edits.{sets}
 use Rattle.tropical_weight.specs.Tropical.{fin}
 use Rattle.sheet.specs.Machine.{machine}
 use Rattle.machine.specs.Readings.{reading_of, reading_cost}
 use Rattle.search.specs.Listed.{list_of}
-use Rattle.sheet.specs.declared.write.Written.{Written}
-use Rattle.rows.specs.declared.converted.Converted.{Converted}
-use Rattle.shortest_distance.specs.declared.Distances.{Distances}
 use Rattle.list_answer.specs.declared.Listed.{Listed}
-use Rattle.sheet.specs.declared.reader.Step.{Step}
+use Rattle.sheet.specs.declared.refusal.Refusal.{Refusal}
+use Rattle.sheet.specs.declared.tr.Link.{Link}
+use Rattle.sheet.specs.declared.tr.Node.{Node}
+use Rattle.sheet.specs.Refusals.{number_of}
 use Rattle.sheet_fields.specs.declared.counts.SheetCounts.{SheetCounts}
-use Rattle.sheet_fields.specs.declared.nodes.NodeStep.{NodeStep}
 use Rattle.sheet_fields.specs.Fields.{link_words, node_words}
-use Rattle.read_distance.specs.declared.DistanceTold.{DistanceTold}
-use Rattle.read_back.specs.declared.count.Counted.{Counted}
 use Rattle.read_back.specs.declared.reading.Told.{Told}
 use Rattle.read_back.specs.Promise.{IsAnswer}
 
--- of a sheet written, its bytes
-abbrev pub written_told : Written → ℕ → ℕ × ℕ
-written_told (Written.Length bytes) length = (0, bytes)
-written_told (Written.Refused k) length = (k, length)
-
--- of rows or a sheet converted, the bytes
-abbrev pub converted_told : Converted → ℕ → ℕ × ℕ
-converted_told (Converted.Length bytes) length = (0, bytes)
-converted_told (Converted.Refused k) length = (k, length)
-
--- of distances, how many there are
-abbrev pub distances_told : Distances → ℕ → ℕ × ℕ
-distances_told (Distances.Count count) values = (0, count)
-distances_told (Distances.Refused k) values = (k, values)
+-- of a sheet written, of rows or a sheet converted, of distances, and of a result read: how many bytes, values or readings
+abbrev pub value_told : Result ℕ Refusal → ℕ → ℕ × ℕ
+value_told (Ok value) old = (0, value)
+value_told (Err r) old = (number_of r, old)
 
 -- of a list, its machine's states and links, and the entries taken
-abbrev pub listed_told : Listed → ℕ → ℕ → ℕ → ℕ × ℕ × ℕ × ℕ
-listed_told (Listed.Made nodes made removed) states links taken = (0, nodes, made, removed)
-listed_told (Listed.Refused k) states links taken = (k, states, links, taken)
-
--- of a result, how many readings it holds
-abbrev pub counted_told : Counted → ℕ → ℕ × ℕ
-counted_told (Counted.Readings readings) count = (0, readings)
-counted_told (Counted.Refused k) count = (k, count)
+abbrev pub listed_told : Result Listed Refusal → ℕ → ℕ → ℕ → ℕ × ℕ × ℕ × ℕ
+listed_told (Ok made) states links taken = (0, made.nodes, made.links, made.taken)
+listed_told (Err r) states links taken = (number_of r, states, links, taken)
 
 -- of a reading, how many links it has, its cost and its end
-abbrev pub told_reading : Told → ℕ → ℤ → ℕ → ℕ × ℕ × ℤ × ℕ
-told_reading (Told.Reading numbers units node) count cost end = (0, numbers, units, node)
-told_reading (Told.Refused k) count cost end = (k, count, cost, end)
+abbrev pub told_reading : Result Told Refusal → ℕ → ℤ → ℕ → ℕ × ℕ × ℤ × ℕ
+told_reading (Ok told) count cost end = (0, told.links, told.cost, told.end)
+told_reading (Err r) count cost end = (number_of r, count, cost, end)
 
 -- Of the result of the call for lists it is never refused: it tells as many readings as the list holds,
 abbrev pub CountTold : List ℕ → ℕ → ℕ → ℕ → ℕ → ℕ → Type 0
@@ -66,24 +48,24 @@ ReadingTold sheet n result states links k old r count cost end run =
     IsAnswer sheet n result states links → k < length (list_of n states links result) → length way ≤ length old → IsListed sheet old way r count cost end run
 
 -- of a node's distance, whether it is reached, and the cost, or 0
-abbrev pub node_distance_told : DistanceTold → ℕ → ℤ → ℕ × ℕ × ℤ
-node_distance_told (DistanceTold.Reached k) reached cost = (0, 1, k)
-node_distance_told DistanceTold.Unreached reached cost = (0, 0, pos 0)
-node_distance_told (DistanceTold.Refused k) reached cost = (k, reached, cost)
+abbrev pub node_distance_told : Result (Option ℤ) Refusal → ℕ → ℤ → ℕ × ℕ × ℤ
+node_distance_told (Ok (Some k)) reached cost = (0, 1, k)
+node_distance_told (Ok None) reached cost = (0, 0, pos 0)
+node_distance_told (Err r) reached cost = (number_of r, reached, cost)
 
 -- of a sheet, its counts and its start
-abbrev pub counts_told : SheetCounts → ℕ → ℕ → ℕ → ℕ → ℕ × ℕ × ℕ × ℕ × ℕ
-counts_told (SheetCounts.Told n t f s) nodes links finals start = (0, n, t, f, s)
-counts_told (SheetCounts.Refused k) nodes links finals start = (k, nodes, links, finals, start)
+abbrev pub counts_told : Result SheetCounts Refusal → ℕ → ℕ → ℕ → ℕ → ℕ × ℕ × ℕ × ℕ × ℕ
+counts_told (Ok c) nodes links finals start = (0, c.nodes, c.links, c.finals, c.start)
+counts_told (Err r) nodes links finals start = (number_of r, nodes, links, finals, start)
 
 -- of a link and of a node, their fields
-abbrev pub link_told : Step → List ℕ → List ℕ
-link_told (Step.Link k) old = 0 ∷ link_words k
-link_told Step.End old = 31 ∷ old
+abbrev pub link_told : Option Link → List ℕ → List ℕ
+link_told (Some k) old = 0 ∷ link_words k
+link_told None old = 31 ∷ old
 
-abbrev pub node_told : NodeStep → List ℕ → List ℕ
-node_told (NodeStep.Node n) old = 0 ∷ node_words n
-node_told NodeStep.End old = 31 ∷ old
+abbrev pub node_told : Option Node → List ℕ → List ℕ
+node_told (Some n) old = 0 ∷ node_words n
+node_told None old = 31 ∷ old
 
 -- these are told of a number below the count
 abbrev pub numbered : ℕ → ℕ → List ℕ → List ℕ → List ℕ

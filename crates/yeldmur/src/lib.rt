@@ -25,22 +25,14 @@ ghost use Rattle.shortest_path.specs.Outcome.{slots_needed, tested_number, list_
 ghost use Rattle.shortest_path.specs.Promise.{Keeps};
 ghost use Rattle.read_back.specs.Answers.{count_number, count_answer, reading_number, reading_answer, run_after};
 ghost use Rattle.read_back.specs.Promise.{IsTrue};
-ghost use Rattle.yeldmur.specs.Told.{written_told, converted_told, distances_told, listed_told, counted_told, told_reading, CountTold, ReadingTold, node_distance_told, counts_told, link_told, node_told, numbered};
+ghost use Rattle.yeldmur.specs.Told.{value_told, listed_told, told_reading, CountTold, ReadingTold, node_distance_told, counts_told, link_told, node_told, numbered};
 ghost use Rattle.list_answer.specs.ListAnswer.{slots_of};
 ghost use Rattle.yeldmur.specs.Areas.{measured_number, bytes_of, bytes_enough, Enough, counts_number, finals_of, Serves};
 
-use list_answer::Listed;
-use read_back::count::Counted;
-use read_back::reading::Told;
-use read_distance::DistanceTold;
-use rows::converted::Converted;
-use sheet::read::Tested;
-use sheet::reader::Step;
-use sheet::refusal;
-use sheet::write::Written;
-use sheet_fields::counts::SheetCounts;
-use sheet_fields::nodes::NodeStep;
-use shortest_distance::Distances;
+use machine::climbing::Machine;
+use machine::finals::count_finals;
+use sheet::accepted::Sheet;
+use sheet::refusal::Refusal;
 use tropical_weight::{LINK_LIMIT, LIST_LIMIT, NODE_LIMIT};
 
 // Tests 1 to 4 of a byte string as a sheet.
@@ -48,9 +40,36 @@ use tropical_weight::{LINK_LIMIT, LIST_LIMIT, NODE_LIMIT};
 pub extern "C" fn yeldmur_read_sheet(sheet: &[u8]) -> u32
     ensures { result ≡ read_number sheet.now }
 {
-    match sheet::read::read(sheet) {
-        Tested::Accepted(_) => 0,
-        Tested::Refused(k) => k,
+    match Sheet::new(sheet) {
+        Ok(_) => 0,
+        Err(refusal) => u32::from(refusal),
+    }
+}
+
+// What is answered, by numbers: 0 and how many bytes, or the number of the refusal.
+fn tell_size(answer: Result<usize, Refusal>, size: &mut u64) -> u32
+    ensures { (result, size.new) ≡ value_told answer size.old }
+{
+    match answer {
+        Ok(bytes) => {
+            *size = bytes as u64;
+            0
+        }
+        Err(refusal) => u32::from(refusal),
+    }
+}
+
+// Likewise, how many values or readings. Not one generic function: C is given a size of 64 bits, for
+// which there is no From of a usize.
+fn tell_count(answer: Result<u32, Refusal>, count: &mut u32) -> u32
+    ensures { (result, count.new) ≡ value_told answer count.old }
+{
+    match answer {
+        Ok(many) => {
+            *count = many;
+            0
+        }
+        Err(refusal) => u32::from(refusal),
     }
 }
 
@@ -64,75 +83,57 @@ pub extern "C" fn yeldmur_write_sheet(
     size: &mut u64,
 ) -> u32
     ensures value { result ≡ write_number (parts links.now nodes.now start) (length res.old) }
-    ensures size_after { (result, size.new) ≡ written_told (written (parts links.now nodes.now start) (length res.old)) size.old }
+    ensures size_after { (result, size.new) ≡ value_told (written (parts links.now nodes.now start) (length res.old)) size.old }
     ensures res_after { res.new ≡ written_over (parts links.now nodes.now start) res.old }
     ensures read_back { result ≡ 0 → ReadBack (parts links.now nodes.now start) size.new res.new }
 {
-    match sheet::write::write(links, nodes, start, res) {
-        Written::Length(bytes) => {
-            *size = bytes as u64;
-            0
-        }
-        Written::Refused(k) => k,
-    }
-}
-
-// What a conversion answers: 0 and the bytes, or the number of the refusal.
-fn tell(answer: Converted, size: &mut u64) -> u32
-    ensures { (result, size.new) ≡ converted_told answer size.old }
-{
-    match answer {
-        Converted::Length(length) => {
-            *size = length as u64;
-            0
-        }
-        Converted::Refused(k) => k,
-    }
+    let written = sheet::write::write(links, nodes, start, res);
+    tell_size(written, size)
 }
 
 // Turns rows of text into a sheet: 8, then 1, 4 and 21.
 #[unsafe(no_mangle)]
 pub extern "C" fn yeldmur_rows_to_sheet(text: &[u8], res: &mut [u8], size: &mut u64) -> u32
     ensures value { result ≡ rows_number text.now (length res.old) }
-    ensures size_after { (result, size.new) ≡ converted_told (sheet_answer text.now (length res.old)) size.old }
+    ensures size_after { (result, size.new) ≡ value_told (sheet_answer text.now (length res.old)) size.old }
     ensures res_after { res.new ≡ sheet_over text.now res.old }
     ensures made { result ≡ 0 → Made text.now size.new res.new }
 {
     let answer = rows::to_sheet::rows_to_sheet(text, res);
-    tell(answer, size)
+    tell_size(answer, size)
 }
 
 // The bytes of the sheet of these rows: 8, then 1 and 4.
 #[unsafe(no_mangle)]
 pub extern "C" fn yeldmur_rows_sheet_bytes(text: &[u8], bytes: &mut u64) -> u32
-    ensures bytes_after { (result, bytes.new) ≡ converted_told (sheet_measured text.now) bytes.old }
+    ensures bytes_after { (result, bytes.new) ≡ value_told (sheet_measured text.now) bytes.old }
     ensures by_index { (room : ℕ) → rows_number text.now room ≡ measured_number result bytes.new room }
 {
     let answer = rows::to_sheet::sheet_bytes(text);
-    tell(answer, bytes)
+    tell_size(answer, bytes)
 }
 
 // Turns a sheet into rows of text, which turn into that very sheet: 1 to 4, 9 and 21.
 #[unsafe(no_mangle)]
 pub extern "C" fn yeldmur_sheet_to_rows(sheet: &[u8], res: &mut [u8], size: &mut u64) -> u32
     ensures value { result ≡ text_number sheet.now (length res.old) }
-    ensures size_after { (result, size.new) ≡ converted_told (text_answer sheet.now (length res.old)) size.old }
+    ensures size_after { (result, size.new) ≡ value_told (text_answer sheet.now (length res.old)) size.old }
     ensures res_after { res.new ≡ text_over sheet.now res.old }
     ensures returned { result ≡ 0 → Returned sheet.now size.new res.new }
     ensures no_text { result ≡ 9 → NoText sheet.now }
 {
     let answer = rows::to_rows::sheet_to_rows(sheet, res);
-    tell(answer, size)
+    tell_size(answer, size)
 }
 
 // The bytes of the rows of a sheet: 1 to 4 and 9.
 #[unsafe(no_mangle)]
 pub extern "C" fn yeldmur_sheet_rows_bytes(sheet: &[u8], bytes: &mut u64) -> u32
-    ensures bytes_after { (result, bytes.new) ≡ converted_told (text_measured sheet.now) bytes.old }
+    ensures bytes_after { (result, bytes.new) ≡ value_told (text_measured sheet.now) bytes.old }
     ensures by_index { (room : ℕ) → text_number sheet.now room ≡ measured_number result bytes.new room }
 {
     let answer = rows::to_rows::rows_bytes(sheet);
-    tell(answer, bytes)
+    tell_size(answer, bytes)
 }
 
 // The distances of a sheet's nodes, two words each, 1 and the weight bits, or 0 and 0 where a node is
@@ -145,18 +146,13 @@ pub extern "C" fn yeldmur_shortest_distance(
     values: &mut u32,
 ) -> u32
     ensures value { result ≡ distance_number sheet.now (length work.old) (length res.old) }
-    ensures values_after { (result, values.new) ≡ distances_told (distance_answer sheet.now (length work.old) (length res.old)) values.old }
+    ensures values_after { (result, values.new) ≡ value_told (distance_answer sheet.now (length work.old) (length res.old)) values.old }
     ensures work_new { work.new ≡ distance_work sheet.now work.old (length res.old) }
     ensures res_after { res.new ≡ distance_result sheet.now (length work.old) res.old }
     ensures least { result ≡ 0 → Least (machine_for sheet.now) values.new res.new }
 {
-    match shortest_distance::shortest_distance(sheet, work, res) {
-        Distances::Count(count) => {
-            *values = count;
-            0
-        }
-        Distances::Refused(k) => k,
-    }
+    let made = shortest_distance::shortest_distance(sheet, work, res);
+    tell_count(made, values)
 }
 
 // The n cheapest readings of a sheet, n up to 64, as a machine and its words: the counts of its states
@@ -178,13 +174,13 @@ pub extern "C" fn yeldmur_shortest_path(
     ensures keeps { result ≡ 0 → Keeps (machine_for sheet.now) n states.new links.new taken.new res.new }
 {
     match shortest_path::shortest_path(sheet, n, work, res) {
-        Listed::Made(nodes, made, removed) => {
-            *states = nodes;
-            *links = made;
-            *taken = removed;
+        Ok(made) => {
+            *states = made.nodes;
+            *links = made.links;
+            *taken = made.taken;
             0
         }
-        Listed::Refused(k) => k,
+        Err(refusal) => u32::from(refusal),
     }
 }
 
@@ -199,16 +195,11 @@ pub extern "C" fn yeldmur_readings(
     count: &mut u32,
 ) -> u32
     ensures value { result ≡ count_number res.now n states links }
-    ensures count_after { (result, count.new) ≡ counted_told (count_answer res.now n states links) count.old }
+    ensures count_after { (result, count.new) ≡ value_told (count_answer res.now n states links) count.old }
     ensures count_told { CountTold res.now n states links result count.new }
 {
-    match read_back::count::count_readings(res, n, states, links) {
-        Counted::Readings(readings) => {
-            *count = readings;
-            0
-        }
-        Counted::Refused(k) => k,
-    }
+    let readings = read_back::count::count_readings(res, n, states, links);
+    tell_count(readings, count)
 }
 
 // Reading k, from 0, of the list for n of a sheet, from its result: the numbers of its links, its cost in
@@ -233,13 +224,13 @@ pub extern "C" fn yeldmur_reading(
     ensures reading_told_is { ReadingTold sheet.now n res.now states links k run.old result count.new cost.new end.new run.new }
 {
     match read_back::reading::reading(sheet, n, res, states, links, k, run) {
-        Told::Reading(numbers, units, node) => {
-            *count = numbers;
-            *cost = units;
-            *end = node;
+        Ok(told) => {
+            *count = told.links;
+            *cost = told.cost;
+            *end = told.end;
             0
         }
-        Told::Refused(number) => number,
+        Err(refusal) => u32::from(refusal),
     }
 }
 
@@ -248,21 +239,21 @@ fn bytes_enough(nodes: u32, links: u32, finals: u32, n: u32) -> u32
     requires { (nodes ≤ node_limit) × (links ≤ link_limit) × (finals ≤ nodes) × (n ≤ list_limit) }
     ensures { result ≡ bytes_of nodes links finals n }
 {
-    if n == 0 {
-        return 20;
+    match n {
+        0 => 20,
+        1 => 32 * nodes + 20,
+        _ => {
+            let entries = 1 + finals + n * (links + 1);
+            12 * (entries + 1) + 20 * (entries + n) + 20
+        }
     }
-    if n == 1 {
-        return 32 * nodes + 20;
-    }
-    let entries = 1 + finals + n * (links + 1);
-    12 * (entries + 1) + 20 * (entries + n) + 20
 }
 
 // The final nodes of a sheet with at most so many nodes and final nodes.
 fn finals_of(nodes: u32, finals: u32) -> u32
     ensures { (result ≡ finals_of nodes finals) × (result ≤ nodes) }
 {
-    if nodes < finals { nodes } else { finals }
+    nodes.min(finals)
 }
 
 // The areas for a list for n of every accepted sheet with at most so many nodes, links and final nodes:
@@ -283,13 +274,13 @@ pub extern "C" fn yeldmur_areas_of(
     ensures serves { result ≡ 0 → Serves nodes links finals n slots.new bytes.new }
 {
     if NODE_LIMIT < (nodes as usize) {
-        return refusal::LIMITS;
+        return u32::from(Refusal::Limits);
     }
     if LINK_LIMIT < (links as usize) {
-        return refusal::LIMITS;
+        return u32::from(Refusal::Limits);
     }
     if LIST_LIMIT < n {
-        return refusal::COUNT;
+        return u32::from(Refusal::Count);
     }
     let marked = finals_of(nodes, finals);
     *slots = list_answer::slots_needed(nodes, links, marked, n) as u64;
@@ -307,12 +298,12 @@ pub extern "C" fn yeldmur_areas(sheet: &[u8], n: u32, slots: &mut u64, bytes: &m
     ensures bytes_after { bytes.new ≡ cond (eqb result 0) (bytes_enough sheet.now n) bytes.old }
     ensures enough { result ≡ 0 → Enough sheet.now n slots.new bytes.new }
 {
-    match machine::input::input(sheet) {
-        Tested::Refused(k) => k,
-        Tested::Accepted(t) => {
-            let finals = machine::finals::count_finals(sheet, t.links, t.nodes);
-            yeldmur_areas_of(t.nodes, t.links, finals, n, slots, bytes)
+    match Machine::new(sheet) {
+        Ok(m) => {
+            let finals = count_finals(&m.sheet);
+            yeldmur_areas_of(m.sheet.nodes, m.sheet.links, finals, n, slots, bytes)
         }
+        Err(refusal) => u32::from(refusal),
     }
 }
 
@@ -330,17 +321,17 @@ pub extern "C" fn yeldmur_distance(
     ensures by_index { (sheet : List ℕ) → Holds sheet values res.now → node < values → (result, reached.new, cost.new) ≡ node_distance_told (as_told (distance_for (machine_for sheet) node)) reached.old cost.old }
 {
     match read_distance::distance_at(res, values, node) {
-        DistanceTold::Reached(units) => {
+        Ok(Some(units)) => {
             *reached = 1;
             *cost = units;
             0
         }
-        DistanceTold::Unreached => {
+        Ok(None) => {
             *reached = 0;
             *cost = 0;
             0
         }
-        DistanceTold::Refused(k) => k,
+        Err(refusal) => u32::from(refusal),
     }
 }
 
@@ -357,19 +348,14 @@ pub extern "C" fn yeldmur_sheet_counts(
     ensures start_after { (result, nodes.new, links.new, finals.new, start.new) ≡ counts_told (counts_of sheet.now) nodes.old links.old finals.old start.old }
 {
     match sheet_fields::counts::counts(sheet) {
-        SheetCounts::Told {
-            nodes: n,
-            links: t,
-            finals: f,
-            start: s,
-        } => {
-            *nodes = n;
-            *links = t;
-            *finals = f;
-            *start = s;
+        Ok(counts) => {
+            *nodes = counts.nodes;
+            *links = counts.links;
+            *finals = counts.finals;
+            *start = counts.start;
             0
         }
-        SheetCounts::Refused(k) => k,
+        Err(refusal) => u32::from(refusal),
     }
 }
 
@@ -387,14 +373,14 @@ pub extern "C" fn yeldmur_link(
     ensures next_after_2 { read_number sheet.now ≡ 0 → result ∷ ilabel.new ∷ olabel.new ∷ weight_bits.new ∷ next.new ∷ [] ≡ numbered number (length (machine_for sheet.now).links) (link_fields (link_of (machine_for sheet.now) number)) (ilabel.old ∷ olabel.old ∷ weight_bits.old ∷ next.old ∷ []) }
 {
     match sheet::reader::link_or_end(sheet, number as usize) {
-        Step::Link(link) => {
+        Some(link) => {
             *ilabel = link.ilabel;
             *olabel = link.olabel;
             *weight_bits = tropical_weight::to_bits(link.weight);
             *next = link.nextstate;
             0
         }
-        Step::End => sheet_fields::refusal::ABSENT,
+        None => u32::from(Refusal::Absent),
     }
 }
 
@@ -411,12 +397,12 @@ pub extern "C" fn yeldmur_node(
     ensures weight_bits_after_2 { read_number sheet.now ≡ 0 → result ∷ links.new ∷ mark.new ∷ weight_bits.new ∷ [] ≡ numbered number (length (machine_for sheet.now).finals) (fields_of_node (machine_for sheet.now) number) (links.old ∷ mark.old ∷ weight_bits.old ∷ []) }
 {
     match sheet_fields::nodes::node_or_end(sheet, number as usize) {
-        NodeStep::Node(node) => {
+        Some(node) => {
             *links = node.links;
             *mark = node.mark;
             *weight_bits = tropical_weight::to_bits(node.weight);
             0
         }
-        NodeStep::End => sheet_fields::refusal::ABSENT,
+        None => u32::from(Refusal::Absent),
     }
 }

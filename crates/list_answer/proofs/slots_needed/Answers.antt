@@ -10,11 +10,11 @@ use Rattle.list_answer.proofs.slots_needed.Goals as goal
 most : (n links : ℕ) → n ≤ list_limit → n * (links + 1) ≤ list_limit * (links + 1)
 most n links h = mul-le-mul_right (links + 1) h
 
-pub overflow_mul-result-2 : goal.overflow_mul-result-2
-overflow_mul-result-2 c = let a = c.args in omega (arith, c.requires, most a.n a.links c.requires.3)
+pub overflow_mul-result-in_default : goal.overflow_mul-result-in_default
+overflow_mul-result-in_default c = let a = c.args in omega (arith, c.requires, most a.n a.links c.requires.3)
 
-pub overflow_add-result-5 : goal.overflow_add-result-5
-overflow_add-result-5 c = let a = c.args in omega (arith, c.requires, most a.n a.links c.requires.3)
+pub overflow_add-result-in_default-4 : goal.overflow_add-result-in_default-4
+overflow_add-result-in_default-4 c = let a = c.args in omega (arith, c.requires, most a.n a.links c.requires.3)
 
-pub returns : goal.returns
-returns c = let a = c.args in sym (slots-many a.nodes a.links a.finals a.n (omega (arith, c.if-n-eq1.false, c.if-n-eq0.false)))
+pub returns-in_default : goal.returns-in_default
+returns-in_default c = let a = c.args in sym (slots-many a.nodes a.links a.finals a.n (omega arith))

@@ -1,13 +1,14 @@
 use mathlib.Core.Path.{◌∙◌}
 use native.Mathlib.Omega.{arith}
+use Rattle.sheet.specs.Accepted.{trailer_in}
 use Rattle.shortest_distance.proofs.Outcomes.{height-low, few-slots, handed-over}
 use Rattle.shortest_distance.proofs.distances_of.Goals as goal
 
 pub returns-then-work-nodes : goal.returns-then-work-nodes
 returns-then-work-nodes c =
-    let a = c.args in
-    let r = c.requires in
-    let o = few-slots a.sheet.now a.work.now a.res.now r.0 a.t r.1 c.if-work-nodes.true in record {
+    let m = c.args.m.now in
+    let s = m.sheet in
+    let o = few-slots s.bytes.now c.args.work.now c.args.res.now m.climbs (trailer_in s.links s.nodes s.start) s.stated c.if-work-nodes.true in record {
       value = o.answer-is;
       work_new = o.work-is;
       res_after = o.result-is;
@@ -15,18 +16,17 @@ returns-then-work-nodes c =
 
 pub hand_over-answer-requires : goal.hand_over-answer-requires
 hand_over-answer-requires c =
-    let a = c.args in
-    let r = c.requires in
+    let m = c.args.m.now in
+    let s = m.sheet in
     let made = c.make in
-    omega (arith, height-low a.sheet.now a.work.now a.res.now r.0 a.t r.1 made.new.work made.ensures _ c.height.ensures, made.ensures.size, c.if-work-nodes.false)
+    omega (arith, height-low s.bytes.now c.args.work.now c.args.res.now m.climbs (trailer_in s.links s.nodes s.start) s.stated made.new.work made.ensures _ c.height.ensures, made.ensures.size, c.if-work-nodes.false)
 
 pub returns : goal.returns
 returns c =
-    let a = c.args in
-    let r = c.requires in
+    let m = c.args.m.now in
+    let s = m.sheet in
     let made = c.make in
-    let count = c.height.ensures in
-    let o = handed-over a.sheet.now a.work.now a.res.now r.0 a.t r.1 made.new.work made.ensures _ count c.if-work-nodes.false in record {
+    let o = handed-over s.bytes.now c.args.work.now c.args.res.now m.climbs (trailer_in s.links s.nodes s.start) s.stated made.new.work made.ensures _ c.height.ensures c.if-work-nodes.false in record {
       value = c.hand_over-answer.ensures.value ∙ o.answer-is;
       work_new = c.clear.ensures ∙ o.work-is;
       res_after = c.hand_over-answer.ensures.res_after ∙ o.result-is;

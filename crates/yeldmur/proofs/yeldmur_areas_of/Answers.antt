@@ -1,35 +1,42 @@
-use mathlib.Core.Path.{◌≡◌, refl, sym, ap, ◌∙◌}
+use mathlib.Core.Path.{◌≡◌, sym, ap, ◌∙◌}
 use native.Mathlib.Omega.{arith}
 use Rattle.list_answer.specs.ListAnswer.{slots_of}
 use Rattle.yeldmur.specs.Areas.{bytes_of, finals_of}
+use Rattle.yeldmur.proofs.Telling.{kept}
 use Rattle.yeldmur.proofs.Room.{counts-nodes, counts-links, counts-n, counts_zero, serves}
 use Rattle.yeldmur.proofs.yeldmur_areas_of.Goals as goal
 
 pub returns-then-nodes-gt-NODE_LIMIT : goal.returns-then-nodes-gt-NODE_LIMIT
 returns-then-nodes-gt-NODE_LIMIT c =
-    let a = c.args in record {
-      value = sym (counts-nodes a.nodes a.links a.n c.if-nodes-gt-NODE_LIMIT.true);
-      slots_after = refl;
-      bytes_after = refl;
-      serves = λ z. absurd (omega (arith, z));
+    let a = c.args in
+    let told = c.from in
+    let positive : told.result ≡ 0 → ⊥ = λ z. omega (arith, told.ensures, z) in record {
+      value = told.ensures ∙ sym (counts-nodes a.nodes a.links a.n c.if-nodes-gt-NODE_LIMIT.true);
+      slots_after = kept told.result _ a.slots.now positive;
+      bytes_after = kept told.result _ a.bytes.now positive;
+      serves = λ z. absurd (positive z);
     }
 
 pub returns-then-links-gt-LINK_LIMIT : goal.returns-then-links-gt-LINK_LIMIT
 returns-then-links-gt-LINK_LIMIT c =
-    let a = c.args in record {
-      value = sym (counts-links a.nodes a.links a.n c.if-links-gt-LINK_LIMIT.true);
-      slots_after = refl;
-      bytes_after = refl;
-      serves = λ z. absurd (omega (arith, z));
+    let a = c.args in
+    let told = c.from-then-links-gt-LINK_LIMIT in
+    let positive : told.result ≡ 0 → ⊥ = λ z. omega (arith, told.ensures, z) in record {
+      value = told.ensures ∙ sym (counts-links a.nodes a.links a.n c.if-links-gt-LINK_LIMIT.true);
+      slots_after = kept told.result _ a.slots.now positive;
+      bytes_after = kept told.result _ a.bytes.now positive;
+      serves = λ z. absurd (positive z);
     }
 
 pub returns-then-n-gt-LIST_LIMIT : goal.returns-then-n-gt-LIST_LIMIT
 returns-then-n-gt-LIST_LIMIT c =
-    let a = c.args in record {
-      value = sym (counts-n a.nodes a.links a.n c.if-nodes-gt-NODE_LIMIT.false c.if-links-gt-LINK_LIMIT.false c.if-n-gt-LIST_LIMIT.true);
-      slots_after = refl;
-      bytes_after = refl;
-      serves = λ z. absurd (omega (arith, z));
+    let a = c.args in
+    let told = c.from-then-n-gt-LIST_LIMIT in
+    let positive : told.result ≡ 0 → ⊥ = λ z. omega (arith, told.ensures, z) in record {
+      value = told.ensures ∙ sym (counts-n a.nodes a.links a.n c.if-nodes-gt-NODE_LIMIT.false c.if-links-gt-LINK_LIMIT.false c.if-n-gt-LIST_LIMIT.true);
+      slots_after = kept told.result _ a.slots.now positive;
+      bytes_after = kept told.result _ a.bytes.now positive;
+      serves = λ z. absurd (positive z);
     }
 
 pub slots_needed-requires : goal.slots_needed-requires

@@ -1,37 +1,34 @@
-use mathlib.Core.Path.{sym, ◌∙◌, subst}
+use mathlib.Core.Path.{sym, ap, ◌∙◌}
+use Prim.Native.Nat.{ℕ}
 use lib.ListN.{length}
-use Rattle.shortest_path.specs.Outcome.{result_of, list_number}
-use Rattle.shortest_path.specs.Promise.{Promised}
+use Rattle.std.specs.Prelude.{Result}
+use Rattle.sheet.specs.declared.refusal.Refusal.{Refusal}
+use Rattle.sheet.proofs.Refusals.{answer-some, refusal-told, number-positive}
+use Rattle.list_answer.specs.declared.Listed.{Listed}
+use Rattle.shortest_path.specs.Outcome.{list_number}
 use Rattle.yeldmur.specs.Told.{listed_told}
-use Rattle.yeldmur.proofs.Telling.{told, listed-number, listed-refused}
+use Rattle.yeldmur.proofs.Telling.{list-known}
 use Rattle.yeldmur.proofs.yeldmur_shortest_path.Goals as goal
 
-pub returns-in-Made : goal.returns-in-Made
-returns-in-Made c =
+pub returns-in-Ok : goal.returns-in-Ok
+returns-in-Ok c =
     let a = c.args in
-    let k = list_number a.sheet.now a.n (length a.work.now) (length a.res.now) in
-    let r = result_of a.sheet.now a.n in
-    let e = c.shortest_path.ensures in
-    let q = c.in-Made.is in
-    let t = told (λ l. listed_told l a.states.now a.links.now a.taken.now) (λ x. x.0) k q e.value (listed-number k r a.states.now a.links.now a.taken.now) in record {
-      value = t.0;
-      taken_after = t.1;
+    let e = c.in-Ok.ensures in record {
+      value = sym (answer-some _ (list_number a.sheet.now a.n (length a.work.now) (length a.res.now)) c.in-Ok.made e.value).0;
+      taken_after = ap (λ (l : Result Listed Refusal). listed_told l a.states.now a.links.now a.taken.now) e.value;
       work_new = e.work_new;
       res_after = e.res_after;
-      keeps = λ z. subst (λ l. Promised a.sheet.now a.n l c.shortest_path.new.res) q e.promised;
+      keeps = λ z. e.promised;
     }
 
-pub returns-in-Refused : goal.returns-in-Refused
-returns-in-Refused c =
+pub returns-in-Err : goal.returns-in-Err
+returns-in-Err c =
     let a = c.args in
-    let k = list_number a.sheet.now a.n (length a.work.now) (length a.res.now) in
-    let r = result_of a.sheet.now a.n in
-    let e = c.shortest_path.ensures in
-    let q = c.in-Refused.is in
-    let t = told (λ l. listed_told l a.states.now a.links.now a.taken.now) (λ x. x.0) k q e.value (listed-number k r a.states.now a.links.now a.taken.now) in record {
-      value = t.0;
-      taken_after = t.1;
+    let e = c.in-Err.ensures in
+    let k = list_number a.sheet.now a.n (length a.work.now) (length a.res.now) in record {
+      value = c.from.ensures ∙ sym (refusal-told _ k (list-known a.sheet.now a.n (length a.work.now) (length a.res.now)) c.in-Err.refusal e.value);
+      taken_after = (λ i. (c.from.ensures i, a.states.now, a.links.now, a.taken.now)) ∙ ap (λ (l : Result Listed Refusal). listed_told l a.states.now a.links.now a.taken.now) e.value;
       work_new = e.work_new;
       res_after = e.res_after;
-      keeps = λ z. absurd (listed-refused k r c.in-Refused.k (sym q ∙ e.value) z);
+      keeps = λ z. absurd (number-positive c.in-Err.refusal (sym c.from.ensures ∙ z));
     }

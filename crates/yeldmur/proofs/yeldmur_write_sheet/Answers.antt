@@ -1,33 +1,22 @@
-use mathlib.Core.Path.{sym, ◌∙◌}
+use mathlib.Core.Path.{ap, ◌∙◌}
+use Prim.Native.Nat.{ℕ}
 use lib.ListN.{length}
-use Rattle.sheet.specs.Sheet.{write_number}
+use Rattle.std.specs.Prelude.{Result}
+use Rattle.sheet.specs.declared.refusal.Refusal.{Refusal}
+use Rattle.sheet.specs.Sheet.{sheet_length, write_number}
 use Rattle.sheet.specs.Answers.{parts}
-use Rattle.yeldmur.specs.Told.{written_told}
-use Rattle.yeldmur.proofs.Telling.{told, written-number, written-refused}
+use Rattle.yeldmur.specs.Told.{value_told}
+use Rattle.yeldmur.proofs.Telling.{write-known, value-number, length-told}
 use Rattle.yeldmur.proofs.yeldmur_write_sheet.Goals as goal
 
-pub returns-in-Length : goal.returns-in-Length
-returns-in-Length c =
+pub returns : goal.returns
+returns c =
     let a = c.args in
     let p = parts a.links.now a.nodes.now a.start in
-    let k = write_number p (length a.res.now) in
-    let w = c.write.ensures in
-    let t = told (λ w. written_told w a.size.now) (λ x. x.0) k c.in-Length.is w.value (written-number k p a.size.now) in record {
-      value = t.0;
-      size_after = t.1;
-      res_after = w.res_after;
-      read_back = λ e. w.by_index c.in-Length.bytes c.in-Length.is;
-    }
-
-pub returns-in-Refused : goal.returns-in-Refused
-returns-in-Refused c =
-    let a = c.args in
-    let p = parts a.links.now a.nodes.now a.start in
-    let k = write_number p (length a.res.now) in
-    let w = c.write.ensures in
-    let t = told (λ w. written_told w a.size.now) (λ x. x.0) k c.in-Refused.is w.value (written-number k p a.size.now) in record {
-      value = t.0;
-      size_after = t.1;
-      res_after = w.res_after;
-      read_back = λ e. absurd (written-refused k p c.in-Refused.k (sym c.in-Refused.is ∙ w.value) e);
+    let call = c.write-written in
+    let told = c.tell_size.ensures ∙ ap (λ (x : Result ℕ Refusal). value_told x a.size.now) call.ensures.value in record {
+      value = value-number (sheet_length p) (write_number p (length a.res.now)) a.size.now (write-known p (length a.res.now)) told;
+      size_after = told;
+      res_after = call.ensures.res_after;
+      read_back = λ z. call.ensures.by_index c.tell_size.new.size (length-told call.result a.size.now c.tell_size.ensures z);
     }

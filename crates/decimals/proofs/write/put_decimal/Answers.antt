@@ -9,17 +9,17 @@ use Rattle.decimals.proofs.write.put_decimal.Goals as goal
 
 pub put_text-requires : goal.put_text-requires
 put_text-requires c =
-    let x = c.args.x in
     let made = c.decimal-k in
+    let x = c.from.result in
     let is : take made.result made.new.out ≡ decimal x = made.ensures.digits ∙ decimal-is x made.result made.ensures.len in
-    omega (arith, ap length is, (length-decimal x (search rules)).1)
+    omega (arith, ap length is, (length-decimal x (omega arith)).1)
 
 pub returns : goal.returns
 returns c =
     let args = c.args in
     let made = c.decimal-k in
     let put = c.put_text in
-    let is : take made.result made.new.out ≡ decimal args.x = made.ensures.digits ∙ decimal-is args.x made.result made.ensures.len in record {
+    let is : take made.result made.new.out ≡ decimal args.x = made.ensures.digits ∙ decimal-is c.from.result made.result made.ensures.len ∙ ap decimal (search rules) in record {
       puts = puts-same is put.ensures;
       upper_bound = omega (arith, put.ensures.ends, ap length is, (length-decimal args.x (search rules)).1);
     }

@@ -1,44 +1,40 @@
-use mathlib.Core.Path.{◌≡◌, subst}
+use mathlib.Core.Path.{◌≡◌, sym, ap, ◌∙◌, subst}
 use mathlib.Core.List.{List}
-use Prim.Native.Nat.{ℕ, ◌+◌}
+use Prim.Native.Nat.{ℕ, ◌+◌, ◌<◌}
+use borrow.Author.Rules.{rules}
 use native.Mathlib.Omega.{arith}
-use lib.ListN.{get_or, take}
+use lib.ListN.{length, get_or, take}
+use lib.Seq.{take-length}
+use Rattle.std.specs.Prelude.{Option, Some, None}
 use Rattle.link_pairs.specs.Found.{found, pairs_of, Put}
 use Rattle.link_pairs.proofs.Placing.{put-more, put-early, found-next, found_none}
 use Rattle.link_pairs.proofs.pairs.find_pairs.Goals as goal
 
-pub loop-l-init : goal.loop-l-init
-loop-l-init c =
-    let args = c.args in
-    (omega arith, omega arith, found_none args.nodes (take args.count args.seconds.now) args.firsts.now args.pairs.now)
+-- the pairs of one link more
+more : (n : ℕ) (seconds firsts before middle after : List ℕ) (l next : ℕ) (r : Option ℕ) → l < length firsts → Put 0 (found n seconds (take l firsts)) before middle (Some next) → Put next (pairs_of n seconds (get_or firsts l 0)) middle after r → Put 0 (found n seconds (take (l + 1) firsts)) before after r
+more n seconds firsts before middle after l next r h p q =
+    subst (λ (k : List ℕ). Put 0 k before after r) (found-next n seconds firsts l h) (put-more 0 (found n seconds (take l firsts)) (pairs_of n seconds (get_or firsts l 0)) before middle after next r p q)
 
-pub returns-then-next-gt-LINK_LIMIT : goal.returns-then-next-gt-LINK_LIMIT
-returns-then-next-gt-LINK_LIMIT c =
-    let args = c.args in
+pub loop-l-init : goal.loop-l-init
+loop-l-init c = let a = c.args in found_none a.nodes a.seconds.now a.firsts.now a.pairs.now
+
+pub returns-in_err-next : goal.returns-in_err-next
+returns-in_err-next c =
+    let a = c.args in
     let turn = c.loop-l in
-    let call = c.put_partners-next in
-    let seconds = take args.count args.seconds.now in
-    let firsts = args.firsts.now in
-    let more : Put 0 (found args.nodes seconds (take (turn.l + 1) firsts)) args.pairs.now call.new.pairs call.result =
-    subst (λ (k : List ℕ). Put 0 k args.pairs.now call.new.pairs call.result) (found-next args.nodes seconds firsts turn.l (omega (arith, c.loop-l-test.true, c.requires.links_in_bounds.0)))
-    (put-more 0 (found args.nodes seconds (take turn.l firsts)) (pairs_of args.nodes seconds (get_or firsts turn.l 0)) args.pairs.now turn.pairs call.new.pairs turn.next call.result turn.invariant.2 turn.invariant.1 call.ensures) in
-    put-early args.nodes seconds firsts args.pairs.now call.new.pairs (turn.l + 1) args.links call.result (omega arith) c.requires.links_in_bounds.0 more c.if-next-gt-LINK_LIMIT.true
+    let none : c.from_residual.result ≡ None = search rules in
+    let short = more a.nodes a.seconds.now a.firsts.now a.pairs.now turn.pairs c.put_partners.new.pairs turn.l turn.next None (omega arith) turn.invariant (subst (Put turn.next (pairs_of a.nodes a.seconds.now (get_or a.firsts.now turn.l 0)) turn.pairs c.put_partners.new.pairs) c.in_err-next.was c.put_partners.ensures) in
+    subst (Put 0 (found a.nodes a.seconds.now a.firsts.now) a.pairs.now c.put_partners.new.pairs) (sym none) (put-early a.nodes a.seconds.now a.firsts.now a.pairs.now c.put_partners.new.pairs (turn.l + 1) (omega arith) short)
 
 pub loop-l-preserved : goal.loop-l-preserved
 loop-l-preserved c =
-    let args = c.args in
+    let a = c.args in
     let turn = c.loop-l in
-    let call = c.put_partners-next in
-    let seconds = take args.count args.seconds.now in
-    let firsts = args.firsts.now in
-    let more : Put 0 (found args.nodes seconds (take (turn.l + 1) firsts)) args.pairs.now call.new.pairs call.result =
-    subst (λ (k : List ℕ). Put 0 k args.pairs.now call.new.pairs call.result) (found-next args.nodes seconds firsts turn.l (omega (arith, c.loop-l-test.true, c.requires.links_in_bounds.0)))
-    (put-more 0 (found args.nodes seconds (take turn.l firsts)) (pairs_of args.nodes seconds (get_or firsts turn.l 0)) args.pairs.now turn.pairs call.new.pairs turn.next call.result turn.invariant.2 turn.invariant.1 call.ensures) in
-    (omega arith, omega arith, more)
+    more a.nodes a.seconds.now a.firsts.now a.pairs.now turn.pairs c.put_partners.new.pairs turn.l turn.next (Some c.in_ok-next.next) (omega arith) turn.invariant (subst (Put turn.next (pairs_of a.nodes a.seconds.now (get_or a.firsts.now turn.l 0)) turn.pairs c.put_partners.new.pairs) c.in_ok-next.was c.put_partners.ensures)
 
 pub returns : goal.returns
 returns c =
-    let args = c.args in
+    let a = c.args in
     let turn = c.loop-l in
-    let all : turn.l ≡ args.links = omega arith in
-    subst (λ (k : ℕ). Put 0 (found args.nodes (take args.count args.seconds.now) (take k args.firsts.now)) args.pairs.now turn.pairs turn.next) all turn.invariant.2
+    let all : turn.l ≡ length a.firsts.now = omega arith in
+    subst (λ (l : List ℕ). Put 0 (found a.nodes a.seconds.now l) a.pairs.now turn.pairs (Some turn.next)) (ap (λ (k : ℕ). take k a.firsts.now) all ∙ take-length a.firsts.now) turn.invariant

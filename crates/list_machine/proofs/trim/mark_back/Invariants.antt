@@ -6,7 +6,7 @@ use Rattle.list_machine.specs.TrimWords.{mark_back}
 use Rattle.list_machine.proofs.trim.mark_back.Given as goal
 
 abbrev pub invariant-loop-i : goal.invariant-loop-i
-invariant-loop-i l = (l.i < l.entries) × (length l.part ≡ length l.initial.part) × ((j : ℕ) → 0 < j → j < l.entries → 8 * from_word l.part j + 8 ≤ length l.initial.part) × (mark_back l.i l.part ≡ mark_back (l.entries - 1) l.initial.part)
-
-abbrev pub decreases-loop-i : goal.decreases-loop-i
-decreases-loop-i l = l.i
+invariant-loop-i l = record {
+  inside : (j : ℕ) → 0 < j → j < l.entries → 8 * from_word l.part j + 8 ≤ length l.initial.part;
+  as_all : mark_back (l.i - 1) l.part ≡ mark_back (l.entries - 1) l.initial.part;
+}

@@ -1,6 +1,6 @@
 use mathlib.Core.List.{[], ◌∷◌, List}
 use borrow.Author.Rules.{rules}
-use mathlib.Core.Path.{◌≡◌, sym, ap, ◌∙◌}
+use mathlib.Core.Path.{sym, ap, ◌∙◌}
 use Prim.Native.Nat.{ℕ, ◌+◌, ◌*◌}
 use native.Mathlib.Omega.{arith}
 use lib.Seq.{sets}
@@ -17,16 +17,6 @@ pub loop-k-preserved : goal.loop-k-preserved
 loop-k-preserved c =
     let turn = c.loop-k in
     let args = c.args in
-    let call = c.put_words in (
-      omega arith,
-      call.auto.bytes ∙ turn.invariant.1,
-      stored_next args.res.now turn.res call.new.bytes args.at (node_words turn.k) (1 ∷ 0 ∷ 0 ∷ []) (args.at + 12 * turn.k) turn.invariant.2 call.ensures (omega (arith, length-nodes turn.k))
-          ∙ ap (λ (l : List ℕ). sets args.res.now args.at (bytes_of_all l)) (sym (nodes-next turn.k)),
-    )
-
-pub returns : goal.returns
-returns c =
-    let args = c.args in
-    let turn = c.loop-k in
-    let all : turn.k ≡ args.count = omega arith in
-    turn.invariant.2 ∙ ap (λ (n : ℕ). sets args.res.now args.at (bytes_of_all (node_words n))) all
+    let call = c.put_words in
+    stored_next args.res.now turn.res call.new.bytes args.at (node_words turn.k) (1 ∷ 0 ∷ 0 ∷ []) (args.at + 12 * turn.k) turn.invariant call.ensures (omega (arith, length-nodes turn.k))
+    ∙ ap (λ (l : List ℕ). sets args.res.now args.at (bytes_of_all l)) (sym (nodes-next turn.k))

@@ -1,36 +1,28 @@
 use mathlib.Core.Path.{◌≡◌, sym, ap, ◌∙◌}
-use mathlib.Core.Bool.{true, false}
-use mathlib.Core.List.{◌++◌}
+use mathlib.Core.List.{List, [], ◌∷◌, ◌++◌}
+use Rattle.std.proofs.lemmas.List.{append_assoc}
 use Prim.Native.Nat.{ℕ}
-use native.Mathlib.Omega.{arith}
 use lib.IntN.{ℤ, pos, nat_abs}
 use lib.Signed.{lt_z}
 use mir.Syntax.{w32}
+use mir.Val.{to_z, of_z}
 use mir.ValLaws.{to_z-of_z}
 use Rattle.decimals.specs.Decimal.{decimal}
-use Rattle.listing.specs.Text.{minus, signed}
+use Rattle.listing.specs.Text.{minus}
 use Rattle.listing.proofs.Signs.{signed-minus, signed-plain}
-use Rattle.decimals.proofs.Storing.{puts-same, puts_then}
 use Rattle.listing.proofs.text.put_cost.Goals as goal
+use Rattle.listing.proofs.text.put_cost.Goals.{then-cost-lt0, else-cost-lt0}
 
-pub returns-then-cost-lt0 : goal.returns-then-cost-lt0
-returns-then-cost-lt0 c =
-    let args = c.args in
-    let size = c.magnitude-size in
-    let read = to_z-of_z w32 args.cost c.ranges.cost in
-    let below : lt_z args.cost (pos 0) ≡ true = sym (ap (λ (z : ℤ). lt_z z (pos 0)) read) ∙ c.if-cost-lt0.true in
-    let is : minus ++ decimal size.result ≡ signed args.cost = ap (λ (n : ℕ). minus ++ decimal n) (size.ensures ∙ ap nat_abs read) ∙ sym (signed-minus args.cost below) in record {
-      puts = puts-same is (puts_then c.put_text-next.ensures c.put_decimal.ensures.puts);
-      upper_bound = omega arith;
-    }
-
-pub returns : goal.returns
-returns c =
-    let args = c.args in
-    let size = c.magnitude-size in
-    let read = to_z-of_z w32 args.cost c.ranges.cost in
-    let above : lt_z args.cost (pos 0) ≡ false = sym (ap (λ (z : ℤ). lt_z z (pos 0)) read) ∙ c.if-cost-lt0.false in
-    let is : decimal size.result ≡ signed args.cost = ap decimal (size.ensures ∙ ap nat_abs read) ∙ sym (signed-plain args.cost above) in record {
-      puts = puts-same is c.put_decimal-2.ensures.puts;
-      upper_bound = omega arith;
-    }
+pub returns-clause-text : goal.returns-clause-text
+returns-clause-text c =
+    let cost = c.args.cost in
+    let old = c.args.page.now in
+    let read = to_z-of_z w32 cost c.ranges.cost in
+    let sign : lt_z (to_z w32 (of_z w32 cost)) (pos 0) ≡ lt_z cost (pos 0) = ap (λ (z : ℤ). lt_z z (pos 0)) read in
+    let put = c.put_decimal.ensures.value in
+    let digits = decimal c.unsigned_abs.result in
+    let size : digits ≡ decimal (nat_abs cost) = ap decimal (c.unsigned_abs.ensures.value ∙ ap nat_abs read) in
+    elim c.if-cost-lt0.branch [
+      | then-cost-lt0 w ↦ put ∙ ap (λ (t : List ℕ). t ++ digits) (w.page-is ∙ w.put_text.ensures) ∙ append_assoc old minus digits ∙ ap (λ (t : List ℕ). old ++ t) (ap (λ (t : List ℕ). minus ++ t) size ∙ sym (signed-minus cost (sym sign ∙ w.if-cost-lt0.true)))
+      | else-cost-lt0 w ↦ put ∙ ap (λ (t : List ℕ). t ++ digits) w.page-is ∙ ap (λ (t : List ℕ). old ++ t) (size ∙ sym (signed-plain cost (sym sign ∙ w.if-cost-lt0.false)))
+    ]

@@ -1,35 +1,33 @@
-use mathlib.Core.Path.{◌≡◌, ◌∙◌}
-use mathlib.Core.List.{flat_map}
+use mathlib.Core.Path.{refl, sym, ap, ◌∙◌}
+use mathlib.Core.List.{List, ◌++◌, flat_map, append-nil}
+use Rattle.std.proofs.lemmas.List.{append_assoc}
+use Prim.Native.Nat.{ℕ, ◌*◌}
 use native.Mathlib.Omega.{arith}
-use Rattle.listing.proofs.Labels.{puts-label}
-use borrow.Author.Rules.{rules}
+use lib.ListN.{take, get_or}
+use lib.Seq.{take_all}
+use Rattle.sheet.specs.Words.{word}
+use Rattle.listing.specs.Text.{label_text, labels_of}
+use Rattle.listing.proofs.Labels.{labels-more}
 use Rattle.listing.proofs.text.put_labels.Goals as goal
 
-pub loop-i-init : goal.loop-i-init
+pub loop-l-init : goal.loop-l-init
 unfolding flat_map
-loop-i-init c = search rules
+loop-l-init c = record { text = sym (append-nil c.args.page.now); bound = omega arith }
 
-pub overflow_cast-link-in-loop-i : goal.overflow_cast-link-in-loop-i
-overflow_cast-link-in-loop-i c = omega (arith, c.type_inv.run c.loop-i.i)
-
-pub overflow_mul-link : goal.overflow_mul-link
-overflow_mul-link c = omega (arith, c.requires.by_index c.loop-i.i (search rules))
-
-pub word-label-requires : goal.word-label-requires
-word-label-requires c = omega (arith, c.requires.by_index c.loop-i.i (search rules))
-
-pub loop-i-preserved : goal.loop-i-preserved
-loop-i-preserved c =
-    let args = c.args in
-    let turn = c.loop-i in
-    let put = c.put_label-next in
-    (search rules, put.auto.out ∙ turn.invariant.1, puts-label args.sheet.now args.run.now turn.i (search rules) c.word-label.ensures turn.invariant.2 put.ensures.puts, omega arith)
+pub loop-l-preserved : goal.loop-l-preserved
+loop-l-preserved c =
+    let sheet = c.args.sheet.now in
+    let run = c.args.run.now in
+    let turn = c.loop-l in
+    let front = flat_map label_text (labels_of sheet (take turn.l-index run)) in record {
+      text =
+          c.put_label.ensures.text ∙ (λ i. turn.invariant.text i ++ label_text (c.word.ensures i)) ∙ append_assoc c.args.page.now front (label_text (word sheet (16 * get_or run turn.l-index 0)))
+          ∙ ap (λ (t : List ℕ). c.args.page.now ++ t) (labels-more sheet run turn.l-index (omega arith));
+      bound = omega (arith, turn.invariant.bound, c.put_label.ensures.upper_bound);
+    }
 
 pub returns : goal.returns
 returns c =
-    let args = c.args in
-    let turn = c.loop-i in
-    let all : turn.i ≡ args.count = omega arith in record {
-      puts = rw all at turn.invariant.2;
-      upper_bound = omega arith;
-    }
+    let turn = c.loop-l in
+    let all = take_all turn.l-index c.args.run.now (omega arith) in
+    record { text = turn.invariant.text ∙ ap (λ (r : List ℕ). c.args.page.now ++ flat_map label_text (labels_of c.args.sheet.now r)) all; upper_bound = omega (arith, turn.invariant.bound) }

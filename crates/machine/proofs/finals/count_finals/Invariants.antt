@@ -1,11 +1,7 @@
 use mathlib.Core.Path.{◌≡◌}
-use Prim.Native.Nat.{◌-◌, ◌≤◌}
+use Prim.Native.Nat.{◌≤◌}
 use Rattle.machine.specs.Finals.{final_count}
 use Rattle.machine.proofs.finals.count_finals.Given as goal
 
 abbrev pub invariant-loop-v : goal.invariant-loop-v
-invariant-loop-v l =
-    (l.v ≤ l.nodes) × (l.count ≤ l.v) × (l.count ≡ final_count l.sheet l.links l.v)
-
-abbrev pub decreases-loop-v : goal.decreases-loop-v
-decreases-loop-v l = l.nodes - l.v
+invariant-loop-v l = (l.count ≤ l.v) × (l.count ≡ final_count l.sheet.bytes.now l.sheet.links l.v)

@@ -1,8 +1,9 @@
 use Rattle.reversed_machine.proofs.Keeping.{measured-in, slots-fit}
+use Rattle.sheet.specs.Accepted.{trailer_in}
 use Rattle.reversed_machine.proofs.reverse.measure.Goals as goal
 
 pub returns : goal.returns
 returns c =
     let args = c.args in
-    let pre = c.requires in
-    measured-in args.sheet.now args.heads args.part.now _ (slots-fit args.sheet.now args.t pre.1 args.heads args.part.now pre.2) c.make.ensures
+    let sheet = args.machine.now.sheet in
+    measured-in sheet.bytes.now args.heads args.part.now _ (slots-fit sheet.bytes.now (trailer_in sheet.links sheet.nodes sheet.start) sheet.stated args.heads args.part.now c.requires) c.make.ensures

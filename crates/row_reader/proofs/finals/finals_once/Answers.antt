@@ -18,19 +18,14 @@ pub loop-first-smaller : goal.loop-first-smaller
 loop-first-smaller c =
     let text = c.args.text.now in
     let turn = c.loop-first in
-    let next = c.in-Next in
-    let goes = once-next turn.first (search rules) text next.n (sym c.pass_from.ensures ∙ next.is) in
+    let next = c.in-Some in
+    let goes = once-next turn.first (search rules) text next.next (sym c.pass_from.ensures ∙ next.is) in
     omega (arith, goes.later, c.loop-first-test)
 
 pub loop-first-preserved : goal.loop-first-preserved
 loop-first-preserved c =
     let text = c.args.text.now in
     let turn = c.loop-first in
-    let next = c.in-Next in
-    let goes = once-next turn.first (search rules) text next.n (sym c.pass_from.ensures ∙ next.is) in
+    let next = c.in-Some in
+    let goes = once-next turn.first (search rules) text next.next (sym c.pass_from.ensures ∙ next.is) in
     (sym goes.same ∙ turn.invariant.0, goes.ends)
-
-pub returns : goal.returns
-returns c =
-    let turn = c.loop-first in
-    sym (turn.invariant.1 (search rules)) ∙ turn.invariant.0

@@ -1,67 +1,61 @@
-use mathlib.Core.Path.{sym, ap, ◌∙◌}
-use Prim.Native.Nat.{ℕ, ◌^◌}
-use native.Mathlib.Omega.{arith}
+use mathlib.Core.Path.{◌≡◌, sym, ap, ◌∙◌}
+use mathlib.Core.List.{List}
+use Prim.Native.Nat.{ℕ}
 use borrow.Author.Rules.{rules}
-use Rattle.row_reader.specs.declared.finals.Pass.{Pass}
+use Rattle.std.proofs.Common.{Bor, None}
 use Rattle.row_reader.specs.Places.{rows_left}
-use Rattle.row_reader.specs.FinalRows.{falling, told, pass_from}
-use Rattle.row_reader.proofs.Places.{rows_end}
-use Rattle.row_reader.proofs.FinalRows.{count_most, pass-none, pass_step, pass-twice, pass-end}
+use Rattle.row_reader.specs.FinalRows.{on, twice, falling, with_read, pass_from}
+use Rattle.row_reader.proofs.Steps.{given-row, given-unread, given-end}
+use Rattle.row_reader.proofs.FinalRows.{pass-begin, pass_step, pass-end}
 use Rattle.row_reader.proofs.finals.pass_from.Goals as goal
 
-pub loop-at-init : goal.loop-at-init
-loop-at-init c = (search rules, search rules, c.no_nodes-kept.ensures, pass-none c.args.first c.no_nodes-kept.result (2 ^ 32) (rows_left c.args.text.now 0))
-
-pub with_row-requires : goal.with_row-requires
-with_row-requires c = let turn = c.loop-at in record {
-  count_le_most = turn.invariant.1;
-  kept_len = turn.invariant.2;
-}
-
-pub returns-in_default : goal.returns-in_default
-returns-in_default c =
+pub loop-row-init : goal.loop-row-init
+loop-row-init c =
+    let pass = c.new-pass.result in
     let text = c.args.text.now in
-    let first = c.args.first in
-    let turn = c.loop-at in
-    let row = c.row_at-r in
-    let went = c.with_row in
-    let met = sym (ap (λ (x : Pass). told x went.new.kept) c.in_default.is) ∙ went.ensures.kept_after in
-    sym (pass-twice first (falling turn.kept turn.count) turn.limit text turn.at (search rules) row.result row.ensures met) ∙ turn.invariant.3
+    let same : rows_left c.into_iter-row-iterator.result.text.now c.into_iter-row-iterator.result.at ≡ rows_left text 0 = search rules in record {
+      first = c.new-pass.ensures.0;
+      rest = ap (pass_from c.args.first (falling pass.kept pass.count) pass.limit) same ∙ pass-begin c.args.first pass.kept pass.count pass.limit (rows_left text 0) c.new-pass.ensures.1 c.new-pass.ensures.2;
+    }
 
-pub loop-at-smaller : goal.loop-at-smaller
-loop-at-smaller c =
-    let text = c.args.text.now in
-    let first = c.args.first in
-    let turn = c.loop-at in
-    let row = c.row_at-r in
-    let went = c.with_row in
-    let next = c.in-On in
-    let on = sym (ap (λ (x : Pass). told x went.new.kept) next.is) ∙ went.ensures.kept_after in
-    let kept = falling turn.kept turn.count in
-    let goes = pass_step first kept turn.limit text turn.at (search rules) row.result row.ensures (falling went.new.kept next.n) next.l on in
-    let end = c.end_of-at.ensures in
-    omega (arith, goes.later, goes.inside, end)
+pub loop-row-preserved : goal.loop-row-preserved
+loop-row-preserved c =
+    let it = c.loop-row.row-iterator in
+    let pass = c.loop-row.pass in
+    let made = c.add.new.self in
+    let kept = falling pass.kept pass.count in
+    let next = c.next.new.self.at in
+    let step = given-row it.text.now it.at next c.in-Some.row c.in_ok-row.field-0 c.in_ok-row.was c.in-Some.ensures.steps.1 in
+    let first = c.loop-row.invariant.first in
+    let went = c.in_ok-add.ensures.after ∙ ap (λ (f : ℕ). with_read f kept pass.limit c.in_ok-row.field-0) first in record {
+      first = c.add.ensures.first ∙ first;
+      rest =
+          ap (λ (t : Bor (List ℕ)). pass_from c.args.first (falling made.kept made.count) made.limit (rows_left t.now next)) c.in-Some.ensures.steps.0
+          ∙ sym (pass_step c.args.first kept pass.limit it.text.now it.at c.in_ok-row.field-0 next step (on (falling made.kept made.count) made.limit) went)
+          ∙ c.loop-row.invariant.rest;
+    }
 
-pub loop-at-preserved : goal.loop-at-preserved
-loop-at-preserved c =
-    let text = c.args.text.now in
-    let first = c.args.first in
-    let turn = c.loop-at in
-    let row = c.row_at-r in
-    let went = c.with_row in
-    let next = c.in-On in
-    let on = sym (ap (λ (x : Pass). told x went.new.kept) next.is) ∙ went.ensures.kept_after in
-    let kept = falling turn.kept turn.count in
-    let goes = pass_step first kept turn.limit text turn.at (search rules) row.result row.ensures (falling went.new.kept next.n) next.l on in
-    let end = c.end_of-at.ensures in (
-      omega (arith, goes.inside, end),
-      count_most first turn.kept turn.count turn.limit row.result turn.invariant.1 went.new.kept next.n next.l on,
-      went.ensures.kept_len_2,
-      ap (λ (at : ℕ). pass_from first (falling went.new.kept next.n) next.l (rows_left text at)) end ∙ sym goes.same ∙ turn.invariant.3,
-    )
+pub returns-in_err-row : goal.returns-in_err-row
+returns-in_err-row c =
+    let it = c.loop-row.row-iterator in
+    let pass = c.loop-row.pass in
+    let made : c.from_residual.result ≡ None = search rules in
+    let unread = given-unread it.text.now it.at c.next.new.self.at c.in-Some.row c.in_err-row.was c.in-Some.ensures.steps.1 in
+    made ∙ sym (ap (pass_from c.args.first (falling pass.kept pass.count) pass.limit) unread) ∙ c.loop-row.invariant.rest
+
+pub returns-in_err-add : goal.returns-in_err-add
+returns-in_err-add c =
+    let it = c.loop-row.row-iterator in
+    let pass = c.loop-row.pass in
+    let kept = falling pass.kept pass.count in
+    let made : c.from_residual-in_err-add.result ≡ None = search rules in
+    let step = given-row it.text.now it.at c.next.new.self.at c.in-Some.row c.in_ok-row.field-0 c.in_ok-row.was c.in-Some.ensures.steps.1 in
+    let went = c.in_err-add.ensures.after ∙ ap (λ (f : ℕ). with_read f kept pass.limit c.in_ok-row.field-0) c.loop-row.invariant.first in
+    made ∙ sym (pass_step c.args.first kept pass.limit it.text.now it.at c.in_ok-row.field-0 c.next.new.self.at step twice went) ∙ c.loop-row.invariant.rest
 
 pub returns : goal.returns
 returns c =
-    let text = c.args.text.now in
-    let turn = c.loop-at in
-    sym (pass-end c.args.first (falling turn.kept turn.count) turn.limit (rows_left text turn.at) (rows_end text turn.at (search rules))) ∙ turn.invariant.3
+    let it = c.loop-row.row-iterator in
+    let pass = c.loop-row.pass in
+    let ended = given-end it.text.now it.at c.next.new.self.at c.in-None.ensures.steps.1 in
+    sym (pass-end c.args.first (falling pass.kept pass.count) pass.limit (rows_left it.text.now it.at) ended) ∙ c.loop-row.invariant.rest

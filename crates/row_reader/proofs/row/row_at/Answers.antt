@@ -1,16 +1,21 @@
-use lib.ListN.{length}
-use Rattle.row_reader.specs.Places.{line_end, row_fields}
-use Rattle.row_reader.specs.RowReading.{first_tail}
-use Rattle.row_reader.proofs.Rowing.{by_read, row-none, row_first}
+use mathlib.Core.Path.{sym, ap, ◌∙◌}
+use Prim.Native.Nat.{ℕ, ◌+◌}
+use native.Mathlib.Omega.{arith}
+use borrow.Author.Rules.{rules}
+use Rattle.std.proofs.Common.{Some}
+use Rattle.row_reader.proofs.Rowing.{line-most, row_is}
 use Rattle.row_reader.proofs.row.row_at.Goals as goal
 
-pub returns-then-from-to : goal.returns-then-from-to
-returns-then-from-to c =
-    row-none c.span_at-field.ensures c.if-from-to.true
+pub overflow_add-result : goal.overflow_add-result
+overflow_add-result c =
+    let most = line-most c.args.text.now c.args.at c.requires in
+    let end = c.in_ok-row.ensures.end in
+    search (rules, most, end)
 
 pub returns : goal.returns
 returns c =
     let text = c.args.text.now in
-    let a = c.span_at-field in
-    row_first a.ensures c.if-from-to.false
-    (by_read (λ v. first_tail v (row_fields text a.result.to) (length text) (line_end text a.result.to)) c.number_in-v.ensures c.after_one.ensures)
+    let end = c.in_ok-row.ensures.end in
+    let most = line-most text c.args.at c.requires in
+    ap (λ (n : ℕ). Some (record { row = c.in_ok-row.row; end = n + 1 })) end
+    ∙ sym (row_is text c.args.at c.in_ok-row.row (omega (arith, end)) (sym c.row_of.ensures.row ∙ c.in_ok-row.was))

@@ -1,12 +1,19 @@
-use mathlib.Core.Path.{sym, ◌∙◌}
-use Rattle.row_reader.proofs.Weighing.{number-none, number-large, number_is}
+use mathlib.Core.Path.{◌≡◌, sym, ◌∙◌}
+use mathlib.Core.Bool.{cond}
+use Prim.Native.Nat.{◌^◌}
+use lib.Dec.{ltb}
+use borrow.Author.Rules.{rules}
+use Rattle.std.proofs.Common.{None, Some}
+use Rattle.row_reader.proofs.Weighing.{number-none, number_is}
 use Rattle.row_reader.proofs.values.number_in.Goals as goal
 
-pub returns-in_default : goal.returns-in_default
-returns-in_default c = sym (number-none c.args.field.now (sym c.digits_in.ensures ∙ c.in_default.is))
-
-pub returns-then-value-ge-HELD : goal.returns-then-value-ge-HELD
-returns-then-value-ge-HELD c = sym (number-large c.args.field.now c.in-Value.value (sym c.digits_in.ensures ∙ c.in-Value.is) c.if-value-ge-HELD.true)
+pub returns-in_err-value : goal.returns-in_err-value
+returns-in_err-value c =
+    let made : c.from_residual.result ≡ None = search rules in
+    made ∙ sym (number-none c.args.field.now (sym c.digits_in.ensures ∙ c.in_err-value.was))
 
 pub returns : goal.returns
-returns c = sym (number_is c.args.field.now c.in-Value.value (sym c.digits_in.ensures ∙ c.in-Value.is) c.if-value-ge-HELD.false)
+returns c =
+    let v = c.in_ok-value.value in
+    let fits : c.ok.result ≡ cond (ltb v (2 ^ 32)) (Some v) None = search rules in
+    fits ∙ sym (number_is c.args.field.now v (sym c.digits_in.ensures ∙ c.in_ok-value.was))

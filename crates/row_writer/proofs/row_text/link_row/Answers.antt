@@ -1,46 +1,28 @@
-use mathlib.Core.Path.{ap, ◌∙◌}
-use native.Mathlib.Omega.{arith}
-use Rattle.sheet.specs.declared.tr.Link.{Link}
-use Rattle.sheet.specs.Sheet.{weight_fits}
-use Rattle.decimals.proofs.Storing.{puts-same, puts_then}
+use mathlib.Core.Path.{◌≡◌, ap, ◌∙◌}
+use mathlib.Core.List.{List, [], ◌∷◌, ◌++◌}
+use Prim.Native.Nat.{ℕ}
+use Rattle.decimals.specs.Decimal.{decimal}
 use Rattle.text_rows.specs.Written.{and_number, and_weight}
-use Rattle.row_writer.proofs.Accepted.{next-at}
-use Rattle.row_writer.proofs.SheetWords.{link-within, ilabel-at, olabel-at, bits_at, link_on}
+use Rattle.sheet.specs.declared.tr.Link.{Link}
+use Rattle.sheet.specs.Sheet.{weight_fits, parts_of, next, ilabel, olabel}
+use Rattle.row_writer.proofs.Accepted.{link_on, next_at, ilabel-at, olabel-at}
 use Rattle.row_writer.proofs.row_text.link_row.Goals as goal
 
-pub link_at-k-requires : goal.link_at-k-requires
-link_at-k-requires c = link-within c.args.sheet.now c.requires.sheet_value c.args.l c.requires.l_bound
+pub put_weight-requires-clause-bits_value : goal.put_weight-requires-clause-bits_value
+put_weight-requires-clause-bits_value c = ap weight_fits c.link_bits.ensures.part ∙ link_on c.args.sheet.now c.args.l c.requires
 
-pub overflow_mul-l : goal.overflow_mul-l
-overflow_mul-l c = omega (arith, link-within c.args.sheet.now c.requires.sheet_value c.args.l c.requires.l_bound)
-
-pub overflow_add-l : goal.overflow_add-l
-overflow_add-l c = omega (arith, link-within c.args.sheet.now c.requires.sheet_value c.args.l c.requires.l_bound)
-
-pub word-bits-requires : goal.word-bits-requires
-word-bits-requires c = omega (arith, link-within c.args.sheet.now c.requires.sheet_value c.args.l c.requires.l_bound)
-
-pub put_weight-next-requires : goal.put_weight-next-requires
-put_weight-next-requires c = record {
-  bits_value = ap weight_fits c.word-bits.ensures ∙ link_on c.args.sheet.now c.requires.sheet_value c.args.l c.requires.l_bound;
-  weight_most_in_bounds = omega arith;
-}
-
-pub put_text-requires : goal.put_text-requires
-put_text-requires c = omega arith
-
-pub returns : goal.returns
-returns c =
-    let bytes = c.args.sheet.now in
+pub returns-clause-text : goal.returns-clause-text
+returns-clause-text c =
+    let s = c.args.sheet.now in
+    let p = parts_of s.bytes.now in
     let l = c.args.l in
-    let zero = c.requires.sheet_value in
-    let within = c.requires.l_bound in
-    let link = c.link_at-k.ensures in
-    let to = puts-same (ap (λ (k : Link). and_number k.nextstate) link ∙ ap and_number (next-at bytes l within)) c.put_number-next.ensures.puts in
-    let input = puts-same (ap (λ (k : Link). and_number k.ilabel) link ∙ ap and_number (ilabel-at bytes zero l within)) c.put_number-next-2.ensures.puts in
-    let output = puts-same (ap (λ (k : Link). and_number k.olabel) link ∙ ap and_number (olabel-at bytes zero l within)) c.put_number-next-3.ensures.puts in
-    let weighed = puts-same (ap and_weight (c.word-bits.ensures ∙ bits_at bytes zero l within)) c.put_weight-next.ensures.puts in
-    let front = puts_then (puts_then (puts_then c.put_decimal-next.ensures.puts to) input) output in record {
-      puts = puts_then (puts_then front weighed) c.put_text.ensures;
-      upper_bound = omega (arith, c.put_text.ensures.ends);
-    }
+    let link = c.link-k in
+    let to : link.result.nextstate ≡ next p l = ap (λ (k : Link). k.nextstate) link.ensures ∙ next_at s l c.requires in
+    let input : link.result.ilabel ≡ ilabel p l = ap (λ (k : Link). k.ilabel) link.ensures ∙ ilabel-at s l c.requires in
+    let output : link.result.olabel ≡ olabel p l = ap (λ (k : Link). k.olabel) link.ensures ∙ olabel-at s l c.requires in
+    let source = c.put_decimal.ensures.value ∙ ap (λ (t : List ℕ). t ++ decimal c.args.v) c.new-row.ensures in
+    let one = c.put_number.ensures.text ∙ (λ i. source i ++ and_number (to i)) in
+    let two = c.put_number-2.ensures.text ∙ (λ i. one i ++ and_number (input i)) in
+    let three = c.put_number-3.ensures.text ∙ (λ i. two i ++ and_number (output i)) in
+    let weighed = c.put_weight.ensures.text ∙ (λ i. three i ++ and_weight (c.link_bits.ensures.part i)) in
+    c.put_byte.ensures ∙ ap (λ (t : List ℕ). t ++ (10 ∷ [])) weighed

@@ -1,22 +1,18 @@
 use native.Mathlib.Omega.{arith}
-use Rattle.decimals.proofs.Storing.{puts_then}
+use lib.ListN.{length, length-append}
+use mathlib.Core.Path.{ap}
+use Prim.Native.Nat.{ℕ}
+use Rattle.std.proofs.lemmas.Grind.{common_steps}
 use Rattle.text_rows.specs.Written.{magnitude_text}
 use Rattle.row_writer.proofs.Lengths.{ones-most}
-use borrow.Author.Rules.{rules}
 use Rattle.row_writer.proofs.row_text.put_magnitude.Goals as goal
 
-pub put_part-requires : goal.put_part-requires
-put_part-requires c =
-    record {
-      part_lt_million = search rules;
-      part_most_in_bounds = omega (arith, c.put_decimal-next.ensures.puts.ends, ones-most c.args.units c.requires.units_le_weight_limit);
-    }
+pub put_part-requires-clause-part_most_fits : goal.put_part-requires-clause-part_most_fits
+put_part-requires-clause-part_most_fits c = omega (arith, ap length c.put_decimal.ensures.value, length-append {A = ℕ}, ones-most c.args.units c.requires.units_le_weight_limit)
 
-pub returns : goal.returns
+pub returns-clause-text : goal.returns-clause-text
 unfolding magnitude_text
-returns c =
-    let ones = c.put_decimal-next.ensures.puts in
-    let part = c.put_part.ensures in record {
-      puts = puts_then ones part.puts;
-      upper_bound = omega (arith, ones.ends, ones-most c.args.units c.requires.units_le_weight_limit, part.upper_bound);
-    }
+returns-clause-text c = grind (arith, common_steps)
+
+pub returns-clause-upper_bound : goal.returns-clause-upper_bound
+returns-clause-upper_bound c = omega (arith, ap length c.put_decimal.ensures.value, length-append {A = ℕ}, ones-most c.args.units c.requires.units_le_weight_limit, c.put_part.ensures.upper_bound)

@@ -1,17 +1,13 @@
 use mathlib.Core.Path.{◌≡◌, refl, sym, ap, ◌∙◌}
 use mathlib.Core.Bool.{Bool, cond}
-use mathlib.Core.List.{[], ◌∷◌}
-use Prim.Native.Nat.{ℕ, suc, ◌+◌, ◌*◌, ◌/◌, ◌%◌, ◌<◌}
-use native.Mathlib.Numerals.{add-one}
+use mathlib.Core.List.{List, [], ◌∷◌, ◌++◌}
+use Rattle.std.proofs.lemmas.List.{append_assoc, append-nil}
+use Prim.Native.Nat.{ℕ, suc, ◌+◌, ◌*◌, ◌/◌, ◌%◌, ◌≤◌, ◌<◌}
 use native.Mathlib.Omega.{arith}
-use lib.ListN.{length, set, length-set}
-use lib.Seq.{sets}
-use borrow.Author.Rules.{rules}
-use borrow.Author.Tests.{eq-eqb, ne_eqb}
-use Rattle.decimals.proofs.Storing.{puts-same}
+use lib.ListN.{length, length-append}
+use borrow.Author.Tests.{ne_eqb}
 use Rattle.text_rows.specs.Written.{shortest, part_text}
 use Rattle.row_writer.proofs.Fronts.{shortest-first}
-use Rattle.row_writer.proofs.Stored.{puts_none}
 use Rattle.row_writer.proofs.Lengths.{shortest-most}
 use Rattle.row_writer.proofs.row_text.put_part.Goals as goal
 
@@ -19,48 +15,38 @@ use Rattle.row_writer.proofs.row_text.put_part.Goals as goal
 few : (n : ℕ) → 0 < n → n < 1000000 → length (shortest 6 n) ≡ suc (length (shortest 6 (n % 100000 * 10)))
 few n z h = ap length (shortest-first n z h)
 
-pub returns-then-part-eq0 : goal.returns-then-part-eq0
-returns-then-part-eq0 c =
-    let args = c.args in record {
-      puts = puts-same (ap (λ (b : Bool). cond b [] (46 ∷ shortest 6 args.part)) (sym (eq-eqb args.part 0 c.if-part-eq0.true))) (puts_none args.out.now args.at);
-      upper_bound = search rules;
-    }
+-- all digits are six at the most
+fits : (a b : List ℕ) (rest part : ℕ) → a ++ shortest 6 rest ≡ b ++ shortest 6 part → length a + length (shortest 6 rest) ≤ length b + 6
+fits a b rest part e = omega (arith, ap length e, length-append a (shortest 6 rest), length-append b (shortest 6 part), shortest-most 6 part)
 
-pub bounds-out-next : goal.bounds-out-next
-bounds-out-next c =
-    let args = c.args in
+pub put_byte-requires-in-loop-rest : goal.put_byte-requires-in-loop-rest
+put_byte-requires-in-loop-rest c =
     let turn = c.loop-rest in
-    omega (arith, few turn.rest (omega arith) turn.invariant.0, shortest-most 6 args.part, length-set args.out.now args.at 46)
-
-pub overflow_add-next-in-loop-rest : goal.overflow_add-next-in-loop-rest
-overflow_add-next-in-loop-rest c = omega (arith, few c.loop-rest.rest (omega arith) c.loop-rest.invariant.0, shortest-most 6 c.args.part)
+    omega (arith, few turn.rest (omega arith) turn.invariant.below, fits turn.row c.put_byte.new.self turn.rest c.args.part turn.invariant.all, ap length c.put_byte.ensures, length-append c.args.row.now (46 ∷ []))
 
 pub loop-rest-smaller : goal.loop-rest-smaller
-loop-rest-smaller c = omega (arith, few c.loop-rest.rest (omega arith) c.loop-rest.invariant.0)
+loop-rest-smaller c = omega (arith, few c.loop-rest.rest (omega arith) c.loop-rest.invariant.below)
 
 pub loop-rest-preserved : goal.loop-rest-preserved
 loop-rest-preserved c =
     let turn = c.loop-rest in
-    let first = shortest-first turn.rest (omega arith) turn.invariant.0 in
     let digit = 48 + turn.rest / 100000 in
-    let left = shortest 6 (turn.rest % 100000 * 10) in (
-      search rules,
-      length-set turn.out turn.next digit ∙ turn.invariant.1,
-      ap (λ (k : ℕ). sets (set turn.out turn.next digit) k left) (add-one turn.next) ∙ sym (ap (sets turn.out turn.next) first) ∙ turn.invariant.2,
-      omega (arith, few turn.rest (omega arith) turn.invariant.0),
-    )
-
-pub shape_of-out : goal.shape_of-out
-shape_of-out c = let args = c.args in c.loop-rest.invariant.1 ∙ length-set args.out.now args.at 46
-
-pub returns : goal.returns
-returns c =
-    let args = c.args in
-    let turn = c.loop-rest in
-    let done : shortest 6 turn.rest ≡ [] = ap (shortest 6) (let e : turn.rest ≡ 0 = omega arith in e) ∙ unfold shortest in refl in
-    let is : 46 ∷ shortest 6 args.part ≡ part_text args.part = ap (λ (b : Bool). cond b [] (46 ∷ shortest 6 args.part)) (sym (ne_eqb args.part 0 c.if-part-eq0.false)) in
-    let stored : turn.out ≡ sets args.out.now args.at (46 ∷ shortest 6 args.part) =
-    sym (ap (sets turn.out turn.next) done) ∙ turn.invariant.2 ∙ ap (λ (k : ℕ). sets (set args.out.now args.at 46) k (shortest 6 args.part)) (add-one args.at) in record {
-      puts = puts-same is (record { stored = stored; ends = omega (arith, ap length done) });
-      upper_bound = omega (arith, ap length done, shortest-most 6 args.part);
+    let left = shortest 6 (turn.rest % 100000 * 10) in record {
+      below = omega arith;
+      all = ap (λ (t : List ℕ). t ++ left) c.put_byte-in-loop-rest.ensures ∙ append_assoc turn.row (digit ∷ []) left ∙ sym (ap (λ (t : List ℕ). turn.row ++ t) (shortest-first turn.rest (omega arith) turn.invariant.below)) ∙ turn.invariant.all;
     }
+
+pub returns-clause-text : goal.returns-clause-text
+returns-clause-text c =
+    let turn = c.loop-rest in
+    let part = c.args.part in
+    let done : shortest 6 turn.rest ≡ [] = ap (shortest 6) (let e : turn.rest ≡ 0 = omega arith in e) ∙ unfold shortest in refl in
+    let is : 46 ∷ shortest 6 part ≡ part_text part = ap (λ (b : Bool). cond b [] (46 ∷ shortest 6 part)) (sym (ne_eqb part 0 c.if-part-eq0.false)) in
+    sym (append-nil turn.row) ∙ sym (ap (λ (t : List ℕ). turn.row ++ t) done) ∙ turn.invariant.all
+    ∙ ap (λ (t : List ℕ). t ++ shortest 6 part) c.put_byte.ensures ∙ append_assoc c.args.row.now (46 ∷ []) (shortest 6 part)
+    ∙ ap (λ (t : List ℕ). c.args.row.now ++ t) is
+
+pub returns-clause-upper_bound : goal.returns-clause-upper_bound
+returns-clause-upper_bound c =
+    let turn = c.loop-rest in
+    omega (arith, fits turn.row c.put_byte.new.self turn.rest c.args.part turn.invariant.all, ap length c.put_byte.ensures, length-append c.args.row.now (46 ∷ []))

@@ -2,8 +2,9 @@ use mathlib.Core.Path.{◌≡◌, refl, sym, ap, ◌∙◌}
 use Prim.Native.Nat.{ℕ, ◌+◌, ◌<◌}
 use native.Mathlib.Omega.{arith}
 use lib.ListN.{length}
+use borrow.Author.Rules.{rules}
+use Rattle.std.specs.Prelude.{Ok, Err}
 use Rattle.text_rows.specs.Convert.{length_of}
-use Rattle.rows.specs.declared.converted.Converted.TheVariants.{Length}
 use Rattle.row_reader.specs.declared.survey.Survey.{Survey}
 use Rattle.row_reader.proofs.Surveys.{start_first}
 use Rattle.row_reader.proofs.Places.{begins}
@@ -13,17 +14,17 @@ use Rattle.rows.proofs.to_sheet.rows_to_sheet.Goals as goal
 
 pub length_of-size-requires : goal.length_of-size-requires
 length_of-size-requires c =
-    let s = c.in-Rows.s in
+    let s = c.in_ok-s.s in
     let text = c.args.text.now in
-    let g = passed text s (sym c.in-Rows.is ∙ c.judge.ensures) in
+    let g = passed text s c.in_ok-s.ensures in
     omega (arith, (few text s g).1, ap (λ (x : Survey). x.links) g.is)
 
 pub returns-then-res-size : goal.returns-then-res-size
 returns-then-res-size c =
-    let s = c.in-Rows.s in
+    let s = c.in_ok-s.s in
     let text = c.args.text.now in
     let old = c.args.res.now in
-    let g = passed text s (sym c.in-Rows.is ∙ c.judge.ensures) in
+    let g = passed text s c.in_ok-s.ensures in
     let short : length old < length_of g.rows = omega (arith, c.if-res-size.true, c.length_of-size.ensures, size_is text s g) in record {
       value = answer-short (length old) text s g short;
       res_after = over-short (length old) text s g old refl short;
@@ -32,16 +33,16 @@ returns-then-res-size c =
 
 pub overflow_add-s : goal.overflow_add-s
 overflow_add-s c =
-    let s = c.in-Rows.s in
+    let s = c.in_ok-s.s in
     let text = c.args.text.now in
-    let g = passed text s (sym c.in-Rows.is ∙ c.judge.ensures) in
+    let g = passed text s c.in_ok-s.ensures in
     omega (arith, (few text s g).0, ap (λ (x : Survey). x.highest) g.is)
 
 pub fill-requires : goal.fill-requires
 fill-requires c =
-    let s = c.in-Rows.s in
+    let s = c.in_ok-s.s in
     let text = c.args.text.now in
-    let g = passed text s (sym c.in-Rows.is ∙ c.judge.ensures) in
+    let g = passed text s c.in_ok-s.ensures in
     let b = begins text g.rows g.read in record {
       rows = g.rows;
       read = g.read;
@@ -53,26 +54,27 @@ fill-requires c =
       enough = omega (arith, c.if-res-size.false, c.length_of-size.ensures, size_is text s g);
     }
 
-pub returns-in-Refused : goal.returns-in-Refused
-returns-in-Refused c =
-    let k = c.in-Refused.k in
+pub returns-in_err-s : goal.returns-in_err-s
+returns-in_err-s c =
+    let r = c.in_err-s.field-0.0 in
     let text = c.args.text.now in
     let old = c.args.res.now in
-    let e = sym c.in-Refused.is ∙ c.judge.ensures in record {
-      value = answer-refused (length old) text k e;
-      res_after = over-refused (length old) text k e old refl;
+    let made : c.from_residual.result ≡ Err r = search rules in record {
+      value = made ∙ answer-refused (length old) text r c.in_err-s.ensures;
+      res_after = over-refused (length old) text r c.in_err-s.ensures old refl;
       by_index = λ size e. let z : ◌≡◌ {A = ℕ} 0 1 = cc in absurd (omega arith);
     }
 
-pub returns-else-res-size : goal.returns-else-res-size
-returns-else-res-size c =
-    let s = c.in-Rows.s in
+pub returns : goal.returns
+returns c =
+    let s = c.in_ok-s.s in
     let text = c.args.text.now in
     let old = c.args.res.now in
-    let g = passed text s (sym c.in-Rows.is ∙ c.judge.ensures) in
+    let g = passed text s c.in_ok-s.ensures in
     let size : c.length_of-size.result ≡ length_of g.rows = c.length_of-size.ensures ∙ size_is text s g in
-    let m = made text s g old c.fill.new.res (omega (arith, c.if-res-size.false, size)) c.fill.ensures in record {
-      value = ap Length size ∙ m.0;
+    let m = made text s g old c.fill.new.res (omega (arith, c.if-res-size.false, size)) c.fill.ensures in
+    let as-told = ap (λ (n : ℕ). Ok n) size in record {
+      value = as-told ∙ m.0;
       res_after = m.1.0;
-      by_index = λ n e. m.1.1 n (sym (ap Length size) ∙ e);
+      by_index = λ n e. m.1.1 n (sym as-told ∙ e);
     }

@@ -1,7 +1,9 @@
-use mathlib.Core.Path.{sym, ap, ◌∙◌}
+use mathlib.Core.Path.{◌≡◌, sym, ap, ◌∙◌}
+use Prim.Native.Nat.{ℕ}
 use native.Mathlib.Omega.{arith}
+use borrow.Author.Rules.{rules}
+use Rattle.std.specs.Prelude.{Ok, Err}
 use Rattle.text_rows.specs.Convert.{length_of, rows_in}
-use Rattle.rows.specs.declared.converted.Converted.TheVariants.{Length}
 use Rattle.row_reader.specs.declared.survey.Survey.{Survey}
 use Rattle.rows.proofs.Judging.{passed, size_is, rows_are, answer-refused, answer-long}
 use Rattle.rows.proofs.Making.{few}
@@ -9,19 +11,21 @@ use Rattle.rows.proofs.to_sheet.sheet_bytes.Goals as goal
 
 pub length_of-requires : goal.length_of-requires
 length_of-requires c =
-    let s = c.in-Rows.s in
+    let s = c.in_ok-s.s in
     let text = c.args.text.now in
-    let g = passed text s (sym c.in-Rows.is ∙ c.judge.ensures) in
+    let g = passed text s c.in_ok-s.ensures in
     omega (arith, (few text s g).1, ap (λ (x : Survey). x.links) g.is)
 
-pub returns-in-Refused : goal.returns-in-Refused
-returns-in-Refused c =
+pub returns-in_err-s : goal.returns-in_err-s
+returns-in_err-s c =
     let text = c.args.text.now in
-    answer-refused (length_of (rows_in text)) text c.in-Refused.k (sym c.in-Refused.is ∙ c.judge.ensures)
+    let r = c.in_err-s.field-0.0 in
+    let made : c.from_residual.result ≡ Err r = search rules in
+    made ∙ answer-refused (length_of (rows_in text)) text r c.in_err-s.ensures
 
-pub returns-in-Rows : goal.returns-in-Rows
-returns-in-Rows c =
-    let s = c.in-Rows.s in
+pub returns : goal.returns
+returns c =
+    let s = c.in_ok-s.s in
     let text = c.args.text.now in
-    let g = passed text s (sym c.in-Rows.is ∙ c.judge.ensures) in
-    ap Length (c.length_of.ensures ∙ size_is text s g) ∙ answer-long (length_of (rows_in text)) text s g (omega (arith, ap length_of (rows_are 0 text s g)))
+    let g = passed text s c.in_ok-s.ensures in
+    ap (λ (n : ℕ). Ok n) (c.length_of.ensures ∙ size_is text s g) ∙ answer-long (length_of (rows_in text)) text s g (omega (arith, ap length_of (rows_are 0 text s g)))

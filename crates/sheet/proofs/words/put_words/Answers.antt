@@ -15,17 +15,13 @@ loop-i-init c = search rules
 
 pub loop-i-preserved : goal.loop-i-preserved
 loop-i-preserved c =
-    let put = c.put_word in
     let turn = c.loop-i in
     let args = c.args in
-    let ws = args.words.now in (
-      search rules,
-      put.auto.bytes ∙ turn.invariant.1,
-      put.ensures ∙ ap (λ (l : List ℕ). sets l (args.at + 4 * turn.i) (bytes_of (get_or ws turn.i 0))) turn.invariant.2 ∙ sets_word args.bytes.now args.at ws turn.i (search rules),
-    )
+    let ws = args.words.now in
+    c.put_word.ensures ∙ ap (λ (l : List ℕ). sets l (args.at + 4 * turn.i) (bytes_of (get_or ws turn.i 0))) turn.invariant ∙ sets_word args.bytes.now args.at ws turn.i (search rules)
 
 pub returns : goal.returns
 returns c =
     let ws = c.args.words.now in
     let all : c.loop-i.i ≡ length ws = omega arith in
-    c.loop-i.invariant.2 ∙ ap (λ (k : List ℕ). sets c.args.bytes.now c.args.at (bytes_of_all k)) (ap (λ (n : ℕ). take n ws) all ∙ take-length ws)
+    c.loop-i.invariant ∙ ap (λ (k : List ℕ). sets c.args.bytes.now c.args.at (bytes_of_all k)) (ap (λ (n : ℕ). take n ws) all ∙ take-length ws)

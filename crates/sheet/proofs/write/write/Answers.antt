@@ -1,12 +1,19 @@
-use mathlib.Core.Path.{◌≡◌, sym, ap, ◌∙◌}
-use mathlib.Core.Bool.{Bool, true, not, cond}
-use Prim.Native.Nat.{ℕ, ◌^◌}
+use mathlib.Core.Path.{◌≡◌, refl, sym, ap, ◌∙◌}
+use mathlib.Core.Bool.{Bool, not, cond}
+use Prim.Native.Nat.{ℕ, ◌/◌, ◌^◌}
 use native.Mathlib.Omega.{arith}
 use lib.Dec.{ltb, eqb}
 use lib.ListN.{length}
+use borrow.Author.Rules.{rules}
 use borrow.Author.Tests.{eq-eqb, ne_eqb, lt-ltb, le-ltb}
-use Rattle.sheet.specs.Sheet.{Parts, records_fit, write_number, sheet_length}
+use Rattle.std.specs.Prelude.{Ok, Err}
+use Rattle.sheet.specs.declared.refusal.Refusal.{Refusal}
+use Rattle.sheet.specs.Refusals.{number_of}
+use Rattle.sheet.specs.Sheet.{write_number, sheet_length}
+use Rattle.sheet.specs.Tests.{judged}
 use Rattle.sheet.specs.Answers.{parts}
+use Rattle.sheet.proofs.Refusals.{answer-some, refusal-told, number-positive}
+use Rattle.sheet.proofs.Passes.{first-known}
 use Rattle.sheet.proofs.Writing.{records, write-unfit, write-judged, refused}
 use Rattle.sheet.proofs.Round.{Below, stored_back}
 use Rattle.sheet.proofs.write.write.Goals as goal
@@ -14,87 +21,87 @@ use Rattle.sheet.proofs.write.write.Lts
 use Rattle.sheet.proofs.write.write.Reads
 use Rattle.sheet.proofs.write.write.Tie
 
-abbrev After-judge-number : Type 0
-After-judge-number = Lts.After-judge Tie.the-claims Reads.Pre Reads.Post Tie.handed_clauses
+abbrev After-judge : Type 0
+After-judge = Lts.After-judge Tie.the-claims Reads.Pre Reads.Post Tie.handed_clauses
 
-abbrev After-slice_known-1 : Type 0
-After-slice_known-1 = Lts.After-slice_known Tie.the-claims Reads.Pre Reads.Post Tie.handed_clauses
+-- the number of the first test that fails, by the passes
+abbrev judged_in : After-judge → ℕ
+judged_in c = judged c.test_nodes-node_tests.result c.test_links-link_tests.result (length c.args.links.now / 4) (length c.args.nodes.now / 3) c.args.start
 
-abbrev Else-not-records_fit : Type 0
-Else-not-records_fit = Lts.Else1 Tie.the-claims Reads.Pre Reads.Post Tie.handed_clauses
-
-abbrev Start : Type 0
-Start = Lts.Start Tie.the-claims Reads.Pre Reads.Post Tie.handed_clauses
-
--- what is to be written
-abbrev given : Start → Parts
-given s = parts s.args.links.now s.args.nodes.now s.args.start
-
--- where the test of records passed
-fits : (c : Else-not-records_fit) → records_fit (given c.before.before.before.before.before) ≡ true
-fits c = sym c.records_fit.ensures ∙ c.if-not-records_fit.false
-
--- the number, by what the passes come to
-number : (c : After-judge-number) (room : ℕ) → write_number (given c.before.before.before.before.before.before.before.before) room ≡ cond (not (eqb c.judge-number.result 0)) c.judge-number.result (cond (ltb room (sheet_length (given c.before.before.before.before.before.before.before.before))) 21 0)
+number : (c : After-judge) (room : ℕ)
+    → write_number (parts c.args.links.now c.args.nodes.now c.args.start) room
+    ≡ cond (not (eqb (judged_in c) 0)) (judged_in c) (cond (ltb room (sheet_length (parts c.args.links.now c.args.nodes.now c.args.start))) 21 0)
 number c room =
-    write-judged (given c.before.before.before.before.before.before.before.before) room (fits c.before.before.before) c.test_node_words.result c.test_link_words.result c.judge-number.result
-    c.test_node_words.ensures c.test_link_words.ensures c.judge-number.ensures
+    write-judged (parts c.args.links.now c.args.nodes.now c.args.start) room (sym c.records_fit.ensures ∙ c.if-not-records_fit.false) c.test_nodes-node_tests.result c.test_links-link_tests.result (judged_in c)
+    c.test_nodes-node_tests.ensures c.test_links-link_tests.ensures refl
 
-pub returns-then-not-records_fit : goal.returns-then-not-records_fit
-returns-then-not-records_fit c =
-    let s = c.before.before.before.before.before.before in
-    let old = s.args.res.now in
-    let told = refused (given s) old 1 (λ e. omega arith) (write-unfit (given s) (length old) (sym c.records_fit.ensures ∙ c.if-not-records_fit.true)) in
-    record { value = told.0; res_after = told.1.0; by_index = told.1.1 }
+-- where a test fails, its number
+told : (c : After-judge) (e : Refusal) → c.judge.result ≡ Err e → write_number (parts c.args.links.now c.args.nodes.now c.args.start) (length c.args.res.now) ≡ number_of e
+told c e was =
+    let p = parts c.args.links.now c.args.nodes.now c.args.start in
+    let room = length c.args.res.now in
+    let k = judged_in c in
+    let failed : k ≡ number_of e = refusal-told tt k (first-known _ _ _ _) e (sym was ∙ c.judge.ensures) in
+    number c room ∙ ap (λ (t : Bool). cond (not t) k (cond (ltb room (sheet_length p)) 21 0)) (ne_eqb k 0 (λ z. number-positive e (sym failed ∙ z))) ∙ failed
+
+-- where none fails, the number by the room
+passed : (c : After-judge) → c.judge.result ≡ Ok tt → write_number (parts c.args.links.now c.args.nodes.now c.args.start) (length c.args.res.now) ≡ cond (ltb (length c.args.res.now) (sheet_length (parts c.args.links.now c.args.nodes.now c.args.start))) 21 0
+passed c was =
+    let p = parts c.args.links.now c.args.nodes.now c.args.start in
+    let room = length c.args.res.now in
+    let k = judged_in c in
+    number c room ∙ ap (λ (t : Bool). cond (not t) k (cond (ltb room (sheet_length p)) 21 0)) (eq-eqb k 0 (answer-some tt k tt (sym was ∙ c.judge.ensures)).0)
+
+pub returns-then-not-records_fit-clause-value : goal.returns-then-not-records_fit-clause-value
+returns-then-not-records_fit-clause-value c =
+    let p = parts c.args.links.now c.args.nodes.now c.args.start in
+    let old = c.args.res.now in
+    (refused p old Refusal.Layout (write-unfit p (length old) (sym c.records_fit.ensures ∙ c.if-not-records_fit.true))).0
+
+pub returns-then-not-records_fit-clause-res_after : goal.returns-then-not-records_fit-clause-res_after
+returns-then-not-records_fit-clause-res_after c =
+    let p = parts c.args.links.now c.args.nodes.now c.args.start in
+    let old = c.args.res.now in
+    (refused p old Refusal.Layout (write-unfit p (length old) (sym c.records_fit.ensures ∙ c.if-not-records_fit.true))).1.0
 
 pub overflow_cast-t : goal.overflow_cast-t
-overflow_cast-t c = omega (arith, (records (given c.before.before.before.before.before.before) (fits c.before)).3)
+overflow_cast-t c = omega (arith, (records (parts c.args.links.now c.args.nodes.now c.args.start) (sym c.records_fit.ensures ∙ c.if-not-records_fit.false)).3)
 
 pub overflow_cast-n : goal.overflow_cast-n
-overflow_cast-n c = omega (arith, (records (given c.before.before.before.before.before.before) (fits c.before)).2)
+overflow_cast-n c = omega (arith, (records (parts c.args.links.now c.args.nodes.now c.args.start) (sym c.records_fit.ensures ∙ c.if-not-records_fit.false)).2)
 
-pub returns-then-number-ne0 : goal.returns-then-number-ne0
-returns-then-number-ne0 c =
-    let s = c.before.before.before.before.before.before.before.before.before.before in
-    let old = s.args.res.now in
-    let k = c.judge-number.result in
-    let told = refused (given s) old k c.if-number-ne0.true (number c.before.before (length old) ∙ ap (λ (t : Bool). cond (not t) k (cond (ltb (length old) (sheet_length (given s))) 21 0)) (ne_eqb k 0 c.if-number-ne0.true)) in
-    record { value = told.0; res_after = told.1.0; by_index = told.1.1 }
+pub returns-in_err-judge-clause-value : goal.returns-in_err-judge-clause-value
+returns-in_err-judge-clause-value c =
+    let p = parts c.args.links.now c.args.nodes.now c.args.start in
+    let e = c.in_err-judge.field-0.0 in
+    let made : c.from_residual.result ≡ Err e = search rules in
+    made ∙ (refused p c.args.res.now e (told c.before.before.before.before e c.in_err-judge.was)).0
 
-pub returns-then-res-size : goal.returns-then-res-size
-returns-then-res-size c =
-    let s = c.before.before.before.before.before.before.before.before.before.before.before in
-    let old = s.args.res.now in
-    let k = c.judge-number.result in
-    let told = refused (given s) old 21 (λ e. omega arith)
-    (number c.before.before.before (length old)
-    ∙ ap (λ (t : Bool). cond (not t) k (cond (ltb (length old) (sheet_length (given s))) 21 0)) (eq-eqb k 0 c.if-number-ne0.false)
-    ∙ ap (λ (t : Bool). cond t 21 0) (lt-ltb (length old) (sheet_length (given s)) c.if-res-size.true)) in
-    record { value = told.0; res_after = told.1.0; by_index = told.1.1 }
+pub returns-in_err-judge-clause-res_after : goal.returns-in_err-judge-clause-res_after
+returns-in_err-judge-clause-res_after c =
+    let p = parts c.args.links.now c.args.nodes.now c.args.start in
+    let e = c.in_err-judge.field-0.0 in
+    (refused p c.args.res.now e (told c.before.before.before.before e c.in_err-judge.was)).1.0
 
-pub put_sheet-requires : goal.put_sheet-requires
-put_sheet-requires c = record {
-  links_len = records (given c.before.before.before.before.before.before.before.before.before.before.before.before) (fits c.before.before.before.before.before.before.before);
-  nodes_in_bounds = c.if-res-size.false;
-}
+pub returns-then-res-size-clause-value : goal.returns-then-res-size-clause-value
+returns-then-res-size-clause-value c =
+    let p = parts c.args.links.now c.args.nodes.now c.args.start in
+    let old = c.args.res.now in
+    (refused p old Refusal.Room (passed c.before.before.before.before c.in_ok-judge.was ∙ ap (λ (t : Bool). cond t 21 0) (lt-ltb (length old) (sheet_length p) c.if-res-size.true))).0
 
--- the fields that are given are 32-bit
-links-below : (c : After-slice_known-1) → Below (2 ^ 32) (given c.before.before.before).links
-links-below c i = omega (arith, c.shared_slice_known-1.given i)
-
-nodes-below : (c : After-slice_known-1) → Below (2 ^ 32) (given c.before.before.before).nodes
-nodes-below c i = omega (arith, c.shared_slice_known-2-1.given i)
+pub returns-then-res-size-clause-res_after : goal.returns-then-res-size-clause-res_after
+returns-then-res-size-clause-res_after c =
+    let p = parts c.args.links.now c.args.nodes.now c.args.start in
+    let old = c.args.res.now in
+    (refused p old Refusal.Room (passed c.before.before.before.before c.in_ok-judge.was ∙ ap (λ (t : Bool). cond t 21 0) (lt-ltb (length old) (sheet_length p) c.if-res-size.true))).1.0
 
 pub returns : goal.returns
 returns c =
-    let s = c.before.before.before.before.before.before.before.before.before.before.before.before.before.before.before in
-    let old = s.args.res.now in
-    let k = c.judge-number.result in
-    let fit = fits c.before.before.before.before.before.before.before.before.before.before in
-    let room = c.if-res-size.false in
-    let zero : write_number (given s) (length old) ≡ 0 =
-    number c.before.before.before.before.before.before.before (length old)
-    ∙ ap (λ (t : Bool). cond (not t) k (cond (ltb (length old) (sheet_length (given s))) 21 0)) (eq-eqb k 0 c.if-number-ne0.false)
-    ∙ ap (λ (t : Bool). cond t 21 0) (le-ltb (length old) (sheet_length (given s)) room) in
-    let told = stored_back (given s) fit (links-below c.before.before.before.before.before.before.before.before.before.before.before.before) (nodes-below c.before.before.before.before.before.before.before.before.before.before.before.before) s.ranges.start.fits old _ room zero c.put_sheet.ensures in
+    let p = parts c.args.links.now c.args.nodes.now c.args.start in
+    let old = c.args.res.now in
+    let zero : write_number p (length old) ≡ 0 =
+    passed c.before.before.before.before.before.before.before.before c.in_ok-judge.was ∙ ap (λ (t : Bool). cond t 21 0) (le-ltb (length old) (sheet_length p) c.if-res-size.false) in
+    let links : Below (2 ^ 32) p.links = λ i. omega (arith, c.type_inv.links i) in
+    let nodes : Below (2 ^ 32) p.nodes = λ i. omega (arith, c.type_inv.nodes i) in
+    let told = stored_back p (sym c.records_fit.ensures ∙ c.if-not-records_fit.false) links nodes c.ranges.start.fits old _ c.if-res-size.false zero c.put_sheet.ensures in
     record { value = told.0; res_after = told.1.0; by_index = told.1.1 }

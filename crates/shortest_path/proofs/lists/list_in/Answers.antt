@@ -1,7 +1,7 @@
 use mathlib.Core.Path.{◌≡◌, sym, ap, ◌∙◌}
-use Prim.Native.Nat.{ℕ}
 use native.Mathlib.Omega.{arith}
 use lib.ListN.{length}
+use Rattle.sheet.specs.Accepted.{trailer_in}
 use Rattle.sheet.specs.Sheet.{parts_of}
 use Rattle.sheet.specs.Machine.{machine_of}
 use Rattle.search.specs.ListMachine.{empty, result_for}
@@ -9,31 +9,22 @@ use Rattle.list_answer.specs.ListAnswer.{slots_for, listed_in, listed_over}
 use Rattle.shortest_path.proofs.Joining.{zero-empty, nodes-is}
 use Rattle.shortest_path.proofs.lists.list_in.Goals as goal
 
-pub returns-then-n-eq0 : goal.returns-then-n-eq0
-returns-then-n-eq0 c =
-    let args = c.args in
-    let m = machine_of (parts_of args.sheet.now) in
-    let e : result_for m args.n ≡ empty = ap (result_for m) c.if-n-eq0.true ∙ zero-empty m in record {
-      value = c.put_none.ensures.value ∙ ap (λ r. listed_in r (length args.res.now)) (sym e);
-      res_after = c.put_none.ensures.res_after ∙ ap (λ r. listed_over r args.res.now) (sym e);
-    }
+pub returns-in-0-clause-value : goal.returns-in-0-clause-value
+returns-in-0-clause-value c =
+    let m = machine_of (parts_of c.args.machine.now.sheet.bytes.now) in
+    let none : result_for m c.args.n ≡ empty = ap (result_for m) c.in-0.is ∙ zero-empty m in
+    c.put_none.ensures.value ∙ ap (λ r. listed_in r (length c.args.res.now)) (sym none)
+
+pub returns-in-0-clause-res_after : goal.returns-in-0-clause-res_after
+returns-in-0-clause-res_after c =
+    let m = machine_of (parts_of c.args.machine.now.sheet.bytes.now) in
+    let none : result_for m c.args.n ≡ empty = ap (result_for m) c.in-0.is ∙ zero-empty m in
+    c.put_none.ensures.res_after ∙ ap (λ r. listed_over r c.args.res.now) (sym none)
 
 pub single_shortest_path-requires : goal.single_shortest_path-requires
 single_shortest_path-requires c =
-    let root = c.before.before.before.before.before.before.before.before in
-    let args = root.args in
-    let one : slots_for (machine_of (parts_of args.sheet.now)) args.n ≡ length (machine_of (parts_of args.sheet.now)).finals = ap (slots_for (machine_of (parts_of args.sheet.now))) c.if-n-eq1.true in
-    let few = nodes-is args.sheet.now (λ i. omega (arith, c.type_inv.sheet i)) root.requires.sheet_value.0 args.t root.requires.sheet_value.1 args.finals root.requires.sheet_value.2 in record {
-      sheet_value = (root.requires.sheet_value.0, root.requires.sheet_value.1);
-      nodes_in_bounds = omega (arith, root.requires.n_le_list_limit.1, one, few);
-    }
-
-pub returns-then-n-eq1 : goal.returns-then-n-eq1
-returns-then-n-eq1 c =
-    let args = c.args in
-    let m = machine_of (parts_of args.sheet.now) in
-    let one : args.n ≡ 1 = c.if-n-eq1.true in
-    let x = c.single_shortest_path.ensures in record {
-      value = x.value ∙ ap (λ (k : ℕ). listed_in (result_for m k) (length args.res.now)) (sym one);
-      res_after = x.res_after ∙ ap (λ (k : ℕ). listed_over (result_for m k) args.res.now) (sym one);
-    }
+    let m = c.args.machine.now in
+    let s = m.sheet in
+    let given = machine_of (parts_of s.bytes.now) in
+    let one : slots_for given c.args.n ≡ length given.finals = ap (slots_for given) c.in-1.is in
+    omega (arith, c.requires.n_le_list_limit.1, one, nodes-is s.bytes.now m.climbs (trailer_in s.links s.nodes s.start) s.stated c.args.finals c.requires.counted)

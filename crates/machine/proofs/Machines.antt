@@ -1,0 +1,68 @@
+-- Of a machine: the numbers that its tests answer, and what its sheet's counts say. Assumes nothing.
+use mathlib.Core.Path.{◌≡◌, refl, sym, ap, ◌∙◌}
+use mathlib.Core.Logic.{inl}
+use mathlib.Core.Bool.{Bool, true, false, not, ◌&&◌, and-false}
+use mathlib.Core.List.{List}
+use Prim.Native.Nat.{ℕ, suc, ◌+◌, ◌≤◌, ◌<◌}
+use native.Mathlib.Omega.{arith}
+use lib.Dec.{leb, eqb}
+use borrow.Author.Tests.{lt-leb, le-leb}
+use Rattle.tropical_weight.specs.Limits.{node_limit, link_limit}
+use Rattle.sheet.specs.declared.refusal.Refusal.TheVariants as Refusal
+use Rattle.sheet.specs.declared.tr.Trailer.{Trailer}
+use Rattle.sheet.specs.Sheet.{parts_of, read_number, stated_links, stated_nodes}
+use Rattle.sheet.specs.Records.{trailer_at, count_at, first_link}
+use Rattle.sheet.specs.Accepted.{trailer_in}
+use Rattle.sheet.proofs.Below.{sum_mono}
+use Rattle.sheet.proofs.Refusals.{Known, known, known-cond}
+use Rattle.sheet.proofs.AcceptedSheet.{read-known}
+use Rattle.machine.specs.Answers.{nodes_climb}
+use Rattle.machine.specs.Input.{counts_fit, links_climb, bounds_number, input_number}
+use Rattle.machine.proofs.Testing.{input-5, input-6, input-passes, counts-are, counts-total, climb-same}
+use Rattle.machine.proofs.SheetFields.{next-first}
+
+pub bounds-known : (bytes : List ℕ) → Known (bounds_number (parts_of bytes))
+unfolding bounds_number
+bounds-known bytes =
+    known-cond (not (counts_fit (parts_of bytes))) 5 _ (known Refusal.Limits) (known-cond (not (links_climb (parts_of bytes))) 6 0 (known Refusal.Climb) (inl refl))
+
+pub input-known : (bytes : List ℕ) → Known (input_number bytes)
+unfolding input_number
+input-known bytes = known-cond (not (eqb (read_number bytes) 0)) (read_number bytes) (bounds_number (parts_of bytes)) (read-known bytes) (bounds-known bytes)
+
+-- ---- an accepted sheet with its counts
+module _ (bytes : List ℕ) (links nodes start : ℕ) (accepted : read_number bytes ≡ 0) (stated : trailer_in links nodes start ≡ trailer_at bytes) where
+  links-are : links ≡ stated_links bytes
+  links-are = ap (λ (t : Trailer). t.links) stated
+
+  nodes-are : nodes ≡ stated_nodes bytes
+  nodes-are = ap (λ (t : Trailer). t.nodes) stated
+
+  -- the links of the nodes up to one are among its links
+  pub first-within : (v : ℕ) → v < nodes → first_link bytes links v + count_at bytes links v ≤ links
+  first-within v h =
+      let total : first_link bytes links nodes ≡ links = (λ i. first_link bytes (links-are i) (nodes-are i)) ∙ counts-total bytes accepted ∙ sym links-are in
+      omega (arith, next-first bytes links v, sum_mono (count_at bytes links) nodes (suc v) h, total)
+
+  -- what the tests of limits and of links say of its number
+  limits : counts_fit (parts_of bytes) ≡ leb nodes node_limit && leb links link_limit
+  limits = counts-are bytes accepted ∙ sym (λ i. leb (nodes-are i) node_limit && leb (links-are i) link_limit)
+
+  climbing : links_climb (parts_of bytes) ≡ nodes_climb bytes links nodes
+  climbing = climb-same bytes accepted ∙ sym (λ i. nodes_climb bytes (links-are i) (nodes-are i))
+
+  pub many-nodes : node_limit < nodes → input_number bytes ≡ 5
+  many-nodes h = input-5 bytes accepted (limits ∙ ap (λ (b : Bool). b && leb links link_limit) (lt-leb nodes node_limit h))
+
+  pub many-links : link_limit < links → input_number bytes ≡ 5
+  many-links h = input-5 bytes accepted (limits ∙ ap (λ (b : Bool). leb nodes node_limit && b) (lt-leb links link_limit h) ∙ and-false (leb nodes node_limit))
+
+  module _ (few-nodes : nodes ≤ node_limit) (few-links : links ≤ link_limit) where
+    within : counts_fit (parts_of bytes) ≡ true
+    within = limits ∙ λ i. le-leb nodes node_limit few-nodes i && le-leb links link_limit few-links i
+
+    pub climbs-not : nodes_climb bytes links nodes ≡ false → input_number bytes ≡ 6
+    climbs-not h = input-6 bytes accepted within (climbing ∙ h)
+
+    pub climbs-all : nodes_climb bytes links nodes ≡ true → input_number bytes ≡ 0
+    climbs-all h = input-passes bytes accepted within (climbing ∙ h)

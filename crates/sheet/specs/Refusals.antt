@@ -1,0 +1,42 @@
+-- Refusals and their numbers, and an answer that is a value or a refusal. Definitions only.
+use Rattle.std.specs.Prelude.{ℕ, Bool, true, false, cond, eqb, Result, Ok, Err}
+use Rattle.sheet.specs.declared.refusal.Refusal.{Refusal}
+
+-- the number that documents 01 and 02 give it
+abbrev pub number_of : Refusal → ℕ
+number_of Refusal.Layout = 1
+number_of Refusal.Start = 2
+number_of Refusal.Next = 3
+number_of Refusal.Weight = 4
+number_of Refusal.Limits = 5
+number_of Refusal.Climb = 6
+number_of Refusal.Count = 7
+number_of Refusal.Rows = 8
+number_of Refusal.NoRows = 9
+number_of Refusal.Work = 20
+number_of Refusal.Room = 21
+number_of Refusal.Queue = 22
+number_of Refusal.NoAnswer = 30
+number_of Refusal.Absent = 31
+
+-- the refusal of a number; it is read where the number is one of those
+abbrev pub refusal_of : ℕ → Refusal
+refusal_of k =
+    cond (eqb k 1) Refusal.Layout (cond (eqb k 2) Refusal.Start (cond (eqb k 3) Refusal.Next (cond (eqb k 4) Refusal.Weight
+    (cond (eqb k 5) Refusal.Limits (cond (eqb k 6) Refusal.Climb (cond (eqb k 7) Refusal.Count (cond (eqb k 8) Refusal.Rows
+    (cond (eqb k 9) Refusal.NoRows (cond (eqb k 20) Refusal.Work (cond (eqb k 21) Refusal.Room (cond (eqb k 22) Refusal.Queue
+    (cond (eqb k 30) Refusal.NoAnswer Refusal.Absent))))))))))))
+
+-- by the test of the number
+abbrev pub answer_by : {A : Type 0} → Bool → A → ℕ → Result A Refusal
+answer_by true a k = Ok a
+answer_by false a k = Err (refusal_of k)
+
+-- a value where the number is 0, else the refusal of the number
+abbrev pub answer : {A : Type 0} → A → ℕ → Result A Refusal
+answer a k = answer_by (eqb k 0) a k
+
+-- the number of an answer: 0 where it is a value
+abbrev pub number_in : {A : Type 0} → Result A Refusal → ℕ
+number_in (Ok a) = 0
+number_in (Err r) = number_of r

@@ -1,6 +1,0 @@
-use mathlib.Core.Path.{◌∙◌}
-use Rattle.state_order_queue.proofs.Records.{flagged-enqueued}
-use Rattle.state_order_queue.proofs.enqueue_untested.Goals as goal
-
-pub returns : goal.returns
-returns c = c.enqueue_flagged.ensures ∙ flagged-enqueued c.args.q c.args.state
