@@ -3,7 +3,7 @@ use mathlib.Core.Path.{◌≡◌, refl, sym, ap, ◌∙◌, subst}
 use mathlib.Core.Bool.{Bool, false, cond}
 use mathlib.Core.List.Memᴰ
 use mathlib.Core.List.{List, [], ◌∷◌, ◌++◌}
-use Prim.Native.Nat.{ℕ, ◌+◌, ◌≤◌, ◌<◌}
+use Prim.Native.Nat.{ℕ, ◌+◌, ◌-◌, ◌≤◌, ◌<◌}
 use native.Mathlib.Numerals.{add-one}
 use native.Mathlib.Omega.{arith}
 use lib.Dec.{eqb}
@@ -22,6 +22,10 @@ keep-none : {A : Type 0} (p : A → Bool) (l : List A) → ((x : A) → x ∈ l 
 unfolding keep
 keep-none p [] f = refl
 keep-none {A} p (x ∷ l) f = ap (λ (b : Bool). cond b (x ∷ keep p l) (keep p l)) (f x (here x l)) ∙ keep-none p l (λ y m. f y (Memᴰ.tail m))
+
+-- a key of those from a place on, by its place among all
+pub key-behind : (keys : List ℕ) (low i : ℕ) → low + i < length keys → get_or (take (length keys - low) (drop low keys)) i 0 ≡ get_or keys (low + i) 0
+key-behind keys low i h = get_or-take (length keys - low) (drop low keys) i 0 (omega arith) ∙ get_or-drop low keys i 0
 
 module _ (key : ℕ) where
   -- none below the label's least key

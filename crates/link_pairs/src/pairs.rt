@@ -26,15 +26,14 @@ fn put_partners(
     let before = key_node(key) * nodes;
     let mut next = at;
     let low = first_at_least(seconds, least_alike(key));
-    for k in low..seconds.len() {
-        let second = seconds[k];
-        if key_label(second) != label {
+    for second in &seconds[low..] {
+        if key_label(*second) != label {
             return Some(next);
         }
         if next == LINK_LIMIT {
             return None;
         }
-        pairs[next] = pair_key(before + key_node(second), key_link(key), key_link(second));
+        pairs[next] = pair_key(before + key_node(*second), key_link(key), key_link(*second));
         next += 1;
     }
     Some(next)
@@ -48,8 +47,8 @@ fn find_pairs(firsts: &[u64], seconds: &[u64], nodes: u64, pairs: &mut [u64]) ->
     ensures { Put 0 (found nodes seconds.now firsts.now) pairs.old pairs.new result }
 {
     let mut next = 0usize;
-    for l in 0..firsts.len() {
-        next = put_partners(firsts[l], seconds, nodes, pairs, next)?;
+    for key in firsts {
+        next = put_partners(*key, seconds, nodes, pairs, next)?;
     }
     Some(next)
 }

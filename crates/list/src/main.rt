@@ -8,6 +8,7 @@ use std::io;
 use std::io::Read;
 
 // Reads until the buffer is full or the input ends, and counts the bytes at the buffer's start.
+// Its own copy: the program does not depend on the crate of test cases; the library's calls fill a buffer whole or take memory.
 fn read_full(input: &mut impl Read, buf: &mut [u8]) -> io::Result<usize>
     ensures { IfOk result (λ n. IsPrefixLen n buf.new) }
 {

@@ -7,9 +7,8 @@ ghost use Rattle.search.specs.ListMachine.{empty};
 ghost use Rattle.list_answer.specs.ListAnswer.{listed_in, listed_over, slots_of};
 
 use sheet::refusal::Refusal;
-use sheet::tr::TRAILER;
+use sheet::tr::{NO_START, TRAILER};
 use sheet::words::put_words;
-use slots::NOTHING;
 
 // What a list that is made has: the counts of the result's nodes and links, and of the entries taken.
 #[derive(Clone, Copy, Debug, PartialEq, Eq)]
@@ -39,7 +38,7 @@ pub fn put_none(res: &mut [u8]) -> Result<Listed, Refusal>
     if res.len() < TRAILER {
         return Err(Refusal::Room);
     }
-    let trailer = [0, 0, 0, 0, NOTHING];
+    let trailer = [0, 0, 0, 0, NO_START];
     put_words(res, 0, &trailer);
     Ok(Listed {
         nodes: 0,

@@ -14,7 +14,6 @@ ghost use Rattle.list_machine.specs.TrimWords.{Linked, Listable, list_length};
 
 use list_answer::Listed;
 use search_slots::{FROM, INPUT, LISTED, STATE};
-use sheet::accepted::Sheet;
 use sheet::refusal::Refusal;
 use sheet::tr::TRAILER;
 use sheet::words::{put_word, put_words, word};
@@ -115,11 +114,12 @@ fn number(part: &mut [u32], entries: usize) -> u32
 // write one after another into the result, each its own words: from `at` on where they do not begin it.
 #[derive(Clone, Copy)]
 struct Numbered<'a> {
-    sheet: Sheet<'a>,
+    bytes: &'a [u8],
+    links: u32,
     part: &'a [u32],
     entries: usize,
     listed: usize,
-    ghost listable: { Listable sheet.bytes.now sheet.links part.now entries listed },
+    ghost listable: { Listable bytes.now links part.now entries listed },
 }
 
 impl<'a> Numbered<'a> {
@@ -138,21 +138,21 @@ impl<'a> Numbered<'a> {
 
     // The final weight's word of the old node of v, or 0 where an entry is finished.
     fn blank_bits(&self, v: u32) -> u32
-        requires { (v ≡ nothing → ⊥) → (0 < v) × (16 * self.now.sheet.links + 12 * v ≤ length self.now.sheet.bytes.now) }
-        ensures { result ≡ blank_bits self.now.sheet.bytes.now self.now.sheet.links v }
+        requires { (v ≡ nothing → ⊥) → (0 < v) × (16 * self.now.links + 12 * v ≤ length self.now.bytes.now) }
+        ensures { result ≡ blank_bits self.now.bytes.now self.now.links v }
     {
         if v == NOTHING {
             return 0;
         }
-        let at = LINK * (self.sheet.links as usize) + NODE * ((v - 1) as usize);
-        word(self.sheet.bytes, at + 8)
+        let at = LINK * (self.links as usize) + NODE * ((v - 1) as usize);
+        word(self.bytes, at + 8)
     }
 
     // Writes the link of entry i: its input link's labels and weight, or none and a final weight.
     fn put_link(&self, i: usize, res: &mut [u8], at: usize)
         requires { (0 < i) × (i < self.now.entries) × (at + 16 ≤ length res.old) }
         ensures { res.new
-            ≡ sets res.old at (bytes_of_all (entry_words self.now.sheet.bytes.now self.now.sheet.links self.now.part.now i)) }
+            ≡ sets res.old at (bytes_of_all (entry_words self.now.bytes.now self.now.links self.now.part.now i)) }
     {
         let to = self.part[SLOT * (self.part[SLOT * i + FROM] as usize) + STATE];
         let input = self.part[SLOT * i + INPUT];
@@ -163,9 +163,9 @@ impl<'a> Numbered<'a> {
         }
         let l = LINK * (input as usize);
         let words = [
-            word(self.sheet.bytes, l),
-            word(self.sheet.bytes, l + 4),
-            word(self.sheet.bytes, l + 8),
+            word(self.bytes, l),
+            word(self.bytes, l + 4),
+            word(self.bytes, l + 8),
             to,
         ];
         put_words(res, at, &words);
@@ -176,7 +176,7 @@ impl<'a> Numbered<'a> {
         requires { (0 < i) × (i < self.now.entries) × (at + 16 * mark_of self.now.part.now i ≤ length res.old) }
         ensures value { result ≡ at + 16 * mark_of self.now.part.now i }
         ensures res_after { res.new
-            ≡ sets res.old at (bytes_of_all (stated_words self.now.sheet.bytes.now self.now.sheet.links self.now.part.now i)) }
+            ≡ sets res.old at (bytes_of_all (stated_words self.now.bytes.now self.now.links self.now.part.now i)) }
     {
         if self.part[SLOT * i + STATE] == 0 {
             return at;
@@ -189,7 +189,7 @@ impl<'a> Numbered<'a> {
     fn put_entry_links(&self, res: &mut [u8], at: usize)
         requires { at + 16 * mark_count self.now.part.now (self.now.entries - 1) ≤ length res.old }
         ensures { res.new
-            ≡ sets res.old at (bytes_of_all (link_words self.now.sheet.bytes.now self.now.sheet.links self.now.part.now (self.now.entries - 1))) }
+            ≡ sets res.old at (bytes_of_all (link_words self.now.bytes.now self.now.links self.now.part.now (self.now.entries - 1))) }
     {
         let mut next = at;
         for i in 1..self.entries {
@@ -212,7 +212,8 @@ impl<'a> Numbered<'a> {
         at + WORD
     }
 
-    // Writes the words of the entries that are states, in their order.
+    // Writes the words of the entries that are states, in their order. Apart from `put_entry_links` as
+    // `put_input` is from `put_stated`.
     fn put_inputs(&self, res: &mut [u8], at: usize)
         requires { at + 4 * mark_count self.now.part.now (self.now.entries - 1) ≤ length res.old }
         ensures { res.new
@@ -228,7 +229,7 @@ impl<'a> Numbered<'a> {
     fn put_links(&self, res: &mut [u8])
         requires { 16 * (self.now.listed + mark_count self.now.part.now (self.now.entries - 1)) ≤ length res.old }
         ensures { res.new
-            ≡ sets res.old 0 (bytes_of_all (links_part self.now.sheet.bytes.now self.now.sheet.links self.now.part.now self.now.entries self.now.listed)) }
+            ≡ sets res.old 0 (bytes_of_all (links_part self.now.bytes.now self.now.links self.now.part.now self.now.entries self.now.listed)) }
     {
         self.put_start_links(res);
         self.put_entry_links(res, LINK * self.listed);
@@ -249,7 +250,7 @@ impl<'a> Numbered<'a> {
         requires kept { kept ≡ mark_count self.now.part.now (self.now.entries - 1) }
         requires roomy { list_length self.now.listed kept ≤ length res.old }
         ensures { res.new
-            ≡ sets res.old 0 (bytes_of_all (list_words self.now.sheet.bytes.now self.now.sheet.links self.now.part.now self.now.entries self.now.listed kept)) }
+            ≡ sets res.old 0 (bytes_of_all (list_words self.now.bytes.now self.now.links self.now.part.now self.now.entries self.now.listed kept)) }
     {
         let nodes_at = LINK * (self.listed + kept);
         let words_at = nodes_at + NODE * (2 + kept) + TRAILER;
@@ -271,7 +272,8 @@ fn put_nodes(res: &mut [u8], at: usize, count: usize)
     }
 }
 
-// Writes so many words that name no input link.
+// Writes so many words that name no input link. By words and not fill(0xff): the bytes of NOTHING are
+// known in crate slots alone.
 fn put_nothings(res: &mut [u8], at: usize, count: usize)
     requires { at + 4 * count ≤ length res.old }
     ensures { res.new
@@ -298,28 +300,30 @@ fn put_states(listed: usize, kept: usize, res: &mut [u8], at: usize)
 
 // Numbers the entries on a way as states, and writes their machine where the result has room.
 pub fn write_list(
-    sheet: &Sheet,
+    sheet: &[u8],
+    links: u32,
     part: &mut [u32],
     entries: usize,
     listed: usize,
     taken: u32,
     res: &mut [u8],
 ) -> Result<Listed, Refusal>
-    requires { Listable sheet.now.bytes.now sheet.now.links part.old entries listed }
+    requires { Listable sheet.now links part.old entries listed }
     ensures value { result
         ≡ list_answer listed (kept_count entries listed part.old) taken (length res.old) }
     ensures part_after { part.new ≡ stated entries listed part.old }
     ensures res_after { res.new
-        ≡ list_after sheet.now.bytes.now sheet.now.links part.old entries listed res.old }
+        ≡ list_after sheet.now links part.old entries listed res.old }
 {
     mark(part, entries, listed);
     let kept = number(part, entries) as usize;
-    let links = listed + kept;
-    if res.len() < LINK * links + NODE * (2 + kept) + TRAILER + WORD * links {
+    let made = listed + kept;
+    if res.len() < LINK * made + NODE * (2 + kept) + TRAILER + WORD * made {
         return Err(Refusal::Room);
     }
     let numbered = Numbered {
-        sheet: *sheet,
+        bytes: sheet,
+        links,
         part,
         entries,
         listed,
@@ -327,7 +331,7 @@ pub fn write_list(
     numbered.put_list(kept, res);
     Ok(Listed {
         nodes: (2 + kept) as u32,
-        links: links as u32,
+        links: made as u32,
         taken,
     })
 }

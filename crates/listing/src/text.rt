@@ -36,7 +36,7 @@ pub fn put_first_line(page: &mut Page, readings: u32, taken: u32)
     page.put_text(b"\n");
 }
 
-// The line of a refusal.
+// The line of a refusal. Not by Display: the clause states the bytes.
 pub fn put_refused(page: &mut Page, refusal: Refusal)
     requires { length page.old + 19 ≤ text_most }
     ensures text { page.new ≡ page.old ++ refused_line (number_of refusal) }
@@ -47,7 +47,8 @@ pub fn put_refused(page: &mut Page, refusal: Refusal)
     page.put_text(b"\n");
 }
 
-// A label of a reading, after a space.
+// A label of a reading, after a space. Apart from the rows' number: a space stands before it here, a
+// tab there, and each clause names its text.
 fn put_label(page: &mut Page, label: u32)
     requires { length page.old + 11 ≤ text_most }
     ensures text { page.new ≡ page.old ++ label_text label }

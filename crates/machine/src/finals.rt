@@ -1,16 +1,17 @@
 // The final nodes of a sheet.
-ghost use Rattle.std.specs.Prelude.{◌≡◌, ◌≤◌};
+ghost use Rattle.std.specs.Prelude.{◌≡◌, ◌+◌, ◌*◌, ◌≤◌, length};
 ghost use Rattle.machine.specs.Finals.{final_count};
 
-use sheet::accepted::Sheet;
+use sheet::words::word;
 
-// How many of the nodes have mark 1.
-pub fn count_finals(sheet: &Sheet) -> u32
-    ensures { (result ≡ final_count sheet.now.bytes.now sheet.now.links sheet.now.nodes) × (result ≤ sheet.now.nodes) }
+// How many of the nodes have mark 1, of any bytes that hold so many links and nodes.
+pub fn count_finals(sheet: &[u8], links: u32, nodes: u32) -> u32
+    requires { 16 * links + 12 * nodes ≤ length sheet.now }
+    ensures { (result ≡ final_count sheet.now links nodes) × (result ≤ nodes) }
 {
     let mut count = 0u32;
-    for v in 0..sheet.nodes {
-        if sheet.mark(v) != 0 {
+    for v in 0..nodes {
+        if word(sheet, 16 * (links as usize) + 12 * (v as usize) + 4) != 0 {
             count += 1;
         }
     }

@@ -1,6 +1,7 @@
 // Entries (shortest_path.rs of rustfst) in their slots: made by expansion, read by the heap.
-ghost use Rattle.std.specs.Prelude.{◌≡◌, ◌+◌, ◌*◌, ◌<◌, length};
+ghost use Rattle.std.specs.Prelude.{◌≡◌, ◌+◌, ◌*◌, ◌<◌, length, unwrap_or};
 ghost use Rattle.tropical_weight.specs.Single.{Number};
+ghost use Rattle.slots.specs.Slots.{nothing};
 ghost use Rattle.search_slots.specs.Slots.{rank_word};
 ghost use Rattle.n_shortest.specs.EntryWords.{node_of, cost_of, rank_w, Inside, entry_w, rank_of, stored};
 
@@ -14,6 +15,7 @@ pub enum Entry {
     Finished(f32),
 }
 
+// How a finished entry is stored is known here and in `entry_at` alone.
 fn node_of(e: Entry) -> u32
     ensures { result ≡ node_of e }
 {
@@ -69,16 +71,16 @@ pub fn rank_at(part: &[u32], x: u32) -> f32
 }
 
 // Stores an entry in slot i, with its rank, the entry it came from and the input link by which it is
-// put in.
-pub fn store(part: &mut [u32], nodes: usize, i: u32, e: Entry, from: u32, input: u32)
+// put in, if there is one.
+pub fn store(part: &mut [u32], nodes: usize, i: u32, e: Entry, from: u32, input: Option<u32>)
     requires { (8 * i + 4 < length part.old) × Inside part.old nodes e }
-    ensures { part.new ≡ stored part.old nodes i e from input }
+    ensures { part.new ≡ stored part.old nodes i e from (unwrap_or input nothing) }
 {
     let at = SLOT * (i as usize);
     let rank = tropical_weight::to_number_bits(rank(part, nodes, e));
     part[at] = node_of(e);
     part[at + COST] = tropical_weight::to_bits(cost_of(e));
     part[at + FROM] = from;
-    part[at + INPUT] = input;
+    part[at + INPUT] = input.unwrap_or(NOTHING);
     part[at + RANK] = rank;
 }

@@ -1,6 +1,6 @@
 // The heap of a search (shortest_path.rs of rustfst): numbers of entries, in a word of each slot.
 // It stays functions over the part: its length is another while it is sifted, so a struct of both would
-// be plainer in none of them.
+// be plainer in none of them. The sifts are recursions, as their definitions are.
 ghost use Rattle.std.specs.Prelude.{◌≡◌, ◌+◌, ◌-◌, ◌*◌, ◌≤◌, ◌<◌, length};
 ghost use Rattle.n_shortest.specs.HeapWords.{Comparable, HeapFits, half_first, less_w, swap_w, sift_up_w, child_w, sift_down_w, push_w, pop_w};
 
@@ -17,6 +17,7 @@ fn half_first(a: Entry, b: Entry) -> bool
 }
 
 // Whether entry a comes before entry b: by rank, and on equal rank half-built before finished.
+// Not Ord: ranks are floats that lie in the part, compared as the Rust does.
 #[tactic(auto, unfolding(crate::specs::HeapWords::less_w))]
 fn less(part: &[u32], a: u32, b: u32) -> bool
     requires { Comparable part.now a × Comparable part.now b }

@@ -1,8 +1,9 @@
 // The search for the n cheapest readings (n_shortest_path of shortest_path.rs), on its part of the
 // work area.
-ghost use Rattle.std.specs.Prelude.{◌≡◌, ℕ, ◌+◌, ◌-◌, ◌*◌, ◌≤◌, ◌<◌, length};
+ghost use Rattle.std.specs.Prelude.{◌≡◌, ℕ, ◌+◌, ◌-◌, ◌*◌, ◌≤◌, ◌<◌, length, unwrap_or};
 ghost use Rattle.std.specs.Float.{binary32};
 ghost use Rattle.std.specs.Float.Ieee.{of_bits};
+ghost use Rattle.slots.specs.Slots.{nothing};
 ghost use Rattle.search_slots.specs.Slots.{next_word, weight_word, chain_word};
 ghost use Rattle.n_shortest.specs.EntryWords.{Inside};
 ghost use Rattle.n_shortest.specs.SearchWords.{put_w, repeated, links_w, expand_w, finished_w, taken_w, step_w, after_w, none_w, begun_w, Sized, Chain, Expands, Takes, Ready, Begins, Runs};
@@ -31,15 +32,15 @@ pub struct Places {
     pub end: u32,
 }
 
-// The input link that reversed link k repeats.
-fn input_of(inputs: u32, k: u32) -> u32
-    ensures { result ≡ repeated inputs k }
+// The input link that reversed link k repeats, if it does.
+fn input_of(inputs: u32, k: u32) -> Option<u32>
+    ensures { unwrap_or result nothing ≡ repeated inputs k }
 {
-    if k < inputs { k } else { NOTHING }
+    if k < inputs { Some(k) } else { None }
 }
 
 // A reversed link: the node that it leads to, its weight, and the link that comes next out of the same
-// node.
+// node: a number, not an Option, since it stands in a word of the slot, as the definition of a chain has it.
 #[derive(Clone, Copy)]
 struct Link {
     next: u32,
@@ -76,9 +77,9 @@ impl<'a> Search<'a> {
     ghost use Rattle.n_shortest.specs.Goes.{words_of, Goes};
 
     // Puts an entry in: into the next slot, and into the heap.
-    fn put(&mut self, e: Entry, from: u32, input: u32)
+    fn put(&mut self, e: Entry, from: u32, input: Option<u32>)
         requires { (8 * (self.old.counts.entries + 1) ≤ self.old.places.nodes) × Inside self.old.part.now self.old.places.nodes e }
-        ensures { Goes self.old self.new (put_w self.old.places.nodes e from input (words_of self.old)) }
+        ensures { Goes self.old self.new (put_w self.old.places.nodes e from (unwrap_or input nothing) (words_of self.old)) }
     {
         let entries = self.counts.entries;
         // lent once: a proof knows its words after each call
@@ -117,7 +118,7 @@ impl<'a> Search<'a> {
         let head = self.part[self.places.nodes + SLOT * (v as usize) + HEAD];
         self.put_links(x, cost, head);
         if v == self.places.end {
-            self.put(Entry::Finished(cost), x, NOTHING);
+            self.put(Entry::Finished(cost), x, None);
         }
     }
 
@@ -173,7 +174,7 @@ impl<'a> Search<'a> {
         requires { (words_of self.old ≡ none_w self.old.part.now) × Begins self.old.places self.old.part.now × Runs self.old.places self.old.n self.old.most self.old.part.now }
         ensures { Goes self.old self.new (after_w self.old.places self.old.n self.old.most allowed (begun_w self.old.places self.old.part.now)) }
     {
-        self.put(Entry::Half(0, 0.0), 0, NOTHING);
+        self.put(Entry::Half(0, 0.0), 0, None);
         for turn in 0..allowed {
             if self.counts.heap == 0 || self.n <= self.counts.listed {
                 return;

@@ -63,6 +63,7 @@ pub fn pair_first(key: u64) -> u64
     key / LINKS % LINKS
 }
 
+// The same digits as of key_link, of another key: the names tell which.
 pub fn pair_second(key: u64) -> u64
     ensures { (result ≡ pair_second key) × (result < link_limit) }
 {

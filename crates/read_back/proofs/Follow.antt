@@ -7,6 +7,7 @@ use mathlib.Core.List.{List, [], ◌∷◌, ◌++◌}
 use Prim.Native.Nat.{ℕ, zero, suc, ◌+◌, ◌*◌, ◌≤◌, ◌<◌}
 use native.Mathlib.Decide.{ℕ_discrete}
 use native.Mathlib.Omega.{arith}
+use Rattle.std.specs.Prelude.{Option as Maybe, Some, None}
 use lib.Dec.{eqb, ltb}
 use lib.ListN.{length}
 use lib.Ieee.{binary32, of_bits}
@@ -28,10 +29,10 @@ use Rattle.machine.specs.Readings.{link, final, final_weight, node_or, IsRun, ru
 use Rattle.machine.proofs.Runs.{run_ends}
 use Rattle.machine.proofs.SheetFields.{SheetFields, sheet-fields, next-first, first-in, marked-final, unmarked-final}
 use Rattle.read_back.specs.declared.walk.Walk.{Walk}
-use Rattle.read_back.specs.Way.{told_before}
+use Rattle.read_back.specs.Way.{told_before, number_told}
 use Rattle.read_back.specs.Follows.{leaves, goes_by, follows, is_ending, ends_at, ends_from, reads_to}
 use Rattle.read_back.specs.Walks.{goes_to, ended_by, outcome}
-use Rattle.read_back.proofs.Ways.{told_none, told-some}
+use Rattle.read_back.proofs.Ways.{number-none, number-some, told_none, told-some}
 
 -- ---- the test
 module _ (m : Machine) where
@@ -125,31 +126,25 @@ module _ (m : Machine) where
       ∙ ap (λ (b : Bool). ended_by count (number ∷ way) (ends_at m (cond b (follows m (link m number).next way) none))) e
 
   -- where a walk has come to, and by what is left
-  pub goes-none : (u count l : ℕ) → l ≡ no_start → goes_to m u count l ≡ some (count, u)
-  goes-none u count l e = ap (λ (b : Bool). cond b (some (count, u)) (cond (goes_by m u l) (some (count + 1, (link m l).next)) none)) (eq-eqb l no_start e)
+  pub goes-off : (u count l : ℕ) → goes_by m u l ≡ false → goes_to m u count (Some l) ≡ none
+  goes-off u count l e = ap (λ (b : Bool). cond b (some (count + 1, (link m l).next)) none) e
 
-  goes-by : (u count l : ℕ) → (l ≡ no_start → ⊥) → goes_to m u count l ≡ cond (goes_by m u l) (some (count + 1, (link m l).next)) none
-  goes-by u count l d = ap (λ (b : Bool). cond b (some (count, u)) (cond (goes_by m u l) (some (count + 1, (link m l).next)) none)) (ne_eqb l no_start d)
-
-  pub goes-off : (u count l : ℕ) → (l ≡ no_start → ⊥) → goes_by m u l ≡ false → goes_to m u count l ≡ none
-  goes-off u count l d e = goes-by u count l d ∙ ap (λ (b : Bool). cond b (some (count + 1, (link m l).next)) none) e
-
-  pub goes-on : (u count l : ℕ) → (l ≡ no_start → ⊥) → goes_by m u l ≡ true → goes_to m u count l ≡ some (count + 1, (link m l).next)
-  goes-on u count l d e = goes-by u count l d ∙ ap (λ (b : Bool). cond b (some (count + 1, (link m l).next)) none) e
+  pub goes-on : (u count l : ℕ) → goes_by m u l ≡ true → goes_to m u count (Some l) ≡ some (count + 1, (link m l).next)
+  goes-on u count l e = ap (λ (b : Bool). cond b (some (count + 1, (link m l).next)) none) e
 
   abbrev pub outcome_from : Option (ℕ × ℕ) → Option (List ℕ) → Option (ℕ × ℕ)
   outcome_from none o = none
   outcome_from (some x) o = outcome m x.1 x.0 o
 
-  pub outcome-goes : (u count l : ℕ) (o : Option (List ℕ)) → outcome m u count (told_before l o) ≡ outcome_from (goes_to m u count l) o
+  pub outcome-goes : (u count l : ℕ) (o : Option (List ℕ)) → outcome m u count (told_before l o) ≡ outcome_from (goes_to m u count (number_told l)) o
   outcome-goes u count l o = go (ℕ_discrete l no_start)
     where
-      by : (l ≡ no_start → ⊥) → (b : Bool) → goes_by m u l ≡ b → outcome m u count (told_before l o) ≡ outcome_from (goes_to m u count l) o
-      by d true e = outcome-on u count l o d e ∙ ap (λ (p : Option (ℕ × ℕ)). outcome_from p o) (sym (goes-on u count l d e))
-      by d false e = outcome-off u count l o d e ∙ ap (λ (p : Option (ℕ × ℕ)). outcome_from p o) (sym (goes-off u count l d e))
+      by : (l ≡ no_start → ⊥) → (b : Bool) → goes_by m u l ≡ b → outcome m u count (told_before l o) ≡ outcome_from (goes_to m u count (number_told l)) o
+      by d true e = outcome-on u count l o d e ∙ ap (λ (p : Option (ℕ × ℕ)). outcome_from p o) (sym (ap (goes_to m u count) (number-some l d) ∙ goes-on u count l e))
+      by d false e = outcome-off u count l o d e ∙ ap (λ (p : Option (ℕ × ℕ)). outcome_from p o) (sym (ap (goes_to m u count) (number-some l d) ∙ goes-off u count l e))
 
-      go : Dec (l ≡ no_start) → outcome m u count (told_before l o) ≡ outcome_from (goes_to m u count l) o
-      go (yes e) = outcome-none u count l o e ∙ ap (λ (p : Option (ℕ × ℕ)). outcome_from p o) (sym (goes-none u count l e))
+      go : Dec (l ≡ no_start) → outcome m u count (told_before l o) ≡ outcome_from (goes_to m u count (number_told l)) o
+      go (yes e) = outcome-none u count l o e ∙ ap (λ (p : Option (ℕ × ℕ)). outcome_from p o) (sym (ap (goes_to m u count) (number-none l e)))
       go (no d) = by d (goes_by m u l) refl
 
   -- at the last state

@@ -5,6 +5,7 @@ use mathlib.Core.Option.{Option, none, some}
 use mathlib.Core.List.{List, [], ◌∷◌, ◌++◌}
 use Prim.Native.Nat.{ℕ, zero, suc, ◌+◌, ◌≤◌, ◌<◌}
 use native.Mathlib.Omega.{arith}
+use Rattle.std.specs.Prelude.{Option as Maybe, Some, None}
 use lib.Dec.{eqb, leb, ltb}
 use lib.ListN.{length, set, take, drop}
 use lib.Seq.{sets, sets-eq, take-append_seam}
@@ -12,22 +13,21 @@ use borrow.Author.Tests.{le-leb, lt-leb, lt-ltb, le-ltb, eq-eqb, ne_eqb, ltb-tru
 use Rattle.sheet.specs.Sheet.{no_start}
 use Rattle.sheet.proofs.Apart.{both}
 use Rattle.sheet.proofs.Bytes.{sets-append}
-use Rattle.read_back.specs.Way.{next_at, told, told_before, number_at, only_link, falls, way_from}
+use Rattle.read_back.specs.Way.{next_at, number_told, told_by, told, told_before, number_at, only_link, falls, way_from}
 use Rattle.read_back.specs.Answers.{run_in}
 
 -- ---- a number that is told
+pub number-none : (number : ℕ) → number ≡ no_start → number_told number ≡ None
+number-none number e = ap (λ (b : Bool). cond b None (Some number)) (eq-eqb number no_start e)
+
+pub number-some : (number : ℕ) → (number ≡ no_start → ⊥) → number_told number ≡ Some number
+number-some number e = ap (λ (b : Bool). cond b None (Some number)) (ne_eqb number no_start e)
+
 pub told_none : (number : ℕ) → number ≡ no_start → told number ≡ []
-told_none number e = ap (λ (b : Bool). cond b [] (number ∷ [])) (eq-eqb number no_start e)
+told_none number e = ap told_by (number-none number e)
 
 pub told-some : (number : ℕ) → (number ≡ no_start → ⊥) → told number ≡ number ∷ []
-told-some number e = ap (λ (b : Bool). cond b [] (number ∷ [])) (ne_eqb number no_start e)
-
--- what is left by a number that is none, and by one
-pub put-none : (number count : ℕ) (run : List ℕ) → number ≡ no_start → (count ≡ count + length (told number)) × (run ≡ sets run count (told number))
-put-none number count run e = let z = told_none number e in (omega (arith, ap length z), sym (ap (sets run count) z))
-
-pub put_some : (number count : ℕ) (run : List ℕ) → (number ≡ no_start → ⊥) → (count + 1 ≡ count + length (told number)) × (set run count number ≡ sets run count (told number))
-put_some number count run e = let z = told-some number e in (omega (arith, ap length z), sym (ap (sets run count) z))
+told-some number e = ap told_by (number-some number e)
 
 -- ---- stores
 -- numbers stored behind others

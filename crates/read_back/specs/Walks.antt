@@ -1,8 +1,7 @@
 -- Mirrors the code: a walk over the links of a sheet, link by link. A reader need not believe it: laws tie it to Follows (proofs/Follow).
 -- Definitions only.
-use Rattle.std.specs.Prelude.{◌≡◌, true, false, cond, List, ℕ, ◌+◌, eqb, length, Option as Maybe, Some, None}
+use Rattle.std.specs.Prelude.{◌≡◌, true, false, cond, List, ℕ, ◌+◌, length, Option as Maybe, Some, None}
 use Rattle.std.proofs.Math.Option.{Option, none, some}
-use Rattle.sheet.specs.Sheet.{no_start}
 use Rattle.sheet.specs.Machine.{Machine, machine}
 use Rattle.machine.specs.Readings.{link, IsReading, reading_of}
 use Rattle.read_back.specs.declared.walk.Walk.{Walk}
@@ -11,9 +10,10 @@ use Rattle.read_back.specs.Way.{last_state, only_link, falls, way_from, way_of}
 use Rattle.read_back.specs.Follows.{goes_by, follows, ends_at, if_reading}
 use Rattle.read_back.specs.Answers.{run_in}
 
--- the place that a walk comes to by a number that a result tells, as how many links it has taken and the node: where the number is none it stays, else it goes on by that link
-abbrev pub goes_to : Machine → ℕ → ℕ → ℕ → Option (ℕ × ℕ)
-goes_to m u count l = cond (eqb l no_start) (some (count, u)) (cond (goes_by m u l) (some (count + 1, (link m l).next)) none)
+-- the place that a walk comes to by what a result tells, as how many links it has taken and the node: where that is no number it stays, else it goes on by that link
+abbrev pub goes_to : Machine → ℕ → ℕ → Maybe ℕ → Option (ℕ × ℕ)
+goes_to m u count None = some (count, u)
+goes_to m u count (Some l) = cond (goes_by m u l) (some (count + 1, (link m l).next)) none
 
 -- the links of a reading from here on, with those before them, and the node where it ends
 abbrev pub ended_by : ℕ → List ℕ → Option ℕ → Option (ℕ × ℕ)
@@ -42,6 +42,11 @@ FallsBy l q (Some only) = (falls l.res.now l.nodes l.links l.before (last_state 
 -- the way of reading k
 abbrev pub way_to : HeldList → ℕ → Option (List ℕ)
 way_to l k = way_of l.res.now l.nodes l.links l.n k
+
+-- the state where it begins, where there is one
+abbrev pub BeginsBy : HeldList → ℕ → Maybe ℕ → Type 0
+BeginsBy l k None = way_to l k ≡ none
+BeginsBy l k (Some q) = way_in l q ≡ way_to l k
 
 -- a way that is a reading, as a walk counted it and where it came to
 pub record Follows (m : Machine) (way : Option (List ℕ)) (w : Walk) : Type 0 where

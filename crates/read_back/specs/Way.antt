@@ -1,5 +1,5 @@
 -- What the bytes of a result say of a list, whatever they are: how many readings it holds, and the input links along the way of each. Definitions only.
-use Rattle.std.specs.Prelude.{Bool, ◌&&◌, List, [], ◌∷◌, ◌++◌, eqb, leb, ltb, length}
+use Rattle.std.specs.Prelude.{Bool, ◌&&◌, List, [], ◌∷◌, ◌++◌, eqb, leb, ltb, length, Option as Maybe, Some, None}
 use Rattle.std.proofs.Math.Bool.{cond}
 use Rattle.std.proofs.Math.Option.{Option, none, some}
 use Prim.Native.Nat.{ℕ, zero, suc, ◌+◌, ◌-◌, ◌*◌}
@@ -10,9 +10,17 @@ use Rattle.sheet.specs.Sheet.{no_start, trailer_length}
 abbrev pub next_at : List ℕ → ℕ → ℕ
 next_at result l = word result (16 * l + 12)
 
--- a number, where it is one
+-- the number that a word tells, where it is one
+abbrev pub number_told : ℕ → Maybe ℕ
+number_told word = cond (eqb word no_start) None (Some word)
+
+-- it as a list
+abbrev pub told_by : Maybe ℕ → List ℕ
+told_by None = []
+told_by (Some number) = number ∷ []
+
 abbrev pub told : ℕ → List ℕ
-told number = cond (eqb number no_start) [] (number ∷ [])
+told word = told_by (number_told word)
 
 -- a number before those of a way
 abbrev pub told_before : ℕ → Option (List ℕ) → Option (List ℕ)

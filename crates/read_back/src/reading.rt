@@ -11,7 +11,7 @@ use crate::walk::Walk;
 use crate::way::HeldList;
 use machine::climbing::Machine;
 use sheet::refusal::Refusal;
-use slots::NOTHING;
+use sheet::tr::NO_START;
 
 // How many links the reading has, its cost in units and the node where it ends.
 #[derive(Clone, Copy)]
@@ -26,7 +26,7 @@ fn walked<'a>(machine: &Machine<'a>, list: &HeldList, k: u32) -> Option<Walk<'a>
     ensures { Walked machine.now.sheet.bytes.now (way_to list.now k) result }
 {
     let start = machine.sheet.start;
-    if start == NOTHING {
+    if start == NO_START {
         return None;
     }
     list.walk(&Walk::begin(machine, start), k)

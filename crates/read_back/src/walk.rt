@@ -4,7 +4,6 @@ ghost use Rattle.sheet.specs.Records.{first_link};
 
 use machine::climbing::Machine;
 use sheet::tr::BARRED;
-use slots::NOTHING;
 
 // The node that it has come to, the number of that node's first link, and how many links it has taken.
 #[derive(Clone, Copy)]
@@ -57,14 +56,14 @@ impl<'a> Walk<'a> {
         }
     }
 
-    // The walk after a number that a result tells: it stays where that is none, and else goes on by the
+    // The walk after what a result tells: it stays where that is no number, and else goes on by the
     // link, unless it leaves another node or is barred.
-    pub fn goes_on(&self, l: u32) -> Option<Walk<'a>>
-        ensures { Comes self.now.machine.sheet.bytes.now (goes_to (machine_for self.now.machine.sheet.bytes.now) self.now.at self.now.count l) result }
+    pub fn goes_on(&self, told: Option<u32>) -> Option<Walk<'a>>
+        ensures { Comes self.now.machine.sheet.bytes.now (goes_to (machine_for self.now.machine.sheet.bytes.now) self.now.at self.now.count told) result }
     {
-        if l == NOTHING {
+        let Some(l) = told else {
             return Some(*self);
-        }
+        };
         let sheet = &self.machine.sheet;
         if l < self.first {
             return None;

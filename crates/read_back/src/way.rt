@@ -1,7 +1,7 @@
 // The list that a result area holds: how many readings, and the way of each through its machine.
 ghost use Rattle.std.specs.Prelude.{◌≡◌, ◌+◌, ◌≤◌, length};
 ghost use Rattle.std.proofs.lemmas.List.Edits.{sets};
-ghost use Rattle.read_back.specs.Way.{answer_bytes, links_before, told};
+ghost use Rattle.read_back.specs.Way.{answer_bytes, links_before, told_by};
 
 use crate::walk::Walk;
 use sheet::refusal::Refusal;
@@ -28,9 +28,9 @@ impl<'a> HeldList<'a> {
     ghost use Rattle.sheet.specs.Refusals.{number_in};
     ghost use Rattle.std.proofs.Math.Option.{some};
     ghost use Rattle.sheet.specs.Machine.{machine as machine_for};
-    ghost use Rattle.read_back.specs.Way.{next_at, number_at, count_in, last_state, first_state};
+    ghost use Rattle.read_back.specs.Way.{next_at, number_at, number_told, count_in, last_state};
     ghost use Rattle.read_back.specs.Answers.{count_number, run_in};
-    ghost use Rattle.read_back.specs.Walks.{outcome, Comes, FallsBy, way_to};
+    ghost use Rattle.read_back.specs.Walks.{outcome, BeginsBy, Comes, FallsBy, way_to};
 
     // 7, then 30 where there are too few bytes, or more readings than were asked for.
     pub fn new(res: &'a [u8], n: u32, nodes: u32, links: u32) -> Result<HeldList<'a>, Refusal>
@@ -78,20 +78,21 @@ impl<'a> HeldList<'a> {
         if self.n == 1 { 0 } else { 1 }
     }
 
-    // The state where the way of reading k begins.
-    pub fn first_state(&self, k: u32) -> u32
-        ensures { result ≡ first_state self.now.res.now self.now.nodes self.now.links self.now.n k }
+    // The state where the way of reading k begins, where there is one.
+    fn first_state(&self, k: u32) -> Option<u32>
+        ensures { BeginsBy self.now k result }
     {
         if self.n == 1 {
-            return word(
+            let start = word(
                 self.res,
                 16 * (self.links as usize) + 12 * (self.nodes as usize) + 16,
             );
+            return Some(start);
         }
-        if k < self.links {
-            return self.next(k as usize);
+        if self.links <= k {
+            return None;
         }
-        0
+        Some(self.next(k as usize))
     }
 
     // The state that link l leads to.
@@ -102,15 +103,20 @@ impl<'a> HeldList<'a> {
         word(self.res, 16 * l + 12)
     }
 
-    // The number of the input link that link l repeats.
-    fn number(&self, l: usize) -> u32
+    // The number of the input link that link l repeats, where it repeats one.
+    fn number(&self, l: usize) -> Option<u32>
         requires { l < self.now.links }
-        ensures { result ≡ number_at self.now.res.now self.now.nodes self.now.links l }
+        ensures { result ≡ number_told (number_at self.now.res.now self.now.nodes self.now.links l) }
     {
-        word(
+        let number = word(
             self.res,
             16 * (self.links as usize) + 12 * (self.nodes as usize) + TRAILER + 4 * l,
-        )
+        );
+        if number == NOTHING {
+            None
+        } else {
+            Some(number)
+        }
     }
 
     // The only link of a state above the last.
@@ -146,7 +152,8 @@ impl<'a> HeldList<'a> {
     {
         let last = self.last();
         let mut w = *begun;
-        let mut q = self.first_state(k);
+        let mut q = self.first_state(k)?;
+        // A while: it goes by the states of the way, not by a number.
         while last < q {
             let only = self.falls_by(q)?;
             w = w.goes_on(self.number(only))?;
@@ -166,7 +173,10 @@ impl<'a> HeldList<'a> {
     {
         let last = self.last();
         let mut count = 0usize;
-        let mut q = self.first_state(k);
+        let Some(mut q) = self.first_state(k) else {
+            return;
+        };
+        // A while: it goes by the states of the way, not by a number.
         while last < q {
             let only = self.only_link(q);
             count = put_number(self.number(only), count, run);
@@ -176,13 +186,13 @@ impl<'a> HeldList<'a> {
 }
 
 // Stores a number behind so many, where it is one, and answers how many there are then.
-fn put_number(number: u32, count: usize, run: &mut [u32]) -> usize
-    requires { count + length (told number) ≤ length run.old }
-    ensures { (result ≡ count + length (told number)) × (run.new ≡ sets run.old count (told number)) }
+fn put_number(told: Option<u32>, count: usize, run: &mut [u32]) -> usize
+    requires { count + length (told_by told) ≤ length run.old }
+    ensures { (result ≡ count + length (told_by told)) × (run.new ≡ sets run.old count (told_by told)) }
 {
-    if number == NOTHING {
+    let Some(number) = told else {
         return count;
-    }
+    };
     run[count] = number;
     count + 1
 }

@@ -21,6 +21,7 @@ const CELLS: usize = 8 * (NODE_LIMIT + 2);
 const SHEET: usize = 16 * (LINK_LIMIT + 4);
 
 // Whether the call answered this number, and where it is 0 so many bytes of distances.
+// Apart in each program: crate stored_cases knows no refusals.
 fn answered(answer: Result<u32, Refusal>, said: usize, bytes: usize) -> bool {
     match answer {
         Ok(n) => said == 0 && bytes == WRITTEN * (n as usize),
@@ -47,14 +48,12 @@ fn does(line: Line<'_>, sheet: &[u8]) -> bool {
     let mut result = [RESULT_MARK; CELLS];
     let mut bytes = [0u8; CELLS];
     let bytes = line.bytes(6, &mut bytes);
-    match call(line, sheet, &mut work, &mut result) {
-        Some(answer) => {
-            answered(answer, line.number(0), bytes.len())
-                && result_left(&result, bytes)
-                && work_left(&work, line.number(3))
-        }
-        None => false,
-    }
+    call(line, sheet, &mut work, &mut result).is_some_and(|answer| answered(
+        answer,
+        line.number(0),
+        bytes.len(),
+    )) && result_left(&result, bytes)
+        && work_left(&work, line.number(3))
 }
 
 // Whether the case of a line holds.

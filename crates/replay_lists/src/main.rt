@@ -40,6 +40,7 @@ fn length_of(nodes: u32, links: u32) -> usize
 
 // Whether the call answered what the line says: 0 with the counts, or its number alone, and so many
 // bytes.
+// Apart in each program: crate stored_cases knows no refusals.
 fn answered(answer: Result<Listed, Refusal>, line: Line<'_>, bytes: usize) -> bool {
     match answer {
         Ok(list) => {

@@ -22,6 +22,7 @@ pub enum Answer {
     Done,
     Node(u32),
     None,
+    // The number as the case tells it: a case may tell one that no refusal has.
     Refused(u32),
     Test(bool),
 }
@@ -72,10 +73,7 @@ impl From<()> for Answer {
 
 impl From<Option<u32>> for Answer {
     fn from(node: Option<u32>) -> Answer {
-        match node {
-            Some(v) => Answer::Node(v),
-            None => Answer::None,
-        }
+        node.map_or(Answer::None, |v| Answer::Node(v))
     }
 }
 
@@ -125,10 +123,6 @@ impl Made {
             Call::Clear => told(q.clear()),
             Call::IsValid => (Answer::Test(q.is_valid()), q),
         };
-        if answer == self.answer {
-            Some(queue)
-        } else {
-            None
-        }
+        (answer == self.answer).then_some(queue)
     }
 }

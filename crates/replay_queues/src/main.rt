@@ -39,10 +39,7 @@ fn holds(line: Line<'_>) -> bool {
     if before.len() < 12 || after.len() < 12 || made.len() < 16 {
         return false;
     }
-    match left(record_of(before), made) {
-        Some(queue) => same(&queue, &record_of(after)),
-        None => false,
-    }
+    left(record_of(before), made).is_some_and(|queue| same(&queue, &record_of(after)))
 }
 
 fn main(rt: HostRuntime) -> io::Result<()> {

@@ -20,7 +20,7 @@ pub fn record_of(words: &[u8]) -> Queue
     let has_back = word(words, 4) != 0;
     Queue {
         front: word(words, 0),
-        back: if has_back { Some(word(words, 8)) } else { None },
+        back: has_back.then_some(word(words, 8)),
         flags,
     }
 }

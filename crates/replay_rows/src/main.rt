@@ -14,6 +14,7 @@ use stored_cases::lines::Line;
 use stored_cases::replay::replay;
 
 // Whether a call answered this length, with the number 0, or its number alone.
+// Apart in each program: crate stored_cases knows no refusals.
 fn answered(answer: Result<usize, Refusal>, said: usize, length: usize) -> bool {
     match answer {
         Ok(n) => said == 0 && n == length,

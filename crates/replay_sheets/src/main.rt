@@ -22,7 +22,7 @@ fn answer(sheet: &[u8]) -> u32 {
     }
 }
 
-// Whether a link has the four fields that stand at an index.
+// Whether a link has the four fields that stand at an index. By bits and not by ==: a NaN weight equals nothing.
 fn same_fields(link: Link, links: &[u8], at: usize) -> bool
     requires { at + 16 ≤ length links.now }
     ensures { result ≡ true → SameFields link links.now at }

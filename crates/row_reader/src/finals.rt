@@ -116,6 +116,7 @@ pub fn finals_once(text: &[u8]) -> bool
     ensures { result ≡ once_in (rows_left text.now 0) }
 {
     let mut first = 0u64;
+    // A while: each pass tells where the next begins.
     while first < NODES {
         let Some(next) = pass_from(text, first) else {
             return false;

@@ -10,6 +10,7 @@ use crate::values::Weight;
 // What rows say: whether their weights pass, the highest node, and how many are links.
 #[derive(Clone, Copy, Debug, PartialEq, Eq)]
 pub struct Survey {
+    // A flag, not a Result: test 4 comes after 8 and 1, which later rows may still break.
     pub passing: bool,
     pub highest: u32,
     pub links: usize,
@@ -70,6 +71,7 @@ pub fn start_of(text: &[u8]) -> u32
             Row::Link(link) => link.source,
             Row::Final { node, .. } => node,
         },
+        // 0 is never seen: callers have surveyed the text.
         None => 0,
     }
 }

@@ -2,7 +2,7 @@
 use Rattle.std.specs.Prelude.{ℕ, Bool, true, false, cond, eqb, Result, Ok, Err}
 use Rattle.sheet.specs.declared.refusal.Refusal.{Refusal}
 
--- the number that documents 01 and 02 give it
+-- its number: that of documents 01 and 02, or our own, 30 and 31
 abbrev pub number_of : Refusal → ℕ
 number_of Refusal.Layout = 1
 number_of Refusal.Start = 2

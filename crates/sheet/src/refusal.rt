@@ -1,4 +1,4 @@
-// The refusals, each with its condition; documents 01 and 02 give the numbers.
+// The refusals, each with its condition. Documents 01 and 02 give the numbers; 30 and 31 are our own.
 ghost use Rattle.std.specs.Prelude.{◌≡◌};
 
 use std::error::Error;

@@ -11,7 +11,8 @@ use crate::tr::{BARRED, NO_START};
 use tropical_weight::shifts::GridShifts;
 
 // What the nodes so far pass: the marks and the weights of absent finals (test 1), the links that
-// they count (test 1), and the final weights (test 4).
+// they count (test 1), and the final weights (test 4). Flags and no Result: each test is over the whole
+// sheet, and an earlier one may still fail at a later record.
 #[derive(Clone, Copy)]
 pub struct NodeTests {
     pub marked: bool,

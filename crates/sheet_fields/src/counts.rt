@@ -20,7 +20,7 @@ pub fn counts(sheet: &[u8]) -> Result<SheetCounts, Refusal>
     ensures { result ≡ counts_of sheet.now }
 {
     let read = Sheet::new(sheet)?;
-    let finals = count_finals(&read);
+    let finals = count_finals(read.bytes, read.links, read.nodes);
     Ok(SheetCounts {
         nodes: read.nodes,
         links: read.links,

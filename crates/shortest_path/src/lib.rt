@@ -24,7 +24,7 @@ fn lists_of(machine: &Machine, n: u32, work: &mut [u32], res: &mut [u8]) -> Resu
         return Err(Refusal::Count);
     }
     let sheet = machine.sheet;
-    let finals = count_finals(&sheet);
+    let finals = count_finals(sheet.bytes, sheet.links, sheet.nodes);
     let needed = list_answer::slots_needed(sheet.nodes, sheet.links, finals, n);
     if work.len() / SLOT < (needed as usize) {
         return Err(Refusal::Work);

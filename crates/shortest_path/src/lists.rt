@@ -48,7 +48,8 @@ pub fn list_many(
     };
     let c = n_best::n_shortest_path(part, p, n, sheet.links + finals, allowed);
     trim::write_list(
-        &sheet,
+        sheet.bytes,
+        sheet.links,
         part,
         c.entries as usize,
         c.listed as usize,

@@ -7,7 +7,8 @@ ghost use Rattle.slots.specs.Slots.{cleared};
 // The words of a slot.
 pub const SLOT: usize = 8;
 
-// Where there is no node, no link or no entry.
+// Where there is no node, no link or no entry: a number and no Option, since it stands in words of areas
+// that are lent from C.
 pub const NOTHING: u32 = 0xffff_ffff;
 
 // Leaves the first slots zero, so that nothing of a run remains.

@@ -71,16 +71,14 @@ fn put_one(out: &mut [u8], n: usize, value: u8) -> usize
 }
 
 // Raises the last word of each part of so many bytes, from an index up to another: its low half is one
-// higher than in the part before. The steps are parts, so that no `for` counts them.
+// higher than in the part before.
 fn raise_each(out: &mut [u8], from: usize, to: usize, back: usize)
     requires { (4 ≤ back) × (back ≤ from) × (from ≤ to) × (to ≤ length out.old) }
 {
-    let mut at = from;
-    while back <= to - at {
-        let place = at + back - 4;
-        let before = u16::from_le_bytes([out[place - back], out[place - back + 1]]);
-        out[place..place + 2].copy_from_slice(&before.wrapping_add(1).to_le_bytes());
-        at += back;
+    let mut before = [out[from - 4], out[from - 3]];
+    for part in out[from..to].chunks_exact_mut(back) {
+        before = u16::from_le_bytes(before).wrapping_add(1).to_le_bytes();
+        part[back - 4..back - 2].copy_from_slice(&before);
     }
 }
 
@@ -118,6 +116,7 @@ pub fn bytes_of(text: &[u8], out: &mut [u8]) -> usize
 {
     let mut n = 0usize;
     let mut rest = text;
+    // A while let: each part tells itself where the next begins.
     while let Some(part) = Part::of(rest) {
         n = part.put(out, n);
         let Some(after) = rest.get(part.size()..) else {

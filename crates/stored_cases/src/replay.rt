@@ -24,6 +24,7 @@ fn replay_text<P: Print, F: Fn(Line<'_>) -> bool>(rt: &P, text: &[u8], holds: F)
 {
     let mut told = Tally::new();
     let mut rest = text;
+    // A while: a `for` over `split_inclusive` in a generic function is refused by today's check.
     while !rest.is_empty() {
         let (line, after) = split_line(rest);
         let held = holds(Line { text: line });

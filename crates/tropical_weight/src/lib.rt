@@ -53,7 +53,7 @@ pub fn one() -> f32
     0.0
 }
 
-// The lesser of the two.
+// The lesser of the two. Not f32::min: where one is a NaN that answers the other.
 pub fn plus(a: f32, b: f32) -> f32
     ensures { Computes lesser ◌⊕◌ a b result }
 {
@@ -109,7 +109,7 @@ pub fn to_bits(value: f32) -> u32
     f32::to_bits(value)
 }
 
-// The value of a pattern that is no NaN's, without a test.
+// The value of a pattern that is no NaN's, without a test: the heap reads a rank so at each comparison.
 pub fn from_number_bits(bits: u32) -> f32
     requires { Number bits }
     ensures { result ≡ from_bits binary32 bits }
@@ -142,7 +142,7 @@ pub fn from_units(units: i32) -> f32
     (units as f32) * UNIT_WEIGHT
 }
 
-// The magnitude of a cost, which a u32 holds at every i32.
+// The magnitude of a cost, which a u32 holds at every i32: a public function, kept for its callers.
 pub fn magnitude(cost: i32) -> u32
     ensures { result ≡ unsigned_abs cost }
 {

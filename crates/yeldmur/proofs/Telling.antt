@@ -8,11 +8,12 @@ use Prim.Native.Nat.{ℕ, ◌/◌}
 use lib.Dec.{leb, ltb, eqb}
 use lib.ListN.{length}
 use borrow.Author.Tests.{ne_eqb}
-use Rattle.std.specs.Prelude.{Option, None, Some, Result, Ok, Err}
+use Rattle.std.specs.Prelude.{Option, None, Some, Result, Ok, Err, MatchResult, IsOkAnd}
 use Rattle.tropical_weight.specs.Limits.{list_limit}
 use Rattle.sheet.specs.declared.refusal.Refusal.{Refusal}
 use Rattle.sheet.specs.declared.refusal.Refusal.TheVariants as Refusal
 use Rattle.sheet.specs.Refusals.{number_of, answer, number_in}
+use Rattle.sheet.specs.Answers.{written}
 use Rattle.sheet.specs.Sheet.{Parts, records_fit, verdict, sheet_length, parts_of, read_number, write_number}
 use Rattle.sheet.proofs.Refusals.{Known, known, known-cond, number-told, number-positive, same-refusal, answer-ok, answer-err}
 use Rattle.sheet.proofs.AcceptedSheet.{verdict-known, read-known}
@@ -23,12 +24,13 @@ use Rattle.text_rows.specs.Rows.{Row, read_rows, weights_pass}
 use Rattle.text_rows.specs.Convert.{fields_hold, length_of, number_by, rows_number}
 use Rattle.text_rows.specs.Written.{has_rows, text_of, text_number}
 use Rattle.text_rows.proofs.Measuring.{in_room}
-use Rattle.shortest_distance.specs.Outcome.{answer_of as distances_of, slots_needed as distance_slots, distance_number}
-use Rattle.shortest_path.specs.Outcome.{answer_of, slots_needed, tested_number, areas_number, list_number}
+use Rattle.list_answer.specs.declared.Listed.{Listed}
+use Rattle.shortest_distance.specs.Outcome.{answer_of as distances_of, slots_needed as distance_slots, distance_number, distance_answer}
+use Rattle.shortest_path.specs.Outcome.{answer_of, slots_needed, tested_number, areas_number, list_number, list_answer}
 use Rattle.read_back.specs.Way.{count_in, is_list}
 use Rattle.read_back.specs.Answers.{count_number, held_reading, room_number, held_number, reading_number}
 use Rattle.yeldmur.specs.Areas.{measured_number}
-use Rattle.yeldmur.specs.Told.{value_told}
+use Rattle.yeldmur.specs.Told.{value_told, listed_told}
 
 -- ---- each number is 0 or a refusal's
 room-known : (b : Bool) → Known (cond b 21 0)
@@ -103,6 +105,12 @@ number-first (Err r) old = refl
 pub value-number : (value k old : ℕ) {r s : ℕ} → Known k → (r, s) ≡ value_told (answer value k) old → r ≡ k
 value-number value k old n e = ap (λ (x : ℕ × ℕ). x.0) e ∙ number-first (answer value k) old ∙ number-told value k n
 
+-- a size as it is handed to C is the same number
+pub widened : (P : ℕ → ℕ → Type 0) (a b : Result ℕ Refusal) → MatchResult a (λ x. IsOkAnd b (P x)) (λ e. b ≡ Err e) → ((x y : ℕ) → P x y → y ≡ x) → b ≡ a
+widened P (Ok x) (Ok y) h f = ap Ok (f x y h)
+widened P (Ok x) (Err r) h f = absurd h
+widened P (Err r) b h f = h
+
 -- the number 0 tells of a value, and a refusal's of that refusal
 pub length-told : (a : Result ℕ Refusal) (old : ℕ) {r s : ℕ} → (r, s) ≡ value_told a old → r ≡ 0 → a ≡ Ok s
 length-told (Ok value) old e z = ap Ok (sym (ap (λ (x : ℕ × ℕ). x.1) e))
@@ -122,3 +130,31 @@ told-in-room k size old (inr (q, z)) e room =
     let positive = ne_eqb (number_of q) 0 (number-positive q) in
     ap (λ (j : ℕ). in_room j size room) z ∙ ap (λ (b : Bool). cond (not b) (number_of q) (cond (ltb room size) 21 0)) positive
     ∙ sym (ap (λ (b : Bool). cond b (cond (ltb room old) 21 0) (number_of q)) positive) ∙ sym (ap (λ (x : ℕ × ℕ). measured_number x.0 x.1 room) whole)
+
+-- ---- so the first number that each call tells is that of its definition, and no refusal has the number 0
+pub written-number : (p : Parts) (room old : ℕ) → (value_told (written p room) old).0 ≡ write_number p room
+written-number p room old = number-first (written p room) old ∙ number-told (sheet_length p) (write_number p room) (write-known p room)
+
+pub written-refused : (p : Parts) (room : ℕ) (r : Refusal) → Err r ≡ written p room → number_of r ≡ 0 → ⊥
+written-refused p room r e = number-positive r
+
+-- of rows, and of a sheet that has rows
+pub converted-number : (k : ℕ) → Known k → (size old : ℕ) → (value_told (answer size k) old).0 ≡ k
+converted-number k n size old = number-first (answer size k) old ∙ number-told size k n
+
+pub distances-number : (bytes : List ℕ) (words room old : ℕ) → (value_told (distance_answer bytes words room) old).0 ≡ distance_number bytes words room
+distances-number bytes words room old = number-first (distance_answer bytes words room) old ∙ number-told _ (distance_number bytes words room) (distance-known bytes words room)
+
+pub distances-refused : (bytes : List ℕ) (words room : ℕ) (r : Refusal) → Err r ≡ distance_answer bytes words room → number_of r ≡ 0 → ⊥
+distances-refused bytes words room r e = number-positive r
+
+listed-first : (a : Result Listed Refusal) (states links taken : ℕ) → (listed_told a states links taken).0 ≡ number_in a
+listed-first (Ok made) states links taken = refl
+listed-first (Err r) states links taken = refl
+
+pub listed-number : (bytes : List ℕ) (n words room states links taken : ℕ) → (listed_told (list_answer bytes n words room) states links taken).0 ≡ list_number bytes n words room
+listed-number bytes n words room states links taken =
+    listed-first (list_answer bytes n words room) states links taken ∙ number-told _ (list_number bytes n words room) (list-known bytes n words room)
+
+pub listed-refused : (bytes : List ℕ) (n words room : ℕ) (r : Refusal) → Err r ≡ list_answer bytes n words room → number_of r ≡ 0 → ⊥
+listed-refused bytes n words room r e = number-positive r

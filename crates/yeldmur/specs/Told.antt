@@ -16,7 +16,7 @@ use Rattle.read_back.specs.declared.reading.Told.{Told}
 use Rattle.read_back.specs.Promise.{IsAnswer}
 
 -- of a sheet written, of rows or a sheet converted, of distances, and of a result read: how many bytes, values or readings
-abbrev pub value_told : Result ℕ Refusal → ℕ → ℕ × ℕ
+abbrev pub value_told : {A : Type 0} → Result A Refusal → A → ℕ × A
 value_told (Ok value) old = (0, value)
 value_told (Err r) old = (number_of r, old)
 

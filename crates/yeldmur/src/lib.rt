@@ -46,27 +46,13 @@ pub extern "C" fn yeldmur_read_sheet(sheet: &[u8]) -> u32
     }
 }
 
-// What is answered, by numbers: 0 and how many bytes, or the number of the refusal.
-fn tell_size(answer: Result<usize, Refusal>, size: &mut u64) -> u32
-    ensures { (result, size.new) ≡ value_told answer size.old }
+// What is answered, by numbers: 0 and how many bytes, values or readings, or the number of the refusal.
+fn tell<T: Copy>(answer: Result<T, Refusal>, value: &mut T) -> u32
+    ensures { (result, value.new) ≡ value_told answer value.old }
 {
     match answer {
-        Ok(bytes) => {
-            *size = bytes as u64;
-            0
-        }
-        Err(refusal) => u32::from(refusal),
-    }
-}
-
-// Likewise, how many values or readings. Not one generic function: C is given a size of 64 bits, for
-// which there is no From of a usize.
-fn tell_count(answer: Result<u32, Refusal>, count: &mut u32) -> u32
-    ensures { (result, count.new) ≡ value_told answer count.old }
-{
-    match answer {
-        Ok(many) => {
-            *count = many;
+        Ok(told) => {
+            *value = told;
             0
         }
         Err(refusal) => u32::from(refusal),
@@ -88,7 +74,7 @@ pub extern "C" fn yeldmur_write_sheet(
     ensures read_back { result ≡ 0 → ReadBack (parts links.now nodes.now start) size.new res.new }
 {
     let written = sheet::write::write(links, nodes, start, res);
-    tell_size(written, size)
+    tell(written.map(|n| n as u64), size)
 }
 
 // Turns rows of text into a sheet: 8, then 1, 4 and 21.
@@ -100,7 +86,7 @@ pub extern "C" fn yeldmur_rows_to_sheet(text: &[u8], res: &mut [u8], size: &mut 
     ensures made { result ≡ 0 → Made text.now size.new res.new }
 {
     let answer = rows::to_sheet::rows_to_sheet(text, res);
-    tell_size(answer, size)
+    tell(answer.map(|n| n as u64), size)
 }
 
 // The bytes of the sheet of these rows: 8, then 1 and 4.
@@ -110,7 +96,7 @@ pub extern "C" fn yeldmur_rows_sheet_bytes(text: &[u8], bytes: &mut u64) -> u32
     ensures by_index { (room : ℕ) → rows_number text.now room ≡ measured_number result bytes.new room }
 {
     let answer = rows::to_sheet::sheet_bytes(text);
-    tell_size(answer, bytes)
+    tell(answer.map(|n| n as u64), bytes)
 }
 
 // Turns a sheet into rows of text, which turn into that very sheet: 1 to 4, 9 and 21.
@@ -123,7 +109,7 @@ pub extern "C" fn yeldmur_sheet_to_rows(sheet: &[u8], res: &mut [u8], size: &mut
     ensures no_text { result ≡ 9 → NoText sheet.now }
 {
     let answer = rows::to_rows::sheet_to_rows(sheet, res);
-    tell_size(answer, size)
+    tell(answer.map(|n| n as u64), size)
 }
 
 // The bytes of the rows of a sheet: 1 to 4 and 9.
@@ -133,7 +119,7 @@ pub extern "C" fn yeldmur_sheet_rows_bytes(sheet: &[u8], bytes: &mut u64) -> u32
     ensures by_index { (room : ℕ) → text_number sheet.now room ≡ measured_number result bytes.new room }
 {
     let answer = rows::to_rows::rows_bytes(sheet);
-    tell_size(answer, bytes)
+    tell(answer.map(|n| n as u64), bytes)
 }
 
 // The distances of a sheet's nodes, two words each, 1 and the weight bits, or 0 and 0 where a node is
@@ -152,7 +138,7 @@ pub extern "C" fn yeldmur_shortest_distance(
     ensures least { result ≡ 0 → Least (machine_for sheet.now) values.new res.new }
 {
     let made = shortest_distance::shortest_distance(sheet, work, res);
-    tell_count(made, values)
+    tell(made, values)
 }
 
 // The n cheapest readings of a sheet, n up to 64, as a machine and its words: the counts of its states
@@ -199,7 +185,7 @@ pub extern "C" fn yeldmur_readings(
     ensures count_told { CountTold res.now n states links result count.new }
 {
     let readings = read_back::count::count_readings(res, n, states, links);
-    tell_count(readings, count)
+    tell(readings, count)
 }
 
 // Reading k, from 0, of the list for n of a sheet, from its result: the numbers of its links, its cost in
@@ -283,8 +269,8 @@ pub extern "C" fn yeldmur_areas_of(
         return u32::from(Refusal::Count);
     }
     let marked = finals_of(nodes, finals);
-    *slots = list_answer::slots_needed(nodes, links, marked, n) as u64;
-    *bytes = bytes_enough(nodes, links, marked, n) as u64;
+    *slots = u64::from(list_answer::slots_needed(nodes, links, marked, n));
+    *bytes = u64::from(bytes_enough(nodes, links, marked, n));
     0
 }
 
@@ -300,7 +286,7 @@ pub extern "C" fn yeldmur_areas(sheet: &[u8], n: u32, slots: &mut u64, bytes: &m
 {
     match Machine::new(sheet) {
         Ok(m) => {
-            let finals = count_finals(&m.sheet);
+            let finals = count_finals(m.sheet.bytes, m.sheet.links, m.sheet.nodes);
             yeldmur_areas_of(m.sheet.nodes, m.sheet.links, finals, n, slots, bytes)
         }
         Err(refusal) => u32::from(refusal),

@@ -50,10 +50,10 @@ returns c =
     let a = c.args in
     let few = c.if-n-gt-LIST_LIMIT.false in
     let marked : c.finals_of-marked.result ≡ finals_of a.nodes a.finals = c.finals_of-marked.ensures.0 in
-    let slots = c.slots_needed.ensures ∙ ap (λ f. slots_of a.nodes a.links f a.n) marked in
-    let bytes = c.bytes_enough.ensures ∙ ap (λ f. bytes_of a.nodes a.links f a.n) marked in record {
+    let slots = c.from-2.ensures ∙ c.slots_needed.ensures ∙ ap (λ f. slots_of a.nodes a.links f a.n) marked in
+    let bytes = c.from-3.ensures ∙ c.bytes_enough.ensures ∙ ap (λ f. bytes_of a.nodes a.links f a.n) marked in record {
       value = sym (counts_zero a.nodes a.links a.n c.if-nodes-gt-NODE_LIMIT.false c.if-links-gt-LINK_LIMIT.false few);
       slots_after = slots;
       bytes_after = bytes;
-      serves = λ z. serves a.nodes a.links a.finals a.n c.slots_needed.result c.bytes_enough.result few slots bytes;
+      serves = λ z. serves a.nodes a.links a.finals a.n c.from-2.result c.from-3.result few slots bytes;
     }

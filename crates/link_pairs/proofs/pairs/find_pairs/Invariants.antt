@@ -3,5 +3,5 @@ use lib.ListN.{take}
 use Rattle.link_pairs.specs.Found.{found, Put}
 use Rattle.link_pairs.proofs.pairs.find_pairs.Given as goal
 
-abbrev pub invariant-loop-l : goal.invariant-loop-l
-invariant-loop-l l = Put 0 (found l.nodes l.seconds (take l.l l.firsts)) l.fn.pairs l.pairs (Some l.next)
+abbrev pub invariant-loop-key : goal.invariant-loop-key
+invariant-loop-key l = Put 0 (found l.nodes l.seconds (take l.key-index l.firsts)) l.fn.pairs l.pairs (Some l.next)

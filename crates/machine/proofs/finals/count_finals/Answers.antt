@@ -5,26 +5,28 @@ use borrow.Author.Rules.{rules}
 use Rattle.machine.specs.Finals.{final_count}
 use Rattle.machine.proofs.FinalCount.{count_none, count-plain, count-final}
 use Rattle.machine.proofs.finals.count_finals.Goals as goal
-use Rattle.machine.proofs.finals.count_finals.Goals.{then-mark-ne0, else-mark-ne0}
+use Rattle.machine.proofs.finals.count_finals.Goals.{then-word-ne0, else-word-ne0}
 
 pub loop-v-init : goal.loop-v-init
-loop-v-init c = let s = c.args.sheet.now in (search rules, sym (count_none s.bytes.now s.links))
+loop-v-init c = (search rules, sym (count_none c.args.sheet.now c.args.links))
 
 pub loop-v-preserved : goal.loop-v-preserved
 loop-v-preserved c =
     let turn = c.loop-v in
-    let s = c.args.sheet.now in
-    let read = c.mark.ensures.word in
+    let bytes = c.args.sheet.now in
+    let links = c.args.links in
+    let read = c.word.ensures in
     let next : turn.v + 1 ≡ suc turn.v = omega arith in (
-      elim c.if-mark-ne0.branch [ then-mark-ne0 w ↦ omega arith | else-mark-ne0 w ↦ omega arith ],
-      elim c.if-mark-ne0.branch [
-        | then-mark-ne0 w ↦ omega (arith, count-final s.bytes.now s.links turn.v (turn.v + 1) next (λ e. w.if-mark-ne0.true (read ∙ e)))
-        | else-mark-ne0 w ↦ omega (arith, count-plain s.bytes.now s.links turn.v (turn.v + 1) next (sym read ∙ w.if-mark-ne0.false))
+      elim c.if-word-ne0.branch [ then-word-ne0 w ↦ omega arith | else-word-ne0 w ↦ omega arith ],
+      elim c.if-word-ne0.branch [
+        | then-word-ne0 w ↦ omega (arith, count-final bytes links turn.v (turn.v + 1) next (λ e. w.if-word-ne0.true (read ∙ e)))
+        | else-word-ne0 w ↦ omega (arith, count-plain bytes links turn.v (turn.v + 1) next (sym read ∙ w.if-word-ne0.false))
       ],
     )
 
 pub returns : goal.returns
 returns c =
-    let s = c.args.sheet.now in
-    let all : c.loop-v.v ≡ s.nodes = omega arith in
-    (c.loop-v.invariant.1 ∙ ap (final_count s.bytes.now s.links) all, search rules)
+    let bytes = c.args.sheet.now in
+    let links = c.args.links in
+    let all : c.loop-v.v ≡ c.args.nodes = omega arith in
+    (c.loop-v.invariant.1 ∙ ap (final_count bytes links) all, search rules)

@@ -8,5 +8,5 @@ pub returns : goal.returns
 returns c =
     let self = c.args.self.now in
     let part = self.part.now in
-    stored_next c.args.res.now c.put_start_links.new.res c.put_entry_links.new.res 0 (start_words part self.listed) (link_words self.sheet.bytes.now self.sheet.links part (self.entries - 1)) (16 * self.listed)
+    stored_next c.args.res.now c.put_start_links.new.res c.put_entry_links.new.res 0 (start_words part self.listed) (link_words self.bytes.now self.links part (self.entries - 1)) (16 * self.listed)
     c.put_start_links.ensures c.put_entry_links.ensures (omega (arith, length-start part self.listed))

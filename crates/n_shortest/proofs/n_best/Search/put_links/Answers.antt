@@ -3,6 +3,8 @@ use native.Mathlib.Omega.{arith}
 use Prim.Native.Nat.{ℕ, ◌+◌, ◌-◌, ◌*◌, ◌≤◌, ◌<◌}
 use lib.Ieee.{binary32, add, of_bits}
 use lib.ListN.{length}
+use Rattle.std.specs.Prelude.{unwrap_or}
+use Rattle.slots.specs.Slots.{nothing}
 use Rattle.n_shortest.specs.declared.n_best.Places.{Places}
 use Rattle.n_shortest.specs.declared.entry.Entry.TheVariants.{Half}
 use Rattle.search_slots.specs.Slots.{next_word, weight_word, chain_word}
@@ -69,7 +71,7 @@ loop-turn-preserved c =
     let sum = c.times.ensures.same ∙ ap (add binary32 a.cost) link.ensures.weight in
     let from : link.result.next ≡ next_word w.part s.places.links turn.k = link.ensures.next ∙ ap (λ (p : Places). next_word w.part p.links turn.k) places in
     let cost : c.times.result ≡ add binary32 a.cost (of_bits binary32 (weight_word w.part s.places.links turn.k)) = sum ∙ ap (λ (p : Places). add binary32 a.cost (of_bits binary32 (weight_word w.part p.links turn.k))) places in
-    let input : c.input_of.result ≡ repeated s.places.inputs turn.k = c.input_of.ensures ∙ ap (λ (p : Places). repeated p.inputs turn.k) places in
+    let input : unwrap_or c.input_of.result nothing ≡ repeated s.places.inputs turn.k = c.input_of.ensures ∙ ap (λ (p : Places). repeated p.inputs turn.k) places in
     let whole : words_of c.put.new.self ≡ link_w s.places a.x a.cost turn.k w = c.put.ensures.words ∙ (λ i. put_w (places i).nodes (Half (from i) (cost i)) a.x (input i) w) in
     let on : link.result.chain ≡ chain_word w.part s.places.links turn.k = link.ensures.chain ∙ ap (λ (p : Places). chain_word w.part p.links turn.k) places in
     let kept = c.put.ensures.kept in

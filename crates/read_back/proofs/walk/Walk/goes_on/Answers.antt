@@ -3,16 +3,14 @@ use mathlib.Core.Option.{some}
 use Prim.Native.Nat.{ℕ, ◌+◌}
 use native.Mathlib.Omega.{arith}
 use Rattle.sheet.specs.Machine.{machine}
-use Rattle.read_back.proofs.Follow.{part_end, leaves-here, on-by, goes-here, goes_none, goes-barred, goes-none, goes-off, goes-on}
+use Rattle.read_back.specs.Walks.{goes_to}
+use Rattle.read_back.proofs.Follow.{part_end, leaves-here, on-by, goes-here, goes_none, goes-barred, goes-off, goes-on}
 use Rattle.read_back.proofs.walk.Walk.goes_on.Goals as goal
-
-pub returns-then-l-eq-NOTHING : goal.returns-then-l-eq-NOTHING
-returns-then-l-eq-NOTHING c = let w = c.args.self.now in (refl, goes-none (machine w.machine.sheet.bytes.now) w.at w.count c.args.l c.if-l-eq-NOTHING.true)
 
 pub returns-then-l-self : goal.returns-then-l-self
 returns-then-l-self c =
     let w = c.args.self.now in
-    goes-off (machine w.machine.sheet.bytes.now) w.at w.count c.args.l c.if-l-eq-NOTHING.false (goes_none w c.args.l (λ a b. omega (arith, a, c.if-l-self.true)))
+    ap (goes_to (machine w.machine.sheet.bytes.now) w.at w.count) c.in-Some.is ∙ goes-off (machine w.machine.sheet.bytes.now) w.at w.count c.in-Some.l (goes_none w c.in-Some.l (λ a b. omega (arith, a, c.if-l-self.true)))
 
 pub overflow_add-self : goal.overflow_add-self
 overflow_add-self c = omega (arith, part_end c.args.self.now, c.count.ensures.word)
@@ -20,37 +18,37 @@ overflow_add-self c = omega (arith, part_end c.args.self.now, c.count.ensures.wo
 pub returns-then-self-count : goal.returns-then-self-count
 returns-then-self-count c =
     let w = c.args.self.now in
-    goes-off (machine w.machine.sheet.bytes.now) w.at w.count c.args.l c.if-l-eq-NOTHING.false (goes_none w c.args.l (λ a b. omega (arith, b, c.count.ensures.word, c.if-self-count.true)))
+    ap (goes_to (machine w.machine.sheet.bytes.now) w.at w.count) c.in-Some.is ∙ goes-off (machine w.machine.sheet.bytes.now) w.at w.count c.in-Some.l (goes_none w c.in-Some.l (λ a b. omega (arith, b, c.count.ensures.word, c.if-self-count.true)))
 
 pub link_bits-requires : goal.link_bits-requires
 link_bits-requires c =
     let w = c.args.self.now in
-    (on-by w c.args.l (leaves-here w c.args.l c.if-l-self.false (omega (arith, c.count.ensures.word, c.if-self-count.false)))).link-in
+    (on-by w c.in-Some.l (leaves-here w c.in-Some.l c.if-l-self.false (omega (arith, c.count.ensures.word, c.if-self-count.false)))).link-in
 
 pub returns-then-link_bits-eq-BARRED : goal.returns-then-link_bits-eq-BARRED
 returns-then-link_bits-eq-BARRED c =
     let w = c.args.self.now in
-    goes-off (machine w.machine.sheet.bytes.now) w.at w.count c.args.l c.if-l-eq-NOTHING.false
-    (goes-barred w c.args.l c.if-l-self.false (omega (arith, c.count.ensures.word, c.if-self-count.false)) (sym c.link_bits.ensures.word ∙ c.if-link_bits-eq-BARRED.true))
+    ap (goes_to (machine w.machine.sheet.bytes.now) w.at w.count) c.in-Some.is ∙ goes-off (machine w.machine.sheet.bytes.now) w.at w.count c.in-Some.l
+    (goes-barred w c.in-Some.l c.if-l-self.false (omega (arith, c.count.ensures.word, c.if-self-count.false)) (sym c.link_bits.ensures.word ∙ c.if-link_bits-eq-BARRED.true))
 
 pub next-requires : goal.next-requires
 next-requires c =
     let w = c.args.self.now in
-    (on-by w c.args.l (leaves-here w c.args.l c.if-l-self.false (omega (arith, c.count.ensures.word, c.if-self-count.false)))).link-in
+    (on-by w c.in-Some.l (leaves-here w c.in-Some.l c.if-l-self.false (omega (arith, c.count.ensures.word, c.if-self-count.false)))).link-in
 
 pub moved-requires : goal.moved-requires
 moved-requires c =
     let w = c.args.self.now in
-    let on = on-by w c.args.l (leaves-here w c.args.l c.if-l-self.false (omega (arith, c.count.ensures.word, c.if-self-count.false))) in
+    let on = on-by w c.in-Some.l (leaves-here w c.in-Some.l c.if-l-self.false (omega (arith, c.count.ensures.word, c.if-self-count.false))) in
     let next = c.next.ensures.word ∙ on.next-is in
     (omega (arith, next, on.rises), omega (arith, next, on.inside), omega (arith, next, on.rises, w.few))
 
 pub returns : goal.returns
 returns c =
     let w = c.args.self.now in
-    let on = on-by w c.args.l (leaves-here w c.args.l c.if-l-self.false (omega (arith, c.count.ensures.word, c.if-self-count.false))) in (
+    let on = on-by w c.in-Some.l (leaves-here w c.in-Some.l c.if-l-self.false (omega (arith, c.count.ensures.word, c.if-self-count.false))) in (
       c.moved.ensures.0,
-      goes-on (machine w.machine.sheet.bytes.now) w.at w.count c.args.l c.if-l-eq-NOTHING.false
-          (goes-here w c.args.l c.if-l-self.false (omega (arith, c.count.ensures.word, c.if-self-count.false)) (λ z. c.if-link_bits-eq-BARRED.false (c.link_bits.ensures.word ∙ z)))
+      ap (goes_to (machine w.machine.sheet.bytes.now) w.at w.count) c.in-Some.is ∙ goes-on (machine w.machine.sheet.bytes.now) w.at w.count c.in-Some.l
+          (goes-here w c.in-Some.l c.if-l-self.false (omega (arith, c.count.ensures.word, c.if-self-count.false)) (λ z. c.if-link_bits-eq-BARRED.false (c.link_bits.ensures.word ∙ z)))
           ∙ ap (λ (v : ℕ). some (w.count + 1, v)) (sym (c.next.ensures.word ∙ on.next-is)) ∙ c.moved.ensures.1,
     )

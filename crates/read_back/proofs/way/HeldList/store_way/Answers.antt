@@ -3,18 +3,18 @@ use mathlib.Core.Option.{Option, some}
 use mathlib.Core.List.{List, ◌++◌}
 use Prim.Native.Nat.{ℕ}
 use native.Mathlib.Omega.{arith}
+use Rattle.std.specs.Prelude.{Option as Maybe, Some, None}
 use lib.ListN.{length, length-append}
 use lib.Seq.{sets}
-use Rattle.read_back.specs.Way.{next_at, told, number_at, only_link, last_state}
+use Rattle.read_back.specs.Way.{next_at, told_by, number_told, number_at, only_link, last_state}
 use Rattle.read_back.specs.Answers.{run_in}
 use Rattle.read_back.specs.Walks.{way_in}
 use Rattle.read_back.proofs.Ways.{way-goes, way-over, stored-all}
-use Rattle.read_back.proofs.Stepping.{way-begins}
 use Rattle.read_back.proofs.way.HeldList.store_way.Goals as goal
 
 pub loop-q-init : goal.loop-q-init
 loop-q-init c =
-    let e = way-begins c.args.self.now c.args.k c.first_state-q.result c.first_state-q.ensures in record {
+    let e = c.in-Some.ensures in record {
       long = refl;
       there = e ∙ c.requires.way ∙ ap (λ (o : Option (List ℕ)). some (run_in o)) (sym e);
       left = omega (arith, ap (λ (o : Option (List ℕ)). length (run_in o)) e);
@@ -31,10 +31,10 @@ pub put_number-count-requires : goal.put_number-count-requires
 put_number-count-requires c =
     let l = c.args.self.now in
     let g = way-goes l.res.now l.nodes l.links l.before (last_state l.n) c.loop-q.q _ (omega arith) c.loop-q.invariant.there in
-    let number = c.number.ensures ∙ ap (number_at l.res.now l.nodes l.links) c.only_link-only.ensures in
+    let number = c.number.ensures ∙ ap (λ (x : ℕ). number_told (number_at l.res.now l.nodes l.links x)) c.only_link-only.ensures in
     let rest = run_in (way_in l (next_at l.res.now (only_link l.res.now l.nodes l.links l.before (last_state l.n) c.loop-q.q))) in
-    let is = g.is ∙ ap (λ (k : ℕ). told k ++ rest) (sym number) in
-    omega (arith, c.loop-q.invariant.long, c.loop-q.invariant.left, ap length is, length-append (told c.number.result) rest, c.requires.room)
+    let is = g.is ∙ ap (λ (k : Maybe ℕ). told_by k ++ rest) (sym number) in
+    omega (arith, c.loop-q.invariant.long, c.loop-q.invariant.left, ap length is, length-append (told_by c.number.result) rest, c.requires.room)
 
 pub next-q-requires : goal.next-q-requires
 next-q-requires c =
@@ -55,12 +55,12 @@ loop-q-preserved c =
     let put = c.put_number-count in
     let inv = c.loop-q.invariant in
     let next = c.next-q.ensures ∙ ap (next_at l.res.now) c.only_link-only.ensures in
-    let number = c.number.ensures ∙ ap (number_at l.res.now l.nodes l.links) c.only_link-only.ensures in
-    let is : run_in (way_in l c.loop-q.q) ≡ told c.number.result ++ run_in (way_in l c.next-q.result) = g.is ∙ λ i. told (sym number i) ++ run_in (way_in l (sym next i)) in record {
+    let number = c.number.ensures ∙ ap (λ (x : ℕ). number_told (number_at l.res.now l.nodes l.links x)) c.only_link-only.ensures in
+    let is : run_in (way_in l c.loop-q.q) ≡ told_by c.number.result ++ run_in (way_in l c.next-q.result) = g.is ∙ λ i. told_by (sym number i) ++ run_in (way_in l (sym next i)) in record {
       long = put.auto.run ∙ inv.long;
       there = subst (λ (k : ℕ). way_in l k ≡ some (run_in (way_in l k))) (sym next) g.from;
-      left = omega (arith, ap length is, length-append (told c.number.result) (run_in (way_in l c.next-q.result)), put.ensures.0, inv.left);
-      stored = stored-all c.loop-q.run _ _ c.loop-q.count _ (told c.number.result) _ _ is put.ensures.1 put.ensures.0 inv.stored;
+      left = omega (arith, ap length is, length-append (told_by c.number.result) (run_in (way_in l c.next-q.result)), put.ensures.0, inv.left);
+      stored = stored-all c.loop-q.run _ _ c.loop-q.count _ (told_by c.number.result) _ _ is put.ensures.1 put.ensures.0 inv.stored;
     }
 
 pub returns : goal.returns

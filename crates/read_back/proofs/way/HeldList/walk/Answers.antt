@@ -15,7 +15,7 @@ use Rattle.read_back.proofs.way.HeldList.walk.Goals as goal
 pub returns-in_err-only : goal.returns-in_err-only
 returns-in_err-only c =
     let w = c.loop-q.w in
-    rw c.from_residual.ensures (stops-here (machine c.args.begun.now.machine.sheet.bytes.now) w.at w.count _ c.args.self.now c.loop-q.q c.loop-q.invariant.rest (omega arith) c.in_err-only.ensures)
+    rw c.from_residual-in_err-only.ensures (stops-here (machine c.args.begun.now.machine.sheet.bytes.now) w.at w.count _ c.args.self.now c.loop-q.q c.loop-q.invariant.rest (omega arith) c.in_err-only.ensures)
 
 pub returns-in_err-w : goal.returns-in_err-w
 returns-in_err-w c =
