@@ -1,5 +1,5 @@
 -- Numbers in decimal: the digits that are written, and the value of digits that are read. A text is a list of bytes. Definitions only.
-use Rattle.std.specs.Prelude.{ℕ, zero, suc, ◌+◌, ◌-◌, ◌*◌, ◌/◌, Bool, true, false, ◌&&◌, cond, List, [], ◌∷◌, leb, ltb, Option, None, Some}
+use Rattle.std.specs.Prelude.{ℕ, zero, suc, ◌+◌, ◌-◌, ◌*◌, ◌/◌, Bool, true, false, ◌&&◌, cond, List, [], ◌∷◌, leb, ltb, ℤ, pos, negsuc, Option, None, Some}
 use Rattle.io.specs.Digits.{last_digits}
 
 -- ---- written
@@ -17,6 +17,11 @@ places n = places_by n (ltb n 10) n
 unfoldable pub decimal : ℕ → List ℕ
 unfolding places
 decimal n = last_digits 10 (places n) n
+
+-- what stands before the magnitude of a number: a minus sign where it is negative
+abbrev pub sign_text : ℤ → List ℕ
+sign_text (pos n) = []
+sign_text (negsuc n) = 45 ∷ []
 
 -- ---- read
 abbrev pub is_digit : ℕ → Bool

@@ -1,6 +1,6 @@
 // A text as it is made, in an area of its own of N bytes.
 ghost use Rattle.std.specs.Prelude.{◌≡◌, ℕ, ◌+◌, ◌≤◌, ◌<◌, List, [], ◌∷◌, ◌++◌, length, take};
-ghost use Rattle.decimals.specs.Decimal.{decimal};
+ghost use Rattle.decimals.specs.Decimal.{decimal, sign_text};
 
 use crate::write;
 use std::marker::Model;
@@ -53,6 +53,17 @@ impl<const N: usize> Text<N> {
     {
         self.bytes[self.end] = byte;
         self.end += 1;
+    }
+
+    // A minus sign behind it where a number is negative: what follows is its magnitude.
+    pub fn put_sign(&mut self, x: i32)
+        requires { length self.old < N }
+        ensures value { self.new ≡ self.old ++ sign_text x }
+        ensures upper_bound { length self.new ≤ length self.old + 1 }
+    {
+        if x < 0 {
+            self.put_byte(b'-');
+        }
     }
 
     // A text behind it.

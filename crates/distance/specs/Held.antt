@@ -3,7 +3,7 @@
 use Rattle.std.specs.Prelude.{Bool, false, cond, List, [], ◌∷◌, ℕ, ◌+◌, eqb, Float, Option, Some, None, is_some, get_or, set}
 use Rattle.std.specs.Float.Ieee as Ieee
 use Rattle.std.specs.Float.{binary32}
-use Rattle.std.specs.Float.Ieee.{lt, of_bits, to_bits}
+use Rattle.std.specs.Float.Ieee.{add, lt, of_bits, to_bits}
 use Rattle.tropical_weight.specs.Limits.{unit}
 use Rattle.tropical_weight.specs.Grid.{of_k}
 use Rattle.machine.specs.Distance as Named
@@ -21,6 +21,10 @@ held Named.unreached = None
 abbrev pub weight_in : Distance → Float
 weight_in (Some cost) = cost
 weight_in None = Ieee.inf false
+
+-- the total of a final node: the sum of its distance and the final weight of these bits
+abbrev pub total_in : Distance → ℕ → Float
+total_in d bits = add binary32 (weight_in d) (of_bits binary32 bits)
 
 -- reached at a weight below infinity, else unreached
 abbrev pub distance_from : Float → Distance

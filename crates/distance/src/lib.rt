@@ -1,11 +1,11 @@
 // Distances, a cost where the node is reached, else none; and the two words that hold one, in the work area
-// and as it is written.
+// and as it is written. Two words there and no Option: the areas are lent from C.
 #![tactic(auto)]
 
 ghost use Rattle.std.specs.Prelude.{◌≡◌, ◌+◌, ◌≤◌, ◌<◌, length};
 ghost use Rattle.std.proofs.lemmas.List.Edits.{sets};
 ghost use Rattle.sheet.specs.Words.{bytes_of_all};
-ghost use Rattle.distance.specs.Held.{weight_in, distance_from};
+ghost use Rattle.distance.specs.Held.{weight_in, total_in, distance_from};
 ghost use Rattle.distance.specs.Held.{mark_in, bits_in, words_in, distance_in, with_distance};
 
 use sheet::words::put_words;
@@ -18,6 +18,13 @@ pub fn as_weight(d: Option<f32>) -> f32
     ensures { result ≡ weight_in d }
 {
     d.unwrap_or(tropical_weight::zero())
+}
+
+// The total of a final node: its distance and the final weight of these bits.
+pub fn total(d: Option<f32>, bits: u32) -> f32
+    ensures { result ≡ total_in d bits }
+{
+    tropical_weight::times(as_weight(d), tropical_weight::from_bits(bits))
 }
 
 // The distance of a weight: one below infinity is reached.
@@ -53,7 +60,7 @@ pub fn distance_at(work: &[u32], at: usize) -> Option<f32>
     Some(tropical_weight::from_bits(work[at + 1]))
 }
 
-// Stores a distance there.
+// Stores a distance there. Two functions: one stores words, the other their bytes.
 pub fn put_distance(work: &mut [u32], at: usize, d: Option<f32>)
     requires { at + 1 < length work.old }
     ensures { work.new ≡ with_distance work.old at d }

@@ -1,32 +1,31 @@
 // The pairs of links with the same label, by the keys of the links.
 ghost use Rattle.std.specs.Prelude.{◌≤◌, length};
 ghost use Rattle.tropical_weight.specs.Limits.{node_limit, link_limit};
-ghost use Rattle.sorted_keys.specs.Sorted.{Rising};
 ghost use Rattle.link_pairs.specs.Found.{pairs_of, found, Put};
 
 use product::keys::{key_label, key_link, key_node, least_alike, pair_key};
-use sorted_keys::first_at_least;
+use sorted_keys::InOrder;
 use tropical_weight::LINK_LIMIT;
 
 // Puts the pairs of a link of the first machine, by its key, with its partners among the keys of the
-// second's, which are in order, from place `at` on. Answers the place behind them, or none where they
-// are more than a machine may have links.
+// second's, from place `at` on. Answers the place behind them, or none where they are more than a
+// machine may have links. The place goes beside the area, which is fixed memory: no Vec.
 fn put_partners(
     key: u64,
-    seconds: &[u64],
+    seconds: &InOrder,
     nodes: u64,
     pairs: &mut [u64],
     at: usize,
 ) -> Option<usize>
-    requires rising { Rising (length seconds.now) seconds.now × (nodes ≤ node_limit) }
+    requires nodes_le_node_limit { nodes ≤ node_limit }
     requires link_limit_in_bounds { (link_limit ≤ length pairs.old) × (at ≤ link_limit) }
-    ensures { Put at (pairs_of nodes seconds.now key) pairs.old pairs.new result }
+    ensures { Put at (pairs_of nodes seconds.now.keys.now key) pairs.old pairs.new result }
 {
     let label = key_label(key);
     let before = key_node(key) * nodes;
     let mut next = at;
-    let low = first_at_least(seconds, least_alike(key));
-    for second in &seconds[low..] {
+    let low = seconds.first_at_least(least_alike(key));
+    for second in &seconds.keys[low..] {
         if key_label(*second) != label {
             return Some(next);
         }
@@ -40,11 +39,10 @@ fn put_partners(
 }
 
 // Puts the pairs of all links of the first machine. Answers how many there are, or none where they are
-// too many.
-fn find_pairs(firsts: &[u64], seconds: &[u64], nodes: u64, pairs: &mut [u64]) -> Option<usize>
-    requires rising { Rising (length seconds.now) seconds.now }
+// too many. Waits for the call that makes the product.
+fn find_pairs(firsts: &[u64], seconds: &InOrder, nodes: u64, pairs: &mut [u64]) -> Option<usize>
     requires nodes_le_node_limit { (nodes ≤ node_limit) × (link_limit ≤ length pairs.old) }
-    ensures { Put 0 (found nodes seconds.now firsts.now) pairs.old pairs.new result }
+    ensures { Put 0 (found nodes seconds.now.keys.now firsts.now) pairs.old pairs.new result }
 {
     let mut next = 0usize;
     for key in firsts {

@@ -1,2 +1,3 @@
 pub mod NoneListed
 pub mod SlotsNeeded
+pub mod Stores

@@ -1,6 +1,7 @@
--- What a call for a list answers and needs. But for `slots_of` and `slots_for` it mirrors the code: a reader need not believe that part. Definitions only.
-use Rattle.std.specs.Prelude.{Bool, true, false, cond, List, ◌++◌, ℕ, zero, suc, ◌+◌, ◌*◌, ltb, length, drop, Result as Answer, Ok, Err}
+-- What a call for a list answers and needs, and the words of its records. But for `slots_of` and `slots_for` it mirrors the code: a reader need not believe that part. Definitions only.
+use Rattle.std.specs.Prelude.{Bool, true, false, cond, List, [], ◌∷◌, ◌++◌, ℕ, zero, suc, ◌+◌, ◌*◌, ltb, length, drop, Result as Answer, Ok, Err}
 use Rattle.sheet.specs.declared.refusal.Refusal.{Refusal}
+use Rattle.sheet.specs.Words.{word}
 use Rattle.sheet.specs.Machine.{Machine}
 use Rattle.machine.specs.Readings.{marked}
 use Rattle.search.specs.ListMachine.{Result, result_bytes}
@@ -18,6 +19,16 @@ listed_in r room = listed_by (ltb room (length (result_bytes r))) (length r.mach
 -- the area afterwards
 abbrev pub listed_over : Result → List ℕ → List ℕ
 listed_over r old = cond (ltb (length old) (length (result_bytes r))) old (result_bytes r ++ drop (length (result_bytes r)) old)
+
+-- ---- the words of an answer's records
+-- link l with another next node
+abbrev pub link_to : List ℕ → ℕ → ℕ → List ℕ
+link_to bytes l next = word bytes (16 * l) ∷ word bytes (16 * l + 4) ∷ word bytes (16 * l + 8) ∷ next ∷ []
+
+-- n states of one link that are not final
+unfoldable pub state_words : ℕ → List ℕ
+state_words zero = []
+state_words (suc n) = 1 ∷ 0 ∷ 0 ∷ state_words n
 
 -- ---- what a list needs
 -- work slots, for N nodes, T links and F final nodes: none for n = 0, N for n = 1, otherwise N + T + 2 × F + 2 + n × (T + 1)

@@ -1,14 +1,17 @@
-// What a call for a list answers, the slots that it needs, and the empty answer.
+// What a call for a list answers, the slots that it needs, the empty answer, and the records that every
+// answer is stored by.
 #![tactic(auto)]
 
-ghost use Rattle.std.specs.Prelude.{◌≡◌, ◌≤◌, length};
+ghost use Rattle.std.specs.Prelude.{◌≡◌, ◌+◌, ◌*◌, ◌≤◌, length};
+ghost use Rattle.std.proofs.lemmas.List.Edits.{sets};
+ghost use Rattle.sheet.specs.Words.{bytes_of_all};
 ghost use Rattle.tropical_weight.specs.Limits.{node_limit, link_limit, list_limit};
 ghost use Rattle.search.specs.ListMachine.{empty};
-ghost use Rattle.list_answer.specs.ListAnswer.{listed_in, listed_over, slots_of};
+ghost use Rattle.list_answer.specs.ListAnswer.{listed_in, listed_over, slots_of, link_to, state_words};
 
 use sheet::refusal::Refusal;
-use sheet::tr::{NO_START, TRAILER};
-use sheet::words::put_words;
+use sheet::tr::{NO_START, TRAILER, Trailer};
+use sheet::words::{put_words, word};
 
 // What a list that is made has: the counts of the result's nodes and links, and of the entries taken.
 #[derive(Clone, Copy, Debug, PartialEq, Eq)]
@@ -38,11 +41,37 @@ pub fn put_none(res: &mut [u8]) -> Result<Listed, Refusal>
     if res.len() < TRAILER {
         return Err(Refusal::Room);
     }
-    let trailer = [0, 0, 0, 0, NO_START];
-    put_words(res, 0, &trailer);
+    put_words(res, 0, &Trailer::of(0, 0, NO_START).words());
     Ok(Listed {
         nodes: 0,
         links: 0,
         taken: 0,
     })
+}
+
+// The record of link l of the sheet with another next node, at a byte of the result.
+pub fn put_link(sheet: &[u8], l: u32, next: u32, res: &mut [u8], at: usize)
+    requires { (16 * l + 16 ≤ length sheet.now) × (at + 16 ≤ length res.old) }
+    ensures { res.new ≡ sets res.old at (bytes_of_all (link_to sheet.now l next)) }
+{
+    let from = 16 * (l as usize);
+    let words = [
+        word(sheet, from),
+        word(sheet, from + 4),
+        word(sheet, from + 8),
+        next,
+    ];
+    put_words(res, at, &words);
+}
+
+// So many states of one link that are not final, from a byte of the result on. The count goes beside the
+// result, which is lent whole.
+pub fn put_states(count: usize, res: &mut [u8], at: usize)
+    requires { at + 12 * count ≤ length res.old }
+    ensures { res.new ≡ sets res.old at (bytes_of_all (state_words count)) }
+{
+    let state = [1, 0, 0];
+    for k in 0..count {
+        put_words(res, at + 12 * k, &state);
+    }
 }

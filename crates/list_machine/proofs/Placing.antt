@@ -1,4 +1,4 @@
--- Words stored one after the other, and the lengths of the lists that are stored. Assumes nothing.
+-- Words stored, and the lengths of the lists that are stored. Assumes nothing.
 use mathlib.Core.Path.{◌≡◌, refl, sym, ap, ◌∙◌}
 use mathlib.Core.Logic.{inl, inr}
 use mathlib.Core.Bool.{Bool, true, false, cond}
@@ -11,39 +11,23 @@ use lib.Dec.{eqb}
 use lib.ListN.{length, replicate, length-append, length-replicate, replicate-append-replicate}
 use lib.Seq.{sets}
 use borrow.Author.Tests.{eq-eqb, ne_eqb}
-use Rattle.sheet.specs.Words.{word, bytes_of, bytes_of_all}
-use Rattle.sheet.proofs.Bytes.{sets-append, bytes_of_all-append, length-bytes_of_all, bytes_of_all-one}
+use Rattle.sheet.specs.Words.{bytes_of, bytes_of_all}
+use Rattle.sheet.proofs.Bytes.{length-bytes_of_all, bytes_of_all-one}
 use Rattle.slots.specs.Slots.{nothing}
-use Rattle.search_slots.specs.Slots.{node_word, from_word, input_word, listed_word, state_word}
-use Rattle.list_machine.specs.TrimWords.{mark_of, mark_count, start_words, blank_bits, entry_words, stated_words, link_words, node_words, repeat_words, input_words, links_part, nodes_part, words_part, list_words, list_length, head_words, trailer_words}
+use Rattle.slots.proofs.Numbers.{number-none, number-some}
+use Rattle.list_answer.specs.ListAnswer.{link_to, state_words}
+use Rattle.list_answer.proofs.Stores.{stored_next, length-states}
+use Rattle.std.specs.Prelude.{Option, None, Some}
+use Rattle.search_slots.specs.Slots.{from_word, input_word, listed_word, state_word}
+use Rattle.list_machine.specs.TrimWords.{mark_of, mark_count, start_words, node_of, input_of, blank_bits, words_by, entry_words, stated_words, link_words, repeat_words, input_words, links_part, nodes_part, words_part, list_words, list_length, head_words, trailer_words}
 
--- ---- stores one after the other
-pub sets-words : (l : List ℕ) (at : ℕ) (xs ys : List ℕ) (k : ℕ) → k ≡ at + 4 * length xs → sets (sets l at (bytes_of_all xs)) k (bytes_of_all ys) ≡ sets l at (bytes_of_all (xs ++ ys))
-sets-words l at xs ys k e =
-    ap (λ (j : ℕ). sets (sets l at (bytes_of_all xs)) j (bytes_of_all ys)) (e ∙ ap (λ (j : ℕ). at + j) (sym (length-bytes_of_all xs)))
-    ∙ sym (sets-append l at (bytes_of_all xs) (bytes_of_all ys))
-    ∙ ap (sets l at) (sym (bytes_of_all-append xs ys))
-
--- by what a call stores after others
-pub stored_next : (l m n : List ℕ) (at : ℕ) (xs ys : List ℕ) (k : ℕ) → m ≡ sets l at (bytes_of_all xs) → n ≡ sets m k (bytes_of_all ys) → k ≡ at + 4 * length xs → n ≡ sets l at (bytes_of_all (xs ++ ys))
-stored_next l m n at xs ys k e f h = f ∙ ap (λ (j : List ℕ). sets j k (bytes_of_all ys)) e ∙ sets-words l at xs ys k h
-
--- the same words under another name
-pub stored-as : (l m : List ℕ) (at : ℕ) (xs ys : List ℕ) → m ≡ sets l at (bytes_of_all xs) → xs ≡ ys → m ≡ sets l at (bytes_of_all ys)
-stored-as l m at xs ys e f = e ∙ ap (λ (ws : List ℕ). sets l at (bytes_of_all ws)) f
-
+-- ---- nothing stored
 pub sets-none : (l : List ℕ) (at : ℕ) → sets l at (bytes_of_all []) ≡ l
 unfolding bytes_of_all
 sets-none l at = refl
 
 -- ---- an entry that is no state, or one
 module _ (part : List ℕ) (i : ℕ) where
-  pub mark-off : state_word part i ≡ 0 → mark_of part i ≡ 0
-  mark-off e = ap (λ (t : Bool). cond t 0 1) (eq-eqb (state_word part i) 0 e)
-
-  pub mark_on : (state_word part i ≡ 0 → ⊥) → mark_of part i ≡ 1
-  mark_on h = ap (λ (t : Bool). cond t 0 1) (ne_eqb (state_word part i) 0 h)
-
   pub repeat-off : state_word part i ≡ 0 → repeat_words part i ≡ []
   repeat-off e = ap (λ (t : Bool). cond t [] (input_word part i ∷ [])) (eq-eqb (state_word part i) 0 e)
 
@@ -57,17 +41,14 @@ module _ (part : List ℕ) (i : ℕ) where
     pub stated-on : (state_word part i ≡ 0 → ⊥) → stated_words bytes links part i ≡ entry_words bytes links part i
     stated-on h = ap (λ (t : Bool). cond t [] (entry_words bytes links part i)) (ne_eqb (state_word part i) 0 h)
 
-    abbrev to : ℕ
-    to = state_word part (from_word part i)
+    abbrev by : Option ℕ → List ℕ
+    by o = words_by bytes links o (node_of part i) (state_word part (from_word part i))
 
-    abbrev copied : List ℕ
-    copied = let l = input_word part i in word bytes (16 * l) ∷ word bytes (16 * l + 4) ∷ word bytes (16 * l + 8) ∷ to ∷ []
+    pub entry-blank : input_word part i ≡ nothing → entry_words bytes links part i ≡ 0 ∷ 0 ∷ blank_bits bytes links (node_of part i) ∷ state_word part (from_word part i) ∷ []
+    entry-blank e = ap by (number-none (input_word part i) e)
 
-    pub entry-blank : input_word part i ≡ nothing → entry_words bytes links part i ≡ 0 ∷ 0 ∷ blank_bits bytes links (node_word part i) ∷ state_word part (from_word part i) ∷ []
-    entry-blank e = ap (λ (t : Bool). cond t (0 ∷ 0 ∷ blank_bits bytes links (node_word part i) ∷ to ∷ []) copied) (eq-eqb (input_word part i) nothing e)
-
-    pub entry-copied : (input_word part i ≡ nothing → ⊥) → let l = input_word part i in entry_words bytes links part i ≡ word bytes (16 * l) ∷ word bytes (16 * l + 4) ∷ word bytes (16 * l + 8) ∷ state_word part (from_word part i) ∷ []
-    entry-copied h = ap (λ (t : Bool). cond t (0 ∷ 0 ∷ blank_bits bytes links (node_word part i) ∷ to ∷ []) copied) (ne_eqb (input_word part i) nothing h)
+    pub entry-copied : (input_word part i ≡ nothing → ⊥) → entry_words bytes links part i ≡ link_to bytes (input_word part i) (state_word part (from_word part i))
+    entry-copied h = ap by (number-some (input_word part i) h)
 
 -- ---- the start's links
 pub start-next : (part : List ℕ) (k : ℕ) → start_words part (k + 1) ≡ start_words part k ++ (0 ∷ 0 ∷ 0 ∷ state_word part (listed_word part k) ∷ [])
@@ -81,11 +62,11 @@ length-start part (suc k) = length-append (start_words part k) (0 ∷ 0 ∷ 0 �
 
 -- ---- the entries' links
 length-entry : (bytes : List ℕ) (links : ℕ) (part : List ℕ) (i : ℕ) → length (entry_words bytes links part i) ≡ 4
-length-entry bytes links part i = go (eqb (input_word part i) nothing) _ _ refl refl
+length-entry bytes links part i = go (input_of part i)
   where
-    go : (t : Bool) (xs ys : List ℕ) → length xs ≡ 4 → length ys ≡ 4 → length (cond t xs ys) ≡ 4
-    go true xs ys a b = a
-    go false xs ys a b = b
+    go : (o : Option ℕ) → length (words_by bytes links o (node_of part i) (state_word part (from_word part i))) ≡ 4
+    go None = refl
+    go (Some l) = refl
 
 length-stated : (bytes : List ℕ) (links : ℕ) (part : List ℕ) (i : ℕ) → length (stated_words bytes links part i) ≡ 4 * mark_of part i
 length-stated bytes links part i = go (eqb (state_word part i) 0)
@@ -103,16 +84,6 @@ pub links-next : (bytes : List ℕ) (links : ℕ) (part : List ℕ) (i : ℕ) �
 unfolding link_words
 links-next bytes links part zero h = absurd (omega arith)
 links-next bytes links part (suc k) h = ap (λ (j : ℕ). link_words bytes links part j ++ stated_words bytes links part (suc k)) (let e : k ≡ suc k - 1 = omega arith in e)
-
--- ---- nodes
-pub nodes-next : (k : ℕ) → node_words (k + 1) ≡ node_words k ++ (1 ∷ 0 ∷ 0 ∷ [])
-unfolding node_words
-nodes-next k = ap node_words (add-one k)
-
-pub length-nodes : (k : ℕ) → length (node_words k) ≡ 3 * k
-unfolding node_words
-length-nodes zero = refl
-length-nodes (suc k) = length-append (node_words k) (1 ∷ 0 ∷ 0 ∷ []) ∙ omega (arith, length-nodes k)
 
 -- ---- the words
 pub nothings-next : (l m n : List ℕ) (at k : ℕ) → m ≡ sets l at (bytes_of_all (replicate k nothing)) → n ≡ sets m (at + 4 * k) (bytes_of nothing) → n ≡ sets l at (bytes_of_all (replicate (k + 1) nothing))
@@ -149,7 +120,7 @@ pub length-links_part : (bytes : List ℕ) (links : ℕ) (part : List ℕ) (entr
 length-links_part bytes links part entries listed kept e = length-append (start_words part listed) (link_words bytes links part (entries - 1)) ∙ omega (arith, length-start part listed, length-links bytes links part (entries - 1))
 
 pub length-nodes_part : (listed kept : ℕ) → length (nodes_part listed kept) ≡ 3 * (2 + kept) + 5
-length-nodes_part listed kept = length-append (head_words listed ++ node_words kept) (trailer_words (listed + kept) (2 + kept)) ∙ omega (arith, length-append (head_words listed) (node_words kept), length-nodes kept)
+length-nodes_part listed kept = length-append (head_words listed ++ state_words kept) (trailer_words (listed + kept) (2 + kept)) ∙ omega (arith, length-append (head_words listed) (state_words kept), length-states kept)
 
 pub length-words_part : (part : List ℕ) (entries listed kept : ℕ) → kept ≡ mark_count part (entries - 1) → length (words_part part entries listed) ≡ listed + kept
 length-words_part part entries listed kept e = length-append (replicate listed nothing) (input_words part (entries - 1)) ∙ omega (arith, length-replicate listed nothing, length-inputs part (entries - 1))

@@ -31,9 +31,10 @@ use Rattle.search.proofs.Numbered.{Numbered}
 use Rattle.search.proofs.Readback.{links-long, nodes-long}
 use Rattle.search.proofs.OnWays.{OnWay, came_from, way-listed, way-from, way-inside}
 use Rattle.slots.specs.Slots.{nothing}
+use Rattle.slots.proofs.Numbers.{number-none, number-some}
 use Rattle.search_slots.specs.Slots.{node_word, from_word, input_word, listed_word, state_word, node_field, input_field}
-use Rattle.list_machine.specs.TrimWords.{stated, kept_count, start_words, blank_bits, entry_words, stated_words, link_words, head_words, node_words, trailer_words, repeat_words, input_words, links_part, nodes_part, words_part, list_words, list_length, list_answer, list_after, Readable, Linked, Listable, Holding, Sourced}
-use Rattle.list_answer.specs.ListAnswer.{listed_by, listed_in, listed_over}
+use Rattle.list_machine.specs.TrimWords.{stated, kept_count, start_words, node_of, blank_bits, entry_words, stated_words, link_words, head_words, trailer_words, repeat_words, input_words, links_part, nodes_part, words_part, list_words, list_length, list_answer, list_after, Readable, Linked, Listable, Holding, Sourced}
+use Rattle.list_answer.specs.ListAnswer.{listed_by, listed_in, listed_over, link_to, state_words}
 use Rattle.list_machine.proofs.Marks.{stated-other, from-other, listed-other, new-kept}
 use Rattle.list_machine.proofs.Placing.{length-list, stated-off, stated-on, repeat-off, repeat-on, entry-blank, entry-copied}
 use Rattle.list_machine.proofs.Trimming.{kept-count, state-on, state-off}
@@ -63,18 +64,12 @@ leaving-append (k ∷ a) b v = go (eqb k.source v) (leaving-append a b v)
 
 -- ---- the nodes of the list machine
 -- nodes of one link that are not final
-nodes-first : (k : ℕ) → node_words (suc k) ≡ (1 ∷ 0 ∷ 0 ∷ []) ++ node_words k
-unfolding node_words
-nodes-first zero = refl
-nodes-first (suc k) = ap (λ (l : List ℕ). l ++ (1 ∷ 0 ∷ 0 ∷ [])) (nodes-first k)
-
-one_each : (ks : List Link) (k v : ℕ) → ((j : ℕ) → j < k → leaving ks (v + j) ≡ 1) → node_fields ks v (replicate k none) ≡ node_words k
-unfolding node_fields node_words
+one_each : (ks : List Link) (k v : ℕ) → ((j : ℕ) → j < k → leaving ks (v + j) ≡ 1) → node_fields ks v (replicate k none) ≡ state_words k
+unfolding node_fields state_words
 one_each ks zero v h = refl
 one_each ks (suc k) v h =
     ap₂ (λ (a : ℕ) (r : List ℕ). (a ∷ 0 ∷ 0 ∷ []) ++ r) (ap (leaving ks) (let e : v ≡ v + 0 = omega arith in e) ∙ h 0 (omega arith))
     (one_each ks k (suc v) (λ j b. ap (leaving ks) (let e : suc v + j ≡ v + suc j = omega arith in e) ∙ h (suc j) (omega arith)))
-    ∙ sym (nodes-first k)
 
 link-source : (m : Machine) (o : Option ℕ) (e : Entry) (u v : ℕ) → (link_by m o e u v).source ≡ u
 link-source m (some l) e u v = refl
@@ -148,7 +143,7 @@ module _ (m : Machine) (s : Search) where
   all-leave : (v : ℕ) → leaving (list_machine m s).links v ≡ leaving (map (start_link s) s.listed) v + leaving (map (entry_link m s) (later s)) v
   all-leave v = leaving-append (map (start_link s) s.listed) (map (entry_link m s) (later s)) v
 
-  pub nodes-is : (parts_for (list_machine m s)).nodes ≡ head_words (length s.listed) ++ node_words (length (later s))
+  pub nodes-is : (parts_for (list_machine m s)).nodes ≡ head_words (length s.listed) ++ state_words (length (later s))
   unfolding parts_for node_fields
   nodes-is =
       let start : leaving (list_machine m s).links 0 ≡ length s.listed = all-leave 0 ∙ omega (arith, starts-leave s.listed, entries-off (length s.entries - 1) 0 (inl (omega arith))) in
@@ -181,7 +176,7 @@ module _ (bytes : List ℕ) (below : Below 256 bytes) (accepted : input_number b
 
   -- link l by its fields, with other ends
   link-words : (l to source : ℕ) → l < stated_links bytes
-      → link_fields (record { source = source; ilabel = (link m l).ilabel; olabel = (link m l).olabel; weight = (link m l).weight; next = to }) ≡ word bytes (16 * l) ∷ word bytes (16 * l + 4) ∷ word bytes (16 * l + 8) ∷ to ∷ []
+      → link_fields (record { source = source; ilabel = (link m l).ilabel; olabel = (link m l).olabel; weight = (link m l).weight; next = to }) ≡ link_to bytes l to
   link-words l to source h = sym (λ i. fields.ilabel-at l h i ∷ fields.olabel-at l h i ∷ fields.link-bits below l h i ∷ to ∷ [])
 
   linked : Linked part (length s.entries) (length s.listed)
@@ -268,17 +263,18 @@ module _ (bytes : List ℕ) (below : Below 256 bytes) (accepted : input_number b
       ap (state_word new) (stated-other part size (length s.listed) linked (8 * i + 2) (from-other size i) ∙ (x.held i h).from) ∙ state-on s n part x (came_from s i) (way-inside s n (came_from s i) w) w
 
   -- the field of its weight, where it was put in by no input link
-  final-bits : (i : ℕ) → i < size → (f : Final i) → blank_bits bytes links (node_word new i) ≡ bits_of (final_weight (final m (suc f.old - 1)))
+  final-bits : (i : ℕ) → i < size → (f : Final i) → blank_bits bytes links (node_of new i) ≡ bits_of (final_weight (final m (suc f.old - 1)))
   final-bits i h f =
       let back : suc f.old - 1 ≡ f.old = omega arith in
-      ap (blank_bits bytes links) (node-new i ∙ node-half i (suc f.old) f.cost h f.half_is)
-      ∙ ap (λ (t : Bool). cond t 0 (word bytes (16 * links + 12 * (suc f.old - 1) + 8))) (ne_eqb (suc f.old) nothing (λ z. omega (arith, fields.few-nodes, f.inside)))
+      let is = node-new i ∙ node-half i (suc f.old) f.cost h f.half_is in
+      ap (blank_bits bytes links) (number-some (node_word new i) (λ z. omega (arith, fields.few-nodes, f.inside, is)))
+      ∙ ap (λ (v : ℕ). word bytes (16 * links + 12 * (v - 1) + 8)) is
       ∙ ap (λ (v : ℕ). word bytes (16 * links + 12 * v + 8)) back
       ∙ sym (final-word fields below f.old f.weight f.weight_is).1
       ∙ sym (ap (λ (o : Option Tropical). bits_of (final_weight o)) (ap (final m) back ∙ f.weight_is))
 
-  ended-bits : (i : ℕ) → i < size → (f : Ended i) → blank_bits bytes links (node_word new i) ≡ bits_of one
-  ended-bits i h f = ap (blank_bits bytes links) (node-new i ∙ node-finished i f.cost h f.end_is) ∙ ap (λ (t : Bool). cond t 0 (word bytes (16 * links + 12 * (nothing - 1) + 8))) (eq-eqb nothing nothing refl) ∙ sym bits-one
+  ended-bits : (i : ℕ) → i < size → (f : Ended i) → blank_bits bytes links (node_of new i) ≡ bits_of one
+  ended-bits i h f = ap (blank_bits bytes links) (number-none (node_word new i) (node-new i ∙ node-finished i f.cost h f.end_is)) ∙ sym bits-one
 
   entry-is : (i : ℕ) → 0 < i → i < size → OnWay s i → entry_words bytes links new i ≡ link_fields (entry_link m s i)
   entry-is i a b on = go (put-by i a b) (to_is i b on)
@@ -294,7 +290,7 @@ module _ (bytes : List ℕ) (below : Below 256 bytes) (accepted : input_number b
           let r = input-some i q.0 b q.1 in
           let w : input_word new i ≡ q.0 = input-new i ∙ r.0 in
           entry-copied new i bytes links (λ z. omega (arith, fields.few-links, w, r.1))
-          ∙ (λ j. word bytes (16 * w j) ∷ word bytes (16 * w j + 4) ∷ word bytes (16 * w j + 8) ∷ t j ∷ [])
+          ∙ (λ j. link_to bytes (w j) (t j))
           ∙ sym (link-words q.0 to u r.1)
           ∙ ap (λ (o : Option ℕ). link_fields (link_by m o (e i).entry u to)) (sym q.1)
       go (inr (inl f)) t =

@@ -1,7 +1,7 @@
 -- Mirrors the code: a list machine marked, numbered and written. A reader need not believe it: laws tie it to ListMachine of crate search (proofs/Writings).
 -- Definitions only.
-use Rattle.std.specs.Prelude.{◌≡◌, cond, List, [], ◌∷◌, ◌++◌, ℕ, zero, suc, ◌+◌, ◌-◌, ◌*◌, ◌^◌, ◌≤◌, ◌<◌, eqb, ltb, length, get_or, set, replicate, drop, Result}
-use Rattle.std.proofs.Math.Option.{none, some}
+use Rattle.std.specs.Prelude.{◌≡◌, cond, List, [], ◌∷◌, ◌++◌, ℕ, zero, suc, ◌+◌, ◌-◌, ◌*◌, ◌^◌, ◌≤◌, ◌<◌, eqb, ltb, length, get_or, set, replicate, drop, Option, None, Some, Result}
+use Rattle.std.proofs.Math.Option as Math
 use Rattle.tropical_weight.specs.Tropical.{Tropical}
 use Rattle.sheet.specs.Words.{word, bytes_of_all}
 use Rattle.sheet.specs.Machine.{Machine}
@@ -9,8 +9,8 @@ use Rattle.machine.specs.Readings.{final}
 use Rattle.search.specs.Search.{half, first, Search}
 use Rattle.sheet.specs.declared.refusal.Refusal.{Refusal}
 use Rattle.list_answer.specs.declared.Listed.{Listed}
-use Rattle.list_answer.specs.ListAnswer.{listed_by}
-use Rattle.slots.specs.Slots.{nothing}
+use Rattle.list_answer.specs.ListAnswer.{listed_by, link_to, state_words}
+use Rattle.slots.specs.Slots.{nothing, number_in}
 use Rattle.search_slots.specs.Slots.{node_word, from_word, input_word, listed_word, state_word, Entries}
 
 -- ---- marks, in the words of states: 0, or another word
@@ -72,18 +72,25 @@ unfoldable pub start_words : List ℕ → ℕ → List ℕ
 start_words part zero = []
 start_words part (suc k) = start_words part k ++ (0 ∷ 0 ∷ 0 ∷ state_word part (listed_word part k) ∷ [])
 
--- the final weight of the old node of v, or of none
-abbrev pub blank_bits : List ℕ → ℕ → ℕ → ℕ
-blank_bits bytes links v = cond (eqb v nothing) 0 (word bytes (16 * links + 12 * (v - 1) + 8))
+-- the old node of entry i, and the input link that it repeats, or none
+abbrev pub node_of : List ℕ → ℕ → Option ℕ
+node_of part i = number_in (node_word part i)
 
--- the labels, the weight and the next state of entry i
+abbrev pub input_of : List ℕ → ℕ → Option ℕ
+input_of part i = number_in (input_word part i)
+
+-- the final weight of old node v, or of none
+abbrev pub blank_bits : List ℕ → ℕ → Option ℕ → ℕ
+blank_bits bytes links None = 0
+blank_bits bytes links (Some v) = word bytes (16 * links + 12 * (v - 1) + 8)
+
+-- the labels, the weight and the next state of an entry, by its input link and its old node
+abbrev pub words_by : List ℕ → ℕ → Option ℕ → Option ℕ → ℕ → List ℕ
+words_by bytes links (Some l) v to = link_to bytes l to
+words_by bytes links None v to = 0 ∷ 0 ∷ blank_bits bytes links v ∷ to ∷ []
+
 abbrev pub entry_words : List ℕ → ℕ → List ℕ → ℕ → List ℕ
-entry_words bytes links part i =
-    let l = input_word part i in
-    let to = state_word part (from_word part i) in
-    cond (eqb l nothing)
-    (0 ∷ 0 ∷ blank_bits bytes links (node_word part i) ∷ to ∷ [])
-    (word bytes (16 * l) ∷ word bytes (16 * l + 4) ∷ word bytes (16 * l + 8) ∷ to ∷ [])
+entry_words bytes links part i = words_by bytes links (input_of part i) (node_of part i) (state_word part (from_word part i))
 
 -- of those with a state
 abbrev pub stated_words : List ℕ → ℕ → List ℕ → ℕ → List ℕ
@@ -94,13 +101,9 @@ unfoldable pub link_words : List ℕ → ℕ → List ℕ → ℕ → List ℕ
 link_words bytes links part zero = []
 link_words bytes links part (suc k) = link_words bytes links part k ++ stated_words bytes links part (suc k)
 
--- the start and the final state, and k others
+-- the start and the final state
 abbrev pub head_words : ℕ → List ℕ
 head_words listed = listed ∷ 0 ∷ 0 ∷ 0 ∷ 1 ∷ 0 ∷ []
-
-unfoldable pub node_words : ℕ → List ℕ
-node_words zero = []
-node_words (suc k) = node_words k ++ (1 ∷ 0 ∷ 0 ∷ [])
 
 abbrev pub trailer_words : ℕ → ℕ → List ℕ
 trailer_words links nodes = 0 ∷ 16 * links ∷ nodes ∷ links ∷ 0 ∷ []
@@ -118,7 +121,7 @@ abbrev pub links_part : List ℕ → ℕ → List ℕ → ℕ → ℕ → List �
 links_part bytes links part entries listed = start_words part listed ++ link_words bytes links part (entries - 1)
 
 abbrev pub nodes_part : ℕ → ℕ → List ℕ
-nodes_part listed kept = head_words listed ++ node_words kept ++ trailer_words (listed + kept) (2 + kept)
+nodes_part listed kept = head_words listed ++ state_words kept ++ trailer_words (listed + kept) (2 + kept)
 
 abbrev pub words_part : List ℕ → ℕ → ℕ → List ℕ
 words_part part entries listed = replicate listed nothing ++ input_words part (entries - 1)
@@ -154,8 +157,8 @@ pub record Holding (part : List ℕ) (s : Search) : Type 0 where
 -- Entries were put in by links of the machine, or by links from node 0 to final nodes; the fields of the result hold its counts.
 pub record Sourced (m : Machine) (s : Search) : Type 0 where
   pub few : length s.listed + length s.entries ≤ 2 ^ 28
-  pub inputs_in : (i l : ℕ) → i < length s.entries → (get_or s.entries i first).input ≡ some l → l < length m.links
-  pub finals-in : (i v : ℕ) (c : Tropical) → 0 < i → i < length s.entries → (get_or s.entries i first).input ≡ none → (get_or s.entries i first).entry ≡ half v c → (u : ℕ) × (w : Tropical) × (v ≡ suc u) × (final m u ≡ some w)
+  pub inputs_in : (i l : ℕ) → i < length s.entries → (get_or s.entries i first).input ≡ Math.some l → l < length m.links
+  pub finals-in : (i v : ℕ) (c : Tropical) → 0 < i → i < length s.entries → (get_or s.entries i first).input ≡ Math.none → (get_or s.entries i first).entry ≡ half v c → (u : ℕ) × (w : Tropical) × (v ≡ suc u) × (final m u ≡ Math.some w)
 
 -- ---- bounds
 -- what is read to write the link of entry i

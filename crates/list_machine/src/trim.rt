@@ -1,13 +1,13 @@
 // The list machine of a search: the entries on a way numbered as its states, and its bytes written.
-ghost use Rattle.std.specs.Prelude.{◌≡◌, ℕ, ◌+◌, ◌-◌, ◌*◌, ◌^◌, ◌≤◌, ◌<◌, length, replicate};
+ghost use Rattle.std.specs.Prelude.{◌≡◌, ℕ, ◌+◌, ◌-◌, ◌*◌, ◌^◌, ◌≤◌, ◌<◌, length, replicate, None, IfSome};
 ghost use Rattle.std.proofs.lemmas.List.Edits.{sets};
 ghost use Rattle.sheet.specs.Words.{bytes_of_all};
 ghost use Rattle.slots.specs.Slots.{nothing};
 ghost use Rattle.search_slots.specs.Slots.{from_word, listed_word};
 ghost use Rattle.list_machine.specs.TrimWords.{unmarked, mark_listed, mark_from, mark_back, marks};
 ghost use Rattle.list_machine.specs.TrimWords.{mark_of, mark_count, number_one, states, stated, kept_count};
-ghost use Rattle.list_machine.specs.TrimWords.{start_words, blank_bits, entry_words, stated_words, link_words};
-ghost use Rattle.list_machine.specs.TrimWords.{node_words, repeat_words, input_words};
+ghost use Rattle.list_machine.specs.TrimWords.{start_words, node_of, input_of, blank_bits, entry_words};
+ghost use Rattle.list_machine.specs.TrimWords.{stated_words, link_words, repeat_words, input_words};
 ghost use Rattle.list_machine.specs.TrimWords.{links_part, nodes_part, words_part, list_words};
 ghost use Rattle.list_machine.specs.TrimWords.{list_answer, list_after};
 ghost use Rattle.list_machine.specs.TrimWords.{Linked, Listable, list_length};
@@ -15,9 +15,9 @@ ghost use Rattle.list_machine.specs.TrimWords.{Linked, Listable, list_length};
 use list_answer::Listed;
 use search_slots::{FROM, INPUT, LISTED, STATE};
 use sheet::refusal::Refusal;
-use sheet::tr::TRAILER;
+use sheet::tr::{TRAILER, Trailer};
 use sheet::words::{put_word, put_words, word};
-use slots::{NOTHING, SLOT};
+use slots::{NOTHING, SLOT, number_in};
 
 // The bytes of a link, of a node and of a word.
 const LINK: usize = 16;
@@ -26,7 +26,8 @@ const NODE: usize = 12;
 
 const WORD: usize = 4;
 
-// No entry has a mark.
+// No entry has a mark: its word is 0. A number and no Option: the part is words of a lent area, and the same
+// word holds the state's number afterwards.
 fn clear_marks(part: &mut [u32], entries: usize)
     requires { 8 * entries ≤ length part.old }
     ensures { part.new ≡ unmarked entries part.old }
@@ -82,7 +83,7 @@ fn mark(part: &mut [u32], entries: usize, listed: usize)
     mark_back(part, entries);
 }
 
-// Numbers entry i where it has a mark, and counts it.
+// Numbers entry i where it has a mark, and counts it. The count is of states, not of the part's words.
 fn number_one(part: &mut [u32], i: usize, count: u32) -> u32
     requires { (8 * i + 8 ≤ length part.old) × (count + 2 < 2 ^ 32) }
     ensures value { result ≡ count + mark_of part.old i }
@@ -136,14 +137,32 @@ impl<'a> Numbered<'a> {
         }
     }
 
-    // The final weight's word of the old node of v, or 0 where an entry is finished.
-    fn blank_bits(&self, v: u32) -> u32
-        requires { (v ≡ nothing → ⊥) → (0 < v) × (16 * self.now.links + 12 * v ≤ length self.now.bytes.now) }
+    // The input link of entry i, none where it repeats none.
+    fn input_of(&self, i: usize) -> Option<u32>
+        requires { (0 < i) × (i < self.now.entries) }
+        ensures value { result ≡ input_of self.now.part.now i }
+        ensures inside { IfSome result (λ l. 16 * l + 16 ≤ length self.now.bytes.now) }
+    {
+        number_in(self.part[SLOT * i + INPUT])
+    }
+
+    // The old node of an entry that repeats no input link, none where it is finished.
+    fn node_of(&self, i: usize) -> Option<u32>
+        requires { (0 < i) × (i < self.now.entries) × (input_of self.now.part.now i ≡ None) }
+        ensures value { result ≡ node_of self.now.part.now i }
+        ensures inside { IfSome result (λ v. (0 < v) × (16 * self.now.links + 12 * v ≤ length self.now.bytes.now)) }
+    {
+        number_in(self.part[SLOT * i])
+    }
+
+    // The final weight's word of old node v, or 0 where there is none.
+    fn blank_bits(&self, v: Option<u32>) -> u32
+        requires { IfSome v (λ v. (0 < v) × (16 * self.now.links + 12 * v ≤ length self.now.bytes.now)) }
         ensures { result ≡ blank_bits self.now.bytes.now self.now.links v }
     {
-        if v == NOTHING {
+        let Some(v) = v else {
             return 0;
-        }
+        };
         let at = LINK * (self.links as usize) + NODE * ((v - 1) as usize);
         word(self.bytes, at + 8)
     }
@@ -155,20 +174,13 @@ impl<'a> Numbered<'a> {
             ≡ sets res.old at (bytes_of_all (entry_words self.now.bytes.now self.now.links self.now.part.now i)) }
     {
         let to = self.part[SLOT * (self.part[SLOT * i + FROM] as usize) + STATE];
-        let input = self.part[SLOT * i + INPUT];
-        if input == NOTHING {
-            let words = [0, 0, self.blank_bits(self.part[SLOT * i]), to];
-            put_words(res, at, &words);
-            return;
+        match self.input_of(i) {
+            Some(l) => list_answer::put_link(self.bytes, l, to, res, at),
+            None => {
+                let words = [0, 0, self.blank_bits(self.node_of(i)), to];
+                put_words(res, at, &words);
+            }
         }
-        let l = LINK * (input as usize);
-        let words = [
-            word(self.bytes, l),
-            word(self.bytes, l + 4),
-            word(self.bytes, l + 8),
-            to,
-        ];
-        put_words(res, at, &words);
     }
 
     // Writes the link of entry i where it is a state, and answers where the next one goes.
@@ -199,6 +211,7 @@ impl<'a> Numbered<'a> {
 
     // Writes the word of entry i where it is a state, and answers where the next one goes. It stays apart
     // from `put_stated`: each promises its own words, which one function with a closure would not name.
+    // The word is stored as it stands: NOTHING names no link in the result too.
     fn put_input(&self, i: usize, res: &mut [u8], at: usize) -> usize
         requires { (i < self.now.entries) × (at + 4 * mark_of self.now.part.now i ≤ length res.old) }
         ensures value { result ≡ at + 4 * mark_of self.now.part.now i }
@@ -260,20 +273,8 @@ impl<'a> Numbered<'a> {
     }
 }
 
-// Writes so many nodes of one link that are not final.
-fn put_nodes(res: &mut [u8], at: usize, count: usize)
-    requires { at + 12 * count ≤ length res.old }
-    ensures { res.new
-        ≡ sets res.old at (bytes_of_all (node_words count)) }
-{
-    let words = [1, 0, 0];
-    for k in 0..count {
-        put_words(res, at + NODE * k, &words);
-    }
-}
-
 // Writes so many words that name no input link. By words and not fill(0xff): the bytes of NOTHING are
-// known in crate slots alone.
+// known in crate slots alone. The count goes beside the result, which is lent whole.
 fn put_nothings(res: &mut [u8], at: usize, count: usize)
     requires { at + 4 * count ≤ length res.old }
     ensures { res.new
@@ -292,13 +293,16 @@ fn put_states(listed: usize, kept: usize, res: &mut [u8], at: usize)
 {
     let links = listed + kept;
     let heads = [listed as u32, 0, 0, 0, 1, 0];
-    let trailer = [0, (LINK * links) as u32, (2 + kept) as u32, links as u32, 0];
+    let trailer = Trailer::of(links as u32, (2 + kept) as u32, 0);
     put_words(res, at, &heads);
-    put_nodes(res, at + 2 * NODE, kept);
-    put_words(res, at + 2 * NODE + NODE * kept, &trailer);
+    list_answer::put_states(kept, res, at + 2 * NODE);
+    put_words(res, at + 2 * NODE + NODE * kept, &trailer.words());
 }
 
-// Numbers the entries on a way as states, and writes their machine where the result has room.
+// Numbers the entries on a way as states, and writes their machine where the result has room. The
+// counts go beside the part: it is a lent area, which is longer than the slots of the entries. Bytes and
+// their count of links, no Sheet: a public function, whose clauses bound the words that are read alone. `as`
+// narrows what they bound.
 pub fn write_list(
     sheet: &[u8],
     links: u32,

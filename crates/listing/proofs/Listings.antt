@@ -1,12 +1,11 @@
 -- The list that a result area holds, line by line. Assumes nothing.
-use mathlib.Core.Path.{◌≡◌, refl, sym, ap, ◌∙◌, subst}
+use mathlib.Core.Path.{◌≡◌, sym, ap, ◌∙◌, subst}
 use mathlib.Core.List.{List, [], ◌∷◌, ◌++◌, map, append_assoc, append-nil}
 use Prim.Native.Nat.{ℕ, zero, suc, ◌+◌, ◌*◌, ◌≤◌, ◌<◌}
 use native.Mathlib.Nat.{add-zero}
 use native.Mathlib.Omega.{arith}
-use lib.IntN.{ℤ}
 use lib.ListN.{length, get_or, take, drop}
-use lib.Seq.{sets, take_all, get_or-take}
+use lib.Seq.{sets, take_all}
 use Rattle.sheet.specs.Machine.{Machine, machine}
 use Rattle.sheet.proofs.Fields.{length-read, read_fits}
 use Rattle.sheet.proofs.Round.{Below}
@@ -78,6 +77,13 @@ module _ (sheet : List ℕ) (below : Below 256 sheet) (n : ℕ) (result : List �
 
   pub held-count : (told : Result ℕ Refusal) → CountsList result n nodes links told → told ≡ Ok (length (list_for (machine sheet) n))
   held-count told c = c sheet below h ∙ ap (λ (l : List (List ℕ)). let z : Result ℕ Refusal = Ok (length l) in z) list-is
+
+  -- how many are told, and that they are
+  pub told-count : (count : ℕ) → CountsList result n nodes links (Ok count) → count ≡ length (list_for (machine sheet) n)
+  told-count count c = let is = held-count (Ok count) c in cc
+
+  pub told-not : (r : Refusal) → CountsList result n nodes links (Err r) → ⊥
+  told-not r c = let is = held-count (Err r) c in let z : ◌≡◌ {A = ℕ} 0 1 = cc in omega (arith, z)
 
   -- at most n readings
   pub held-few : length (list_for (machine sheet) n) ≤ n

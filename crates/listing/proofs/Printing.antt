@@ -22,7 +22,7 @@ use Rattle.search.proofs.Sizes.{result-length, zero-holds, one_holds, many-holds
 use Rattle.std.specs.Prelude.{Ok, Err}
 use Rattle.sheet.specs.declared.refusal.Refusal.{Refusal}
 use Rattle.sheet.specs.Refusals.{number_of, number_in, answer}
-use Rattle.sheet.proofs.Refusals.{Known, number-told, number-positive, answer-some}
+use Rattle.sheet.proofs.Refusals.{Known, number-told, answer-some}
 use Rattle.machine.proofs.Machines.{input-known}
 use Rattle.list_answer.specs.declared.Listed.{Listed}
 use Rattle.shortest_path.specs.Outcome.{result_of, answer_of, slots_needed, tested_number, list_number, list_answer, result_after}
@@ -30,7 +30,7 @@ use Rattle.list_answer.proofs.SlotsNeeded.{slots-many}
 use Rattle.shortest_path.proofs.Outcomes.{tested-input, tested-last, tested-zero, number-input, number-areas}
 use Rattle.read_back.specs.Promise.{IsAnswer}
 use Rattle.listing.specs.Text.{refused_line}
-use Rattle.listing.specs.Printed.{sheet_most, list_most, listing_number, listing_text, listed_text, printed_for, printed, printing_number, printing_text}
+use Rattle.listing.specs.Printed.{sheet_most, list_most, listing_number, listing_text, listed_text, printed_for, printed}
 
 -- ---- the number, by what was tested
 module _ (n : ℕ) (sheet : List ℕ) where
@@ -68,9 +68,6 @@ module _ (n : ℕ) (sheet : List ℕ) where
     printed-listed e = sym (ap (λ (j : ℕ). cond (eqb j 0) (listing_text (machine sheet) n) (refused_line j)) (few-number h b ∙ tested-last sheet n 0 e (omega arith)))
 
   -- and the list's text
-  pub text-none : (listing_number n sheet ≡ 0 → ⊥) → listed_text n sheet ≡ []
-  text-none d = ap (λ (b : Bool). cond b (listing_text (machine sheet) n) []) (ne_eqb (listing_number n sheet) 0 d)
-
   pub text-is : listing_number n sheet ≡ 0 → listing_text (machine sheet) n ≡ listed_text n sheet
   text-is e = sym (ap (λ (j : ℕ). cond (eqb j 0) (listing_text (machine sheet) n) []) e)
 
@@ -170,14 +167,3 @@ behind read = take (length read - 1) (drop 1 read)
 pub printed-some : (read : List ℕ) → (length read ≡ 0 → ⊥) → printed_for (get_or read 0 0) (behind read) ≡ printed read
 printed-some [] h = absurd (h refl)
 printed-some (n ∷ sheet) h = ap (printed_for n) (take_all (length (n ∷ sheet) - 1) sheet (omega arith))
-
--- ---- what is printed of all that was read, where it is refused, and where it is listed
-pub printed-refusal : (read : List ℕ) (r : Refusal) (page : List ℕ) → number_of r ≡ printing_number read → page ≡ printing_text read → page ++ refused_line (number_of r) ≡ printed read
-printed-refusal [] r page e t = (λ i. t i ++ refused_line (e i))
-printed-refusal (n ∷ sheet) r page e t =
-    let d : listing_number n sheet ≡ 0 → ⊥ = λ z. number-positive r (e ∙ z) in
-    (λ i. (t ∙ text-none n sheet d) i ++ refused_line (e i)) ∙ sym (refused-is n sheet (listing_number n sheet) d refl)
-
-pub printed-list : (read : List ℕ) → printing_number read ≡ 0 → printing_text read ≡ printed read
-printed-list [] e = absurd (omega (arith, e))
-printed-list (n ∷ sheet) e = sym (text-is n sheet e) ∙ sym (ap (λ (j : ℕ). cond (eqb j 0) (listing_text (machine sheet) n) (refused_line j)) e)

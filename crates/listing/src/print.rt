@@ -1,6 +1,6 @@
 // The whole text that the listing program prints, in a byte area; the areas for the list are on the
 // stack.
-ghost use Rattle.std.specs.Prelude.{◌≡◌, ℕ, ◌≤◌, ◌<◌, [], length, get_or};
+ghost use Rattle.std.specs.Prelude.{◌≡◌, ℕ, ◌≤◌, ◌<◌, [], length, get_or, IfOk};
 ghost use Rattle.io.specs.Counts.{IsPrefixLen};
 ghost use Rattle.sheet.specs.Refusals.{number_of, number_in};
 ghost use Rattle.shortest_path.specs.Outcome.{tested_number};
@@ -8,7 +8,7 @@ ghost use Rattle.decimals.specs.Stored.{Puts};
 ghost use Rattle.read_back.specs.Promise.{IsAnswer};
 ghost use Rattle.listing.specs.Printed.{sheet_most, list_most, text_most, listing_number, listed_text, printing_number, printing_text, printed};
 
-use crate::text::{Page, put_first_line, put_line, put_refused};
+use crate::text::{Page, put_first_line, put_line, refused_text};
 use decimals::write;
 use list_answer::Listed;
 use machine::climbing::Machine;
@@ -71,27 +71,27 @@ impl<'a> List<'a> {
     }
 
     // The text of the list.
-    fn put(&self, page: &mut Page)
-        requires { page.old ≡ [] }
-        ensures { page.new ≡ first_line (length (list_for (machine_for self.now.sheet.now) self.now.n)) self.now.made.taken ++ reading_lines (machine_for self.now.sheet.now) 1 (list_for (machine_for self.now.sheet.now) self.now.n) }
+    fn text(&self) -> Page
+        ensures { result ≡ first_line (length (list_for (machine_for self.now.sheet.now) self.now.n)) self.now.made.taken ++ reading_lines (machine_for self.now.sheet.now) 1 (list_for (machine_for self.now.sheet.now) self.now.n) }
     {
+        let mut page = Page::new();
         let (nodes, links) = (self.made.nodes, self.made.links);
         // nor is it refused how many they are
         if let Ok(count) = count_readings(self.res, self.n, nodes, links) {
-            put_first_line(page, count, self.made.taken);
+            put_first_line(&mut page, count, self.made.taken);
             for k in 0..count {
-                self.put_reading(k, page);
+                self.put_reading(k, &mut page);
             }
         }
+        page
     }
 }
 
-// The text for a sheet and an n that the areas are long enough for, on an empty page, or 1 to 7.
-fn put_few(sheet: &[u8], n: u32, page: &mut Page) -> Result<(), Refusal>
-    requires few { (n ≤ list_most) × (length sheet.now ≤ sheet_most) }
-    requires empty { page.old ≡ [] }
+// The text for a sheet and an n that the areas are long enough for, or 1 to 7.
+fn list_few(sheet: &[u8], n: u32) -> Result<Page, Refusal>
+    requires { (n ≤ list_most) × (length sheet.now ≤ sheet_most) }
     ensures number { number_in result ≡ listing_number n sheet.now }
-    ensures text { page.new ≡ listed_text n sheet.now }
+    ensures text { IfOk result (λ page. page ≡ listed_text n sheet.now) }
 {
     let mut work = [0u32; WORK];
     let mut result = [0u8; RESULT];
@@ -102,8 +102,7 @@ fn put_few(sheet: &[u8], n: u32, page: &mut Page) -> Result<(), Refusal>
         res: &result,
         made,
     };
-    list.put(page);
-    Ok(())
+    Ok(list.text())
 }
 
 // The refusal of an n that there are no areas for, after tests 1 to 7.
@@ -122,11 +121,10 @@ fn refusal(sheet: &[u8], n: u32) -> Refusal
     }
 }
 
-// The list of all that was read, one byte n and then a sheet, on an empty page, or why it is refused.
-fn put_list(read: &[u8], page: &mut Page) -> Result<(), Refusal>
-    requires { page.old ≡ [] }
+// The list of all that was read, one byte n and then a sheet, or why it is refused.
+fn list_read(read: &[u8]) -> Result<Page, Refusal>
     ensures number { number_in result ≡ printing_number read.now }
-    ensures text { page.new ≡ printing_text read.now }
+    ensures text { IfOk result (λ page. page ≡ printing_text read.now) }
 {
     let Some((first, sheet)) = read.split_first() else {
         return Err(Refusal::Layout);
@@ -138,7 +136,7 @@ fn put_list(read: &[u8], page: &mut Page) -> Result<(), Refusal>
     if LIST_MOST < n {
         return Err(refusal(sheet, n));
     }
-    put_few(sheet, n, page)
+    list_few(sheet, n)
 }
 
 // The text for all that was read, one byte n and then a sheet; answers its length.
@@ -147,9 +145,6 @@ pub fn print(read: &[u8], out: &mut [u8]) -> usize
     ensures puts { Puts out.old 0 (printed read.now) out.new result }
     ensures prefix_len { IsPrefixLen result out.new }
 {
-    let mut page = Page::new();
-    if let Err(refusal) = put_list(read, &mut page) {
-        put_refused(&mut page, refusal);
-    }
+    let page = list_read(read).unwrap_or_else(refused_text);
     write::put_text(out, 0, page.bytes())
 }

@@ -1,4 +1,5 @@
-// The lines of a listing: each function puts its text behind what a page holds already.
+// The lines of a listing: each function puts its text behind what a page holds already. By hand, and not
+// by Display: the clauses state the bytes.
 ghost use mathlib.Core.List.{flat_map};
 ghost use Rattle.std.specs.Prelude.{◌≡◌, ℕ, ◌+◌, ◌*◌, ◌≤◌, ◌<◌, ◌++◌, length, get_or};
 ghost use Rattle.sheet.specs.Refusals.{number_of};
@@ -17,9 +18,7 @@ pub fn put_cost(page: &mut Page, cost: i32)
     ensures text { page.new ≡ page.old ++ signed cost }
     ensures upper_bound { length page.new ≤ length page.old + 11 }
 {
-    if cost < 0 {
-        page.put_text(b"-");
-    }
+    page.put_sign(cost);
     page.put_decimal(cost.unsigned_abs());
 }
 
@@ -36,15 +35,15 @@ pub fn put_first_line(page: &mut Page, readings: u32, taken: u32)
     page.put_text(b"\n");
 }
 
-// The line of a refusal. Not by Display: the clause states the bytes.
-pub fn put_refused(page: &mut Page, refusal: Refusal)
-    requires { length page.old + 19 ≤ text_most }
-    ensures text { page.new ≡ page.old ++ refused_line (number_of refusal) }
-    ensures upper_bound { length page.new ≤ length page.old + 19 }
+// The text of a refusal, a line.
+pub fn refused_text(refusal: Refusal) -> Page
+    ensures { result ≡ refused_line (number_of refusal) }
 {
+    let mut page = Page::new();
     page.put_text(b"refused ");
     page.put_decimal(u32::from(refusal));
     page.put_text(b"\n");
+    page
 }
 
 // A label of a reading, after a space. Apart from the rows' number: a space stands before it here, a

@@ -25,6 +25,7 @@ use Rattle.sheet.proofs.Apart.{both}
 use Rattle.sheet.proofs.Below.{all_below-at, split_at, sum_mono, list_below-same}
 use Rattle.sheet.proofs.Fields.{read-fields, get_d_words}
 use Rattle.sheet.proofs.Round.{Below, word_lt}
+use Rattle.sheet.proofs.NodeSources.{next-first}
 use Rattle.sheet.proofs.Sources.{source_is, counts-sum, machine-links, machine-nodes, machine-final}
 use Rattle.machine.specs.Readings.{link, final}
 use Rattle.machine.specs.Climbs.{Climbs, Small}
@@ -57,10 +58,6 @@ pub record SheetFields (bytes : List ℕ) (T N : ℕ) (m : Machine) : Type 0 whe
   pub finals-are : list_below N (λ v. final_of (mark_at bytes T v) (final_at bytes T v)) ≡ m.finals
   pub final_value : (v : ℕ) → v < N → (mark_at bytes T v ≡ 0 → ⊥) → of_bits binary32 (final_at bytes T v) ≡ of_t unit (weight_of (final_at bytes T v))
   pub final-bits : Below 256 bytes → (v : ℕ) → v < N → (mark_at bytes T v ≡ 0 → ⊥) → bits_of (weight_of (final_at bytes T v)) ≡ final_at bytes T v
-
--- the links of the next node follow
-pub next-first : (bytes : List ℕ) (T v : ℕ) → first_link bytes T (suc v) ≡ first_link bytes T v + count_at bytes T v
-next-first bytes T v = unfold sum_below in refl
 
 -- ---- of an accepted sheet
 module _ (bytes : List ℕ) (accepted : input_number bytes ≡ 0) where

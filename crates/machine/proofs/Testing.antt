@@ -3,7 +3,7 @@ use mathlib.Core.Path.{◌≡◌, refl, sym, ap, ◌∙◌, subst}
 use mathlib.Core.Bool.{Bool, true, false, not, ◌&&◌, cond, and-true}
 use mathlib.Core.List.{List}
 use Prim.Native.Nat.{ℕ, zero, suc, ◌+◌, ◌*◌, ◌≤◌, ◌<◌}
-use native.Mathlib.Nat.{add-zero, le_refl, le_of_lt}
+use native.Mathlib.Nat.{add-zero, le_of_lt}
 use native.Mathlib.Omega.{arith}
 use lib.Dec.{leb, ltb, eqb}
 use lib.ListN.{length, get_or}
@@ -13,20 +13,20 @@ use Rattle.std.specs.Prelude.{Err}
 use Rattle.sheet.specs.declared.refusal.Refusal.{Refusal}
 use Rattle.sheet.specs.Below.{all_below, sum_below}
 use Rattle.sheet.specs.Words.{word}
-use Rattle.sheet.specs.Sheet.{node_count, count, next, parts_of, sizes_fit, start_fits, nexts_fit, weights_fit, verdict, read_number, stated_links, stated_nodes, nodes_fit}
+use Rattle.sheet.specs.Sheet.{node_count, count, next, parts_of, sizes_fit, start_fits, nexts_fit, weights_fit, verdict, read_number, stated_links, stated_nodes, nodes_fit, trailer_field}
 use Rattle.sheet.specs.Machine.{sources_below}
 use Rattle.sheet.specs.Records.{trailer_at}
 use Rattle.sheet.specs.Refusals.{number_of}
 use Rattle.sheet.specs.Answers.{tested}
 use Rattle.sheet.proofs.Refusals.{answer-err, refusal-told, number-positive}
-use Rattle.sheet.proofs.AcceptedSheet.{read-known}
+use Rattle.sheet.proofs.AcceptedSheet.{read-known, nodes-pass, trailer-stated}
+use Rattle.sheet.proofs.NodeSources.{first-total}
 use Rattle.sheet.proofs.Below.{all_below-same, sum_below-same}
 use Rattle.sheet.proofs.Fields.{read-fields, length-read, read_fits}
 use Rattle.sheet.proofs.Below.{sum_mono}
 use Rattle.sheet.proofs.Sources.{source_is, counts-sum}
 use Rattle.machine.specs.Input.{counts_fit, links_climb, bounds_number, input_number}
 use Rattle.machine.specs.Answers.{nodes_climb, input_answer}
-use Rattle.machine.proofs.Accepted.{verdict-passes}
 
 -- ---- a test over a sum of counts, count by count
 pub all_split : (a b : ℕ) (q : ℕ → Bool) → all_below (a + b) q ≡ all_below a q && all_below b (λ i. q (a + i))
@@ -96,16 +96,14 @@ module _ (bytes : List ℕ) where
 
     nodes-fit : nodes_fit (parts_of bytes) ≡ true
     unfolding read_number
-    nodes-fit = (verdict-passes (sizes_fit bytes) (parts_of bytes) read).1
+    nodes-fit = nodes-pass (sizes_fit bytes) (parts_of bytes) read
 
     pub counts-words : (v : ℕ) → v ≤ node_count (parts_of bytes) → sum_below v (count (parts_of bytes)) ≡ sum_below v (λ u. word bytes (16 * stated_links bytes + 12 * u))
     counts-words v h = sum_below-same v (count (parts_of bytes)) (λ u. word bytes (16 * stated_links bytes + 12 * u)) (λ u k. (read-fields bytes).count-is u (omega (arith, (read-fields bytes).nodes-are)))
 
     -- the counts add up to the links
     pub counts-total : sum_below (stated_nodes bytes) (λ u. word bytes (16 * stated_links bytes + 12 * u)) ≡ stated_links bytes
-    counts-total =
-        ap (λ (n : ℕ). sum_below n (λ u. word bytes (16 * stated_links bytes + 12 * u))) (sym (read-fields bytes).nodes-are)
-        ∙ sym (counts-words (node_count (parts_of bytes)) (le_refl (node_count (parts_of bytes)))) ∙ counts-sum (parts_of bytes) nodes-fit ∙ (read-fields bytes).links-are
+    counts-total = first-total bytes (stated_links bytes) (stated_nodes bytes) (trailer_field bytes 4) read (trailer-stated bytes read)
 
     -- one link of node v, by its place among them
     one_link : (v i : ℕ) → v < node_count (parts_of bytes) → i < count (parts_of bytes) v

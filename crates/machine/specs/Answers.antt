@@ -8,10 +8,13 @@ use Rattle.sheet.specs.Words.{word}
 use Rattle.sheet.specs.Records.{count_at, first_link, trailer_at}
 use Rattle.machine.specs.Input.{input_number}
 
--- links that climb, node by node: node v's links begin where those of the nodes before it end
+-- whether the links of node v climb: they begin where those of the nodes before it end
+abbrev pub node_climbs : List ℕ → ℕ → ℕ → Bool
+node_climbs bytes links v = all_below (count_at bytes links v) (λ i. ltb v (word bytes (16 * (first_link bytes links v + i) + 12)))
+
+-- links that climb, node by node
 abbrev pub nodes_climb : List ℕ → ℕ → ℕ → Bool
-nodes_climb bytes links nodes =
-    all_below nodes (λ v. all_below (count_at bytes links v) (λ i. ltb v (word bytes (16 * (first_link bytes links v + i) + 12))))
+nodes_climb bytes links nodes = all_below nodes (node_climbs bytes links)
 
 -- tests 1 to 6: the trailer, or the refusal of the number
 abbrev pub input_answer : List ℕ → Result Trailer Refusal

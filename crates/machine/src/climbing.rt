@@ -1,13 +1,13 @@
 // A machine that a call works on: a sheet that has passed tests 1 to 6.
-ghost use Rattle.std.specs.Prelude.{◌≡◌, ◌+◌, ◌*◌, ◌≤◌, ltb, IfOk};
+ghost use Rattle.std.specs.Prelude.{◌≡◌, IfOk};
 ghost use Rattle.sheet.specs.Refusals.{number_in};
-ghost use Rattle.sheet.specs.Below.{all_below};
-ghost use Rattle.sheet.specs.Words.{word as word_at};
 ghost use Rattle.machine.specs.Input.{input_number};
-ghost use Rattle.machine.specs.Answers.{nodes_climb};
+ghost use Rattle.machine.specs.Answers.{node_climbs, nodes_climb};
 
+use crate::limits::within_limits;
 use sheet::accepted::Sheet;
 use sheet::refusal::Refusal;
+use sheet::source::{Source, Sources};
 
 #[derive(Clone, Copy)]
 pub struct Machine<'a> {
@@ -15,13 +15,12 @@ pub struct Machine<'a> {
     pub ghost climbs: { input_number sheet.bytes.now ≡ 0 },
 }
 
-// Whether the links from one number on, so many of them, lead above node v.
-fn node_climbs(sheet: &Sheet, first: u32, count: u32, v: u32) -> bool
-    requires { first + count ≤ sheet.now.links }
-    ensures { result ≡ all_below count (λ i. ltb v (word_at sheet.now.bytes.now (16 * (first + i) + 12))) }
+// Whether each link of a node leads to a higher one.
+fn node_climbs(source: &Source) -> bool
+    ensures { result ≡ node_climbs source.now.sheet.bytes.now source.now.sheet.links source.now.node }
 {
-    for i in 0..count {
-        if sheet.next(first + i) <= v {
+    for i in 0..source.count() {
+        if source.sheet.next(source.first + i) <= source.node {
             return false;
         }
     }
@@ -32,13 +31,10 @@ fn node_climbs(sheet: &Sheet, first: u32, count: u32, v: u32) -> bool
 fn links_climb(sheet: &Sheet) -> bool
     ensures { result ≡ nodes_climb sheet.now.bytes.now sheet.now.links sheet.now.nodes }
 {
-    let mut first = 0u32;
-    for v in 0..sheet.nodes {
-        let count = sheet.count(v);
-        if !node_climbs(sheet, first, count, v) {
+    for source in Sources::new(sheet) {
+        if !node_climbs(&source) {
             return false;
         }
-        first += count;
     }
     true
 }
@@ -50,12 +46,7 @@ impl<'a> Machine<'a> {
         ensures same { IfOk result (λ m. m.sheet.bytes ≡ bytes.entry) }
     {
         let sheet = Sheet::new(bytes)?;
-        if tropical_weight::NODE_LIMIT < (sheet.nodes as usize) {
-            return Err(Refusal::Limits);
-        }
-        if tropical_weight::LINK_LIMIT < (sheet.links as usize) {
-            return Err(Refusal::Limits);
-        }
+        within_limits(sheet.nodes, sheet.links)?;
         if !links_climb(&sheet) {
             return Err(Refusal::Climb);
         }

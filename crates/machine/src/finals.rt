@@ -4,7 +4,7 @@ ghost use Rattle.machine.specs.Finals.{final_count};
 
 use sheet::words::word;
 
-// How many of the nodes have mark 1, of any bytes that hold so many links and nodes.
+// How many of the nodes have mark 1. Of any bytes: a public function, which asks for no accepted sheet.
 pub fn count_finals(sheet: &[u8], links: u32, nodes: u32) -> u32
     requires { 16 * links + 12 * nodes ≤ length sheet.now }
     ensures { (result ≡ final_count sheet.now links nodes) × (result ≤ nodes) }

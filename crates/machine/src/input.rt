@@ -6,7 +6,8 @@ use crate::climbing::Machine;
 use sheet::refusal::Refusal;
 use sheet::tr::{Trailer, trailer_of};
 
-// Tests 1 to 6 of a byte string as a sheet.
+// Tests 1 to 6 of a byte string as a sheet. No call of the library: a public function, as the documents have
+// it; calls go by Machine.
 pub fn input(sheet: &[u8]) -> Result<Trailer, Refusal>
     ensures { result ≡ input_answer sheet.now }
 {

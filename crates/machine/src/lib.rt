@@ -3,5 +3,7 @@
 #![tactic(auto)]
 
 pub mod climbing;
+pub mod counted;
 pub mod finals;
 pub mod input;
+pub mod limits;

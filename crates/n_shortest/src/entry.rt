@@ -3,47 +3,59 @@ ghost use Rattle.std.specs.Prelude.{◌≡◌, ◌+◌, ◌*◌, ◌<◌, length
 ghost use Rattle.tropical_weight.specs.Single.{Number};
 ghost use Rattle.slots.specs.Slots.{nothing};
 ghost use Rattle.search_slots.specs.Slots.{rank_word};
+ghost use Rattle.n_shortest.specs.HeapWords.{half_first};
 ghost use Rattle.n_shortest.specs.EntryWords.{node_of, cost_of, rank_w, Inside, entry_w, rank_of, stored};
 
 use search_slots::{COST, FROM, INPUT, RANK};
 use slots::{NOTHING, SLOT};
 
-// An entry is half-built, with a node and a cost, or finished, with a cost.
+// An entry is half-built, with a node and a cost, or finished, with a cost: document 01's own enum, and no
+// Option, since both have a cost.
 #[derive(Clone, Copy)]
 pub enum Entry {
     Half(u32, f32),
     Finished(f32),
 }
 
-// How a finished entry is stored is known here and in `entry_at` alone.
-fn node_of(e: Entry) -> u32
-    ensures { result ≡ node_of e }
-{
-    match e {
-        Entry::Half(v, _) => v,
-        Entry::Finished(_) => NOTHING,
-    }
-}
-
-fn cost_of(e: Entry) -> f32
-    ensures { result ≡ cost_of e }
-{
-    match e {
-        Entry::Half(_, c) | Entry::Finished(c) => c,
-    }
-}
-
-// Distance plus cost, infinite where the node is unreached.
-fn rank(part: &[u32], nodes: usize, e: Entry) -> f32
-    requires { Inside part.now nodes e }
-    ensures { result ≡ rank_w part.now nodes e }
-{
-    match e {
-        Entry::Half(v, c) => {
-            let d = distance::distance_at(part, nodes + SLOT * (v as usize));
-            tropical_weight::times(distance::as_weight(d), c)
+impl Entry {
+    // The word of its node. How a finished entry is stored is known here and in `entry_at` alone.
+    fn node(self) -> u32
+        ensures { result ≡ node_of self }
+    {
+        match self {
+            Entry::Half(v, _) => v,
+            Entry::Finished(_) => NOTHING,
         }
-        Entry::Finished(c) => c,
+    }
+
+    fn cost(self) -> f32
+        ensures { result ≡ cost_of self }
+    {
+        match self {
+            Entry::Half(_, c) | Entry::Finished(c) => c,
+        }
+    }
+
+    // Whether it is half-built and another finished.
+    pub fn half_first(self, other: Entry) -> bool
+        ensures { result ≡ half_first self other }
+    {
+        matches!((self, other), (Entry::Half(_, _), Entry::Finished(_)))
+    }
+
+    // Distance plus cost, infinite where the node is unreached. The words of the nodes go along, since what
+    // a search keeps of them does not hold while an entry is put in.
+    fn rank(self, part: &[u32], nodes: usize) -> f32
+        requires { Inside part.now nodes self }
+        ensures { result ≡ rank_w part.now nodes self }
+    {
+        match self {
+            Entry::Half(v, c) => {
+                let d = distance::distance_at(part, nodes + SLOT * (v as usize));
+                tropical_weight::times(distance::as_weight(d), c)
+            }
+            Entry::Finished(c) => c,
+        }
     }
 }
 
@@ -77,9 +89,9 @@ pub fn store(part: &mut [u32], nodes: usize, i: u32, e: Entry, from: u32, input:
     ensures { part.new ≡ stored part.old nodes i e from (unwrap_or input nothing) }
 {
     let at = SLOT * (i as usize);
-    let rank = tropical_weight::to_number_bits(rank(part, nodes, e));
-    part[at] = node_of(e);
-    part[at + COST] = tropical_weight::to_bits(cost_of(e));
+    let rank = tropical_weight::to_number_bits(e.rank(part, nodes));
+    part[at] = e.node();
+    part[at + COST] = tropical_weight::to_bits(e.cost());
     part[at + FROM] = from;
     part[at + INPUT] = input.unwrap_or(NOTHING);
     part[at + RANK] = rank;

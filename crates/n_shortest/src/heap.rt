@@ -1,20 +1,12 @@
 // The heap of a search (shortest_path.rs of rustfst): numbers of entries, in a word of each slot.
-// It stays functions over the part: its length is another while it is sifted, so a struct of both would
-// be plainer in none of them. The sifts are recursions, as their definitions are.
+// It stays functions over the part: its length is another at each call, and while an entry is put in or
+// removed, so a struct of both would be plainer in none of them. The sifts are recursions, as their definitions are.
 ghost use Rattle.std.specs.Prelude.{◌≡◌, ◌+◌, ◌-◌, ◌*◌, ◌≤◌, ◌<◌, length};
-ghost use Rattle.n_shortest.specs.HeapWords.{Comparable, HeapFits, half_first, less_w, swap_w, sift_up_w, child_w, sift_down_w, push_w, pop_w};
+ghost use Rattle.n_shortest.specs.HeapWords.{Comparable, HeapFits, less_w, swap_w, sift_up_w, child_w, sift_down_w, push_w, pop_w};
 
 use crate::entry;
-use crate::entry::Entry;
 use search_slots::PLACE;
 use slots::SLOT;
-
-// Whether a is half-built and b finished.
-fn half_first(a: Entry, b: Entry) -> bool
-    ensures { result ≡ half_first a b }
-{
-    matches!((a, b), (Entry::Half(_, _), Entry::Finished(_)))
-}
 
 // Whether entry a comes before entry b: by rank, and on equal rank half-built before finished.
 // Not Ord: ranks are floats that lie in the part, compared as the Rust does.
@@ -31,15 +23,18 @@ fn less(part: &[u32], a: u32, b: u32) -> bool
     if tropical_weight::natural_less(y, x) {
         return false;
     }
-    half_first(entry::entry_at(part, a), entry::entry_at(part, b))
+    entry::entry_at(part, a).half_first(entry::entry_at(part, b))
 }
 
-// Swaps what stands at two places.
+// Swaps what stands at two places. By hand: the library's swap compares the two indices first, and where many
+// entries tie a list took a tenth more by it.
 fn swap(part: &mut [u32], i: usize, j: usize)
     requires { (8 * i + 5 < length part.old) × (8 * j + 5 < length part.old) }
     ensures { part.new ≡ swap_w part.old i j }
 {
-    part.swap(SLOT * i + PLACE, SLOT * j + PLACE);
+    let x = part[SLOT * i + PLACE];
+    part[SLOT * i + PLACE] = part[SLOT * j + PLACE];
+    part[SLOT * j + PLACE] = x;
 }
 
 // Up from place i: swapped with the parent where it comes before it, and again from there.
@@ -101,7 +96,9 @@ pub fn push(part: &mut [u32], len: usize, x: u32)
     sift_up(part, len);
 }
 
-// Removes the head of a heap of len: the last goes to the root, and then down.
+// Removes the head of a heap of len: the last goes to the root, and then down. Not inlined: its loop has the
+// registers to itself so, and a search where many entries tie took a tenth more without it.
+#[inline(never)]
 #[tactic(auto, unfolding(crate::specs::HeapWords::pop_w))]
 pub fn pop(part: &mut [u32], len: usize)
     requires { HeapFits part.old len × (0 < len) }

@@ -36,11 +36,11 @@ pub struct Places {
 fn input_of(inputs: u32, k: u32) -> Option<u32>
     ensures { unwrap_or result nothing ≡ repeated inputs k }
 {
-    if k < inputs { Some(k) } else { None }
+    (k < inputs).then_some(k)
 }
 
 // A reversed link: the node that it leads to, its weight, and the link that comes next out of the same
-// node: a number, not an Option, since it stands in a word of the slot, as the definition of a chain has it.
+// node: a number, as the definition of a chain goes by the word, and an Option would be put back into it there.
 #[derive(Clone, Copy)]
 struct Link {
     next: u32,

@@ -1,5 +1,6 @@
 // Links, and pairs of links of two machines, as single numbers: sorting these puts links by label, and
-// pairs in the order of the product's links. They stay numbers: the areas that they lie in are lent as words.
+// pairs in the order of the product's links. They stay numbers, which the library sorts by their order, and
+// lie in areas of fixed memory; a type around each would be opened at every key.
 ghost use Rattle.std.specs.Prelude.{◌≡◌, ◌^◌, ◌<◌};
 ghost use Rattle.tropical_weight.specs.Limits.{node_limit, link_limit};
 ghost use Rattle.product.specs.Keys.{link_key, key_label, key_node, key_link, pair_key, pair_node, pair_first, pair_second};

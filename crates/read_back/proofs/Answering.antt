@@ -307,13 +307,21 @@ module _ (sheet : List ℕ) (n : ℕ) (result : List ℕ) (nodes links k : ℕ) 
 -- ---- all that the call promises
 module _ (sheet : List ℕ) (below : Below 256 sheet) (n : ℕ) (result : List ℕ) (nodes links k : ℕ) (old : List ℕ) where
   abbrev pub Answered : Result Told Refusal → List ℕ → Type 0
-  Answered told run =
-      (told ≡ reading_answer sheet n result nodes links k (length old))
-      × ((run ≡ run_after sheet n result nodes links k old) × (ReadsList sheet n result nodes links k old told run × TellsTrue (machine sheet) told run))
+  Answered told run = record {
+    value : told ≡ reading_answer sheet n result nodes links k (length old);
+    run_new : run ≡ run_after sheet n result nodes links k old;
+    reads_list : ReadsList sheet n result nodes links k old told run;
+    tells_true : TellsTrue (machine sheet) told run;
+  }
 
   -- from the two equations
   whole : (told : Result Told Refusal) (run : List ℕ) → told ≡ reading_answer sheet n result nodes links k (length old) → run ≡ run_after sheet n result nodes links k old → Answered told run
-  whole told run e s = (e, (s, (reads-list sheet below n result nodes links k old told run e s, tells-true sheet n result nodes links k old told run e s)))
+  whole told run e s = record {
+    value = e;
+    run_new = s;
+    reads_list = reads-list sheet below n result nodes links k old told run e s;
+    tells_true = tells-true sheet n result nodes links k old told run e s;
+  }
 
   -- refused by its number
   pub answered : (r : Refusal) → reading_number sheet n result nodes links k (length old) ≡ number_of r → Answered (Err r) old

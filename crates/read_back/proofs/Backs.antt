@@ -32,7 +32,6 @@ use Rattle.search.proofs.Readback.{input_of, Fits, links-long, nodes-long, link_
 use Rattle.search.proofs.BackOne.{OneFits, words_are, best-storable, best-back}
 use Rattle.search.proofs.BackOne as One
 use Rattle.search.proofs.Lists.{list_in, Accepted, fits, one-fits, some-listed, demand-result}
-use Rattle.list_machine.specs.TrimWords.{node_words}
 use Rattle.list_machine.proofs.Writings.{nodes-is}
 use Rattle.read_back.specs.Way.{next_at, told, told_before, answer_bytes, number_at, start_links, count_in, start_state, only_link, way_from, way_of}
 use Rattle.read_back.proofs.Ways.{told_none, told-some, way_end, way_next}
@@ -169,7 +168,6 @@ module _ (m : Machine) (s : Search) (w : Numbered s) (x : Fits m s) (rest : List
   storable = list-storable m s w x
 
   starts : start_links many_bytes states total ≡ length s.listed
-  unfolding node_words
   starts = starts-at many storable rest (omega (arith, nodes-long m s)) ∙ ap (λ (ns : List ℕ). get_or ns 0 0) (nodes-is m s)
 
   start-next : (k : ℕ) → k < length s.listed → next_at many_bytes k ≡ state_of s (get_or s.listed k 0)

@@ -21,13 +21,15 @@ use Rattle.sheet.specs.Below.{sum_below}
 use Rattle.sheet.specs.declared.tr.Trailer.{Trailer}
 use Rattle.sheet.specs.Sheet.{no_start, barred_bits}
 use Rattle.sheet.specs.Records.{count_at, mark_at, final_at, first_link}
+use Rattle.sheet.specs.Accepted.{ending_at}
 use Rattle.sheet.specs.Machine.{Machine, machine, weight_of}
 use Rattle.sheet.proofs.Apart.{both}
 use Rattle.sheet.proofs.Below.{split_at}
+use Rattle.sheet.proofs.NodeSources.{first-within}
 use Rattle.machine.specs.declared.climbing.Machine.{Machine as Climbing}
 use Rattle.machine.specs.Readings.{link, final, final_weight, node_or, IsRun, run_cost, IsReading, reading_of, reading_cost, end_from}
 use Rattle.machine.proofs.Runs.{run_ends}
-use Rattle.machine.proofs.SheetFields.{SheetFields, sheet-fields, next-first, first-in, marked-final, unmarked-final}
+use Rattle.machine.proofs.SheetFields.{SheetFields, sheet-fields, marked-final, unmarked-final}
 use Rattle.read_back.specs.declared.walk.Walk.{Walk}
 use Rattle.read_back.specs.Way.{told_before, number_told}
 use Rattle.read_back.specs.Follows.{leaves, goes_by, follows, is_ending, ends_at, ends_from, reads_to}
@@ -126,11 +128,11 @@ module _ (m : Machine) where
       ∙ ap (λ (b : Bool). ended_by count (number ∷ way) (ends_at m (cond b (follows m (link m number).next way) none))) e
 
   -- where a walk has come to, and by what is left
-  pub goes-off : (u count l : ℕ) → goes_by m u l ≡ false → goes_to m u count (Some l) ≡ none
-  goes-off u count l e = ap (λ (b : Bool). cond b (some (count + 1, (link m l).next)) none) e
+  pub goes-off : (u count l : ℕ) (told : Maybe ℕ) → told ≡ Some l → goes_by m u l ≡ false → goes_to m u count told ≡ none
+  goes-off u count l told is e = ap (goes_to m u count) is ∙ ap (λ (b : Bool). cond b (some (count + 1, (link m l).next)) none) e
 
-  pub goes-on : (u count l : ℕ) → goes_by m u l ≡ true → goes_to m u count (Some l) ≡ some (count + 1, (link m l).next)
-  goes-on u count l e = ap (λ (b : Bool). cond b (some (count + 1, (link m l).next)) none) e
+  pub goes-on : (u count l : ℕ) (told : Maybe ℕ) → told ≡ Some l → goes_by m u l ≡ true → goes_to m u count told ≡ some (count + 1, (link m l).next)
+  goes-on u count l told is e = ap (goes_to m u count) is ∙ ap (λ (b : Bool). cond b (some (count + 1, (link m l).next)) none) e
 
   abbrev pub outcome_from : Option (ℕ × ℕ) → Option (List ℕ) → Option (ℕ × ℕ)
   outcome_from none o = none
@@ -140,8 +142,8 @@ module _ (m : Machine) where
   outcome-goes u count l o = go (ℕ_discrete l no_start)
     where
       by : (l ≡ no_start → ⊥) → (b : Bool) → goes_by m u l ≡ b → outcome m u count (told_before l o) ≡ outcome_from (goes_to m u count (number_told l)) o
-      by d true e = outcome-on u count l o d e ∙ ap (λ (p : Option (ℕ × ℕ)). outcome_from p o) (sym (ap (goes_to m u count) (number-some l d) ∙ goes-on u count l e))
-      by d false e = outcome-off u count l o d e ∙ ap (λ (p : Option (ℕ × ℕ)). outcome_from p o) (sym (ap (goes_to m u count) (number-some l d) ∙ goes-off u count l e))
+      by d true e = outcome-on u count l o d e ∙ ap (λ (p : Option (ℕ × ℕ)). outcome_from p o) (sym (goes-on u count l (number_told l) (number-some l d) e))
+      by d false e = outcome-off u count l o d e ∙ ap (λ (p : Option (ℕ × ℕ)). outcome_from p o) (sym (goes-off u count l (number_told l) (number-some l d) e))
 
       go : Dec (l ≡ no_start) → outcome m u count (told_before l o) ≡ outcome_from (goes_to m u count (number_told l)) o
       go (yes e) = outcome-none u count l o e ∙ ap (λ (p : Option (ℕ × ℕ)). outcome_from p o) (sym (ap (goes_to m u count) (number-none l e)))
@@ -163,6 +165,11 @@ finite-bits bits = go (eqb bits barred_bits)
     go true = refl
     go false = refl
 
+-- the test of a final weight's field, where there is one
+abbrev pub ends_by : Maybe ℕ → Bool
+ends_by None = false
+ends_by (Some bits) = not (eqb bits barred_bits)
+
 -- a number below a sum is in one of its parts
 pub record InPart (f : ℕ → ℕ) (n l : ℕ) : Type 0 where
   pub at : ℕ
@@ -182,75 +189,71 @@ in-part f (suc n) l h = elim (split_at l (sum_below n f)) [
 pub fields_in : (m : Climbing) → SheetFields m.sheet.bytes.now m.sheet.links m.sheet.nodes (machine m.sheet.bytes.now)
 fields_in m = subst (λ (t : Trailer). SheetFields m.sheet.bytes.now t.links t.nodes (machine m.sheet.bytes.now)) (sym m.sheet.stated) (sheet-fields m.sheet.bytes.now m.climbs)
 
--- the links of a node end before the next one's
-pub first-next : (c : Climbing) (v : ℕ) → v < c.sheet.nodes → first_link c.sheet.bytes.now c.sheet.links v + count_at c.sheet.bytes.now c.sheet.links v ≤ c.sheet.links
-first-next c v h = omega (arith, next-first c.sheet.bytes.now c.sheet.links v, first-in (fields_in c) (suc v) h)
-
 module _ (w : Walk) where
   abbrev sheet : List ℕ
-  sheet = w.machine.sheet.bytes.now
+  sheet = w.at.sheet.bytes.now
 
   abbrev m : Machine
-  m = machine w.machine.sheet.bytes.now
+  m = machine w.at.sheet.bytes.now
 
   abbrev T : ℕ
-  T = w.machine.sheet.links
+  T = w.at.sheet.links
 
-  f : SheetFields sheet w.machine.sheet.links w.machine.sheet.nodes (machine sheet)
-  f = fields_in w.machine
+  f : SheetFields sheet w.at.sheet.links w.at.sheet.nodes (machine sheet)
+  f = fields_in (record { sheet = w.at.sheet; climbs = w.climbs })
 
   -- its node's links are those from its first on
-  pub part_end : w.first + count_at sheet w.machine.sheet.links w.at ≤ w.machine.sheet.links
-  part_end = omega (arith, w.first_is, next-first sheet T w.at, first-in f (suc w.at) w.inside)
+  part_end : w.at.first + count_at sheet T w.at.node ≤ T
+  part_end = omega (arith, w.at.begins, first-within sheet T w.at.sheet.nodes w.at.sheet.start w.at.sheet.accepted w.at.sheet.stated w.at.node w.at.inside)
 
-  pub leaves-here : (l : ℕ) → w.first ≤ l → l < w.first + count_at sheet w.machine.sheet.links w.at → leaves (machine sheet) w.at l ≡ true
-  leaves-here l a b = leaves_of m w.at l (omega (arith, part_end, f.links-are)) (f.source-at w.at l w.inside (omega (arith, w.first_is)) (omega (arith, w.first_is)))
+  pub leaves-here : (l : ℕ) → w.at.first ≤ l → l < w.at.first + count_at sheet w.at.sheet.links w.at.node → leaves (machine sheet) w.at.node l ≡ true
+  leaves-here l a b = leaves_of m w.at.node l (omega (arith, part_end, f.links-are)) (f.source-at w.at.node l w.at.inside (omega (arith, w.at.begins)) (omega (arith, w.at.begins)))
 
-  leaves_in : (l : ℕ) → leaves m w.at l ≡ true → (w.first ≤ l) × (l < w.first + count_at sheet T w.at)
+  leaves_in : (l : ℕ) → leaves m w.at.node l ≡ true → (w.at.first ≤ l) × (l < w.at.first + count_at sheet T w.at.node)
   leaves_in l e =
-      let p = leaves-parts m w.at l e in
-      let q = in-part (count_at sheet T) w.machine.sheet.nodes l (omega (arith, p.0, f.links-are, f.counted)) in
-      let same : q.at ≡ w.at = sym (f.source-at q.at l q.inside q.from q.to) ∙ p.1 in
-      (omega (arith, q.from, w.first_is, ap (first_link sheet T) same), omega (arith, q.to, w.first_is, ap (first_link sheet T) same, ap (count_at sheet T) same))
+      let p = leaves-parts m w.at.node l e in
+      let q = in-part (count_at sheet T) w.at.sheet.nodes l (omega (arith, p.0, f.links-are, f.counted)) in
+      let same : q.at ≡ w.at.node = sym (f.source-at q.at l q.inside q.from q.to) ∙ p.1 in
+      (omega (arith, q.from, w.at.begins, ap (first_link sheet T) same), omega (arith, q.to, w.at.begins, ap (first_link sheet T) same, ap (count_at sheet T) same))
 
-  pub leaves_none : (l : ℕ) → ((w.first ≤ l) → (l < w.first + count_at sheet w.machine.sheet.links w.at) → ⊥) → leaves (machine sheet) w.at l ≡ false
-  leaves_none l d = go (leaves m w.at l) refl
+  pub leaves_none : (l : ℕ) → ((w.at.first ≤ l) → (l < w.at.first + count_at sheet w.at.sheet.links w.at.node) → ⊥) → leaves (machine sheet) w.at.node l ≡ false
+  leaves_none l d = go (leaves m w.at.node l) refl
     where
-      go : (b : Bool) → leaves m w.at l ≡ b → b ≡ false
+      go : (b : Bool) → leaves m w.at.node l ≡ b → b ≡ false
       go true e = let p = leaves_in l e in absurd (d p.0 p.1)
       go false e = refl
 
   -- ---- whether it goes by a link
-  pub goes-here : (l : ℕ) → w.first ≤ l → l < w.first + count_at sheet w.machine.sheet.links w.at → (word sheet (16 * l + 8) ≡ barred_bits → ⊥) → goes_by (machine sheet) w.at l ≡ true
+  pub goes-here : (l : ℕ) → w.at.first ≤ l → l < w.at.first + count_at sheet w.at.sheet.links w.at.node → (word sheet (16 * l + 8) ≡ barred_bits → ⊥) → goes_by (machine sheet) w.at.node l ≡ true
   goes-here l a b d =
       let passable : is_finite (link m l).weight ≡ true = ap is_finite (sym (f.weight-at l (omega (arith, part_end)))) ∙ finite-bits (word sheet (16 * l + 8)) ∙ ap not (ne_eqb (word sheet (16 * l + 8)) barred_bits d) in
       λ i. leaves-here l a b i && passable i
 
-  pub goes_none : (l : ℕ) → ((w.first ≤ l) → (l < w.first + count_at sheet w.machine.sheet.links w.at) → ⊥) → goes_by (machine sheet) w.at l ≡ false
+  pub goes_none : (l : ℕ) → ((w.at.first ≤ l) → (l < w.at.first + count_at sheet w.at.sheet.links w.at.node) → ⊥) → goes_by (machine sheet) w.at.node l ≡ false
   goes_none l d = ap (λ (b : Bool). b && is_finite (link m l).weight) (leaves_none l d)
 
-  pub goes-barred : (l : ℕ) → w.first ≤ l → l < w.first + count_at sheet w.machine.sheet.links w.at → word sheet (16 * l + 8) ≡ barred_bits → goes_by (machine sheet) w.at l ≡ false
+  pub goes-barred : (l : ℕ) → w.at.first ≤ l → l < w.at.first + count_at sheet w.at.sheet.links w.at.node → word sheet (16 * l + 8) ≡ barred_bits → goes_by (machine sheet) w.at.node l ≡ false
   goes-barred l a b e =
       let shut : is_finite (link m l).weight ≡ false = ap is_finite (sym (f.weight-at l (omega (arith, part_end)))) ∙ finite-bits (word sheet (16 * l + 8)) ∙ ap not (eq-eqb (word sheet (16 * l + 8)) barred_bits e) in
       λ i. leaves-here l a b i && shut i
 
   -- what a link that leaves its node gives
   pub record OnBy (l : ℕ) : Type 0 where
-    pub link-in : l < w.machine.sheet.links
+    pub link-in : l < w.at.sheet.links
     pub next-is : word sheet (16 * l + 12) ≡ (link (machine sheet) l).next
-    pub rises : w.at < (link (machine sheet) l).next
-    pub inside : (link (machine sheet) l).next < w.machine.sheet.nodes
+    pub rises : w.at.node < (link (machine sheet) l).next
+    pub inside : (link (machine sheet) l).next < w.at.sheet.nodes
 
-  pub on-by : (l : ℕ) → leaves (machine sheet) w.at l ≡ true → OnBy l
+  pub on-by : (l : ℕ) → leaves (machine sheet) w.at.node l ≡ true → OnBy l
   on-by l e =
-      let p = leaves-parts m w.at l e in
+      let p = leaves-parts m w.at.node l e in
       let b : l < T = omega (arith, p.0, f.links-are) in
       record { link-in = b; next-is = f.next-at l b; rises = omega (arith, f.climbs.rises l p.0, p.1); inside = f.next-in l b }
 
   -- ---- whether a reading may end at its node
-  pub ends-unmarked : (mark : ℕ) → mark ≡ mark_at sheet w.machine.sheet.links w.at → mark ≡ 0 → is_ending (final (machine sheet) w.at) ≡ false
-  ends-unmarked mark e z = ap is_ending (unmarked-final f w.at w.inside (λ y. omega (arith, y, e, z)))
-
-  pub ends-marked : (mark bits : ℕ) → mark ≡ mark_at sheet w.machine.sheet.links w.at → bits ≡ final_at sheet w.machine.sheet.links w.at → (mark ≡ 0 → ⊥) → not (eqb bits barred_bits) ≡ is_ending (final (machine sheet) w.at)
-  ends-marked mark bits e z d =
-      ap (λ (b : ℕ). not (eqb b barred_bits)) z ∙ sym (finite-bits (final_at sheet T w.at)) ∙ sym (ap is_ending (marked-final f w.at w.inside (λ y. d (e ∙ y))))
+  pub ending-is : (o : Maybe ℕ) → o ≡ ending_at sheet w.at.sheet.links w.at.node → ends_by o ≡ is_ending (final (machine sheet) w.at.node)
+  ending-is o e = ap ends_by e ∙ go (eqb (mark_at sheet T w.at.node) 0) ∙ ap is_ending (sym (f.final-at w.at.node w.at.inside))
+    where
+      go : (b : Bool) → ends_by (cond b None (Some (final_at sheet T w.at.node))) ≡ is_ending (cond b none (some (weight_of (final_at sheet T w.at.node))))
+      go true = refl
+      go false = sym (finite-bits (final_at sheet T w.at.node))

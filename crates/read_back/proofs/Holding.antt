@@ -9,9 +9,11 @@ use native.Mathlib.Omega.{arith}
 use lib.IntN.{ℤ}
 use lib.ListN.{length, take}
 use lib.Seq.{sets, length-sets}
-use borrow.Author.Tests.{eq-eqb, ne_eqb}
+use native.Mathlib.Decide.{ℕ_discrete}
+use borrow.Author.Tests.{eq-eqb, ne_eqb, lt-ltb}
 use Rattle.tropical_weight.specs.Tropical.{fin}
 use Rattle.sheet.specs.declared.tr.Trailer.{Trailer}
+use Rattle.sheet.specs.Accepted.{start_in}
 use Rattle.sheet.specs.Sheet.{no_start, parts_of, trailer_field}
 use Rattle.sheet.specs.Machine.{Machine, machine, machine_of}
 use Rattle.machine.specs.declared.climbing.Machine.{Machine as Climbing}
@@ -46,15 +48,15 @@ module _ (m : Machine) where
         go none e y = ap (run_by run) e
         go (some v) e y = let q : ◌≡◌ {A = ℕ} 0 1 = cc in absurd (omega arith)
 
-    pub held_by : (w : Walk) (o : Option (List ℕ)) → outcome m s 0 o ≡ some (w.count, w.at) → Follows m o w
+    pub held_by : (w : Walk) (o : Option (List ℕ)) → outcome m s 0 o ≡ some (w.count, w.at.node) → Follows m o w
     held_by w none f = let q : ◌≡◌ {A = ℕ} 0 1 = cc in absurd (omega arith)
     held_by w (some run) f = go (reads run) (same run) f
       where
-        go : (x : Option ℕ) → reads_to m run ≡ x → ended_by 0 run x ≡ some (w.count, w.at) → Follows m (some run) w
+        go : (x : Option ℕ) → reads_to m run ≡ x → ended_by 0 run x ≡ some (w.count, w.at.node) → Follows m (some run) w
         go none e y = let q : ◌≡◌ {A = ℕ} 0 1 = cc in absurd (omega arith)
         go (some v) e y =
             let r = reads-is m run v e in
-            let z : (0 + length run, v) ≡ (w.count, w.at) = cc in
+            let z : (0 + length run, v) ≡ (w.count, w.at.node) = cc in
             record { is = refl; held = ap (run_by run) e; counts = omega (arith, ap (λ (p : ℕ × ℕ). p.0) z); reading = r.reading; ends = sym (ap (λ (p : ℕ × ℕ). p.1) z) ∙ r.ends }
 
 -- ---- from the start of a machine
@@ -65,31 +67,43 @@ module _ (c : Climbing) where
   start-at : c.sheet.start ≡ trailer_field sheet 4
   start-at = ap (λ (t : Trailer). t.start) c.sheet.stated
 
-  pub start_none : c.sheet.start ≡ no_start → (machine sheet).start ≡ none
-  unfolding machine_of parts_of
-  start_none e = ap (λ (b : Bool). cond b none (some (trailer_field sheet 4))) (eq-eqb (trailer_field sheet 4) no_start (sym start-at ∙ e))
-
-  pub start-some : (c.sheet.start ≡ no_start → ⊥) → (machine sheet).start ≡ some c.sheet.start
+  start-some : (c.sheet.start ≡ no_start → ⊥) → (machine sheet).start ≡ some c.sheet.start
   unfolding machine_of parts_of
   start-some d = ap (λ (b : Bool). cond b none (some (trailer_field sheet 4))) (ne_eqb (trailer_field sheet 4) no_start (λ z. d (start-at ∙ z))) ∙ ap some (sym start-at)
 
-  pub start-inside-it : (c.sheet.start ≡ no_start → ⊥) → c.sheet.start < c.sheet.nodes
-  start-inside-it d = omega (arith, start-inside (parts_of sheet) (passes sheet c.climbs) c.sheet.start (start-some d), (fields_in c).nodes-are)
+  -- the machine starts there, where it is a node
+  pub starts-there : (s : ℕ) → (s ≡ c.sheet.start) × (s < c.sheet.nodes) → (machine sheet).start ≡ some s
+  starts-there s h = start-some (λ z. omega (arith, z, h.0, h.1, (fields_in c).few-nodes)) ∙ ap some (sym h.0)
+
+  -- and else it has no start
+  pub starts-not : ◌≡◌ {A = Maybe ℕ} None (start_in c.sheet.nodes c.sheet.start) → (machine sheet).start ≡ none
+  unfolding machine_of parts_of
+  starts-not e = elim (ℕ_discrete c.sheet.start no_start) [
+    | yes z ↦ ap (λ (b : Bool). cond b none (some (trailer_field sheet 4))) (eq-eqb (trailer_field sheet 4) no_start (sym start-at ∙ z))
+    | no d ↦
+        let below : c.sheet.start < c.sheet.nodes = omega (arith, start-inside (parts_of sheet) (passes sheet c.climbs) c.sheet.start (start-some d), (fields_in c).nodes-are) in
+        let there : ◌≡◌ {A = Maybe ℕ} None (Some c.sheet.start) = e ∙ ap (λ (b : Bool). cond b (Some c.sheet.start) None) (lt-ltb c.sheet.start c.sheet.nodes below) in
+        absurd (cc)
+  ]
 
 -- what a walk from there on along a way comes to
-pub walked-by : (c : Climbing) (begun : Walk) → (begun.machine.sheet.bytes.now ≡ c.sheet.bytes.now) × ◌≡◌ {A = Option (ℕ × ℕ)} (some (0, c.sheet.start)) (some (begun.count, begun.at)) → (c.sheet.start ≡ no_start → ⊥)
-    → (way : Option (List ℕ)) (r : Maybe Walk) → Comes begun.machine.sheet.bytes.now (outcome (machine begun.machine.sheet.bytes.now) begun.at begun.count way) r → Walked c.sheet.bytes.now way r
-walked-by c begun e d way r h = go r h
+pub walked-by : (sheet : List ℕ) (s : ℕ) → (machine sheet).start ≡ some s → (begun : Walk) → Comes sheet (some (0, s)) (Some begun) → (way : Option (List ℕ)) (r : Maybe Walk)
+    → Comes begun.at.sheet.bytes.now (outcome (machine begun.at.sheet.bytes.now) begun.at.node begun.count way) r → Walked sheet way r
+walked-by sheet s starts begun e way r h = go r h
   where
-    place : ◌≡◌ {A = ℕ × ℕ} (0, c.sheet.start) (begun.count, begun.at)
+    place : ◌≡◌ {A = ℕ × ℕ} (0, s) (begun.count, begun.at.node)
     place = let z = e.1 in cc
 
-    same : outcome (machine c.sheet.bytes.now) c.sheet.start 0 way ≡ outcome (machine begun.machine.sheet.bytes.now) begun.at begun.count way
+    same : outcome (machine sheet) s 0 way ≡ outcome (machine begun.at.sheet.bytes.now) begun.at.node begun.count way
     same = λ i. outcome (machine (sym e.0 i)) (place i).1 (place i).0 way
 
-    go : (r : Maybe Walk) → Comes begun.machine.sheet.bytes.now (outcome (machine begun.machine.sheet.bytes.now) begun.at begun.count way) r → Walked c.sheet.bytes.now way r
-    go None h = held-not (machine c.sheet.bytes.now) c.sheet.start (start-some c d) way (same ∙ h)
-    go (Some w) h = (h.0 ∙ e.0, held_by (machine c.sheet.bytes.now) c.sheet.start (start-some c d) w way (same ∙ h.1))
+    go : (r : Maybe Walk) → Comes begun.at.sheet.bytes.now (outcome (machine begun.at.sheet.bytes.now) begun.at.node begun.count way) r → Walked sheet way r
+    go None h = held-not (machine sheet) s starts way (same ∙ h)
+    go (Some w) h = (h.0 ∙ e.0, held_by (machine sheet) s starts w way (same ∙ h.1))
+
+-- by the sheet that it holds
+pub own : (bytes : List ℕ) (o : Option (List ℕ)) (w : Walk) → Walked bytes o (Some w) → Follows (machine w.at.sheet.bytes.now) o w
+own bytes o w h = subst (λ (s : List ℕ). Follows (machine s) o w) (sym h.0) h.1
 
 -- ---- stored, and its cost
 module _ (m : Machine) (o : Option (List ℕ)) (w : Walk) (h : Follows m o w) (old : List ℕ) (room : w.count ≤ length old) (run : List ℕ) (stored : run ≡ sets old 0 (run_in o)) where
@@ -99,10 +113,13 @@ module _ (m : Machine) (o : Option (List ℕ)) (w : Walk) (h : Follows m o w) (o
   pub long : w.count ≤ length run
   long = omega (arith, room, ap length stored, length-sets old 0 (run_in o))
 
-  pub cost-asked : IsReading m (reading_of m (take w.count run)) × (w.at ≡ (reading_of m (take w.count run)).end)
-  cost-asked = (subst (λ (r : List ℕ). IsReading m (reading_of m r)) (sym front-is) h.reading, h.ends ∙ ap (λ (r : List ℕ). (reading_of m r).end) (sym front-is))
+  pub cost-asked : record { reading : IsReading m (reading_of m (take w.count run)); end_value : w.at.node ≡ (reading_of m (take w.count run)).end }
+  cost-asked = record {
+    reading = subst (λ (r : List ℕ). IsReading m (reading_of m r)) (sym front-is) h.reading;
+    end_value = h.ends ∙ ap (λ (r : List ℕ). (reading_of m r).end) (sym front-is);
+  }
 
-  pub told_is : (cost : ℤ) → fin cost ≡ reading_cost m (reading_of m (take w.count run)) → record { links = w.count; cost = cost; end = w.at } ≡ reading_told m (run_in o)
+  pub told_is : (cost : ℤ) → fin cost ≡ reading_cost m (reading_of m (take w.count run)) → record { links = w.count; cost = cost; end = w.at.node } ≡ reading_told m (run_in o)
   told_is cost e =
       let units : cost ≡ units_in (reading_cost m (reading_of m (run_in o))) = ap units_in (e ∙ ap (λ (r : List ℕ). reading_cost m (reading_of m r)) front-is) in
       λ i. record { links = h.counts i; cost = units i; end = h.ends i }

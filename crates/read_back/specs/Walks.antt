@@ -27,7 +27,7 @@ outcome m u count (some run) = ended_by count run (ends_at m (follows m u run))
 -- a walk over this sheet that has come to this place
 abbrev pub Comes : List ℕ → Option (ℕ × ℕ) → Maybe Walk → Type 0
 Comes sheet place None = place ≡ none
-Comes sheet place (Some w) = (w.machine.sheet.bytes.now ≡ sheet) × (place ≡ some (w.count, w.at))
+Comes sheet place (Some w) = (w.at.sheet.bytes.now ≡ sheet) × (place ≡ some (w.count, w.at.node))
 
 -- ---- the list for n that a result holds
 -- a way through its machine
@@ -54,9 +54,9 @@ pub record Follows (m : Machine) (way : Option (List ℕ)) (w : Walk) : Type 0 w
   pub held : if_reading m way ≡ some (run_in way)
   pub counts : w.count ≡ length (run_in way)
   pub reading : IsReading m (reading_of m (run_in way))
-  pub ends : w.at ≡ (reading_of m (run_in way)).end
+  pub ends : w.at.node ≡ (reading_of m (run_in way)).end
 
 -- the walk along the way of reading k, from the start of the sheet, where it is a reading
 abbrev pub Walked : List ℕ → Option (List ℕ) → Maybe Walk → Type 0
 Walked sheet way None = if_reading (machine sheet) way ≡ none
-Walked sheet way (Some w) = (w.machine.sheet.bytes.now ≡ sheet) × Follows (machine sheet) way w
+Walked sheet way (Some w) = (w.at.sheet.bytes.now ≡ sheet) × Follows (machine sheet) way w

@@ -23,12 +23,13 @@ fn run_sum(sheet: &Sheet, run: &[u32]) -> f32
 
 // The cost of the reading that a walk has come to the end of: the sum of its weights and the final weight.
 pub fn cost_of(w: &Walk, run: &[u32]) -> i32
-    requires reading { IsReading (machine_for w.now.machine.sheet.bytes.now) (reading_of (machine_for w.now.machine.sheet.bytes.now) run.now) }
-    requires end_value { w.now.at ≡ (reading_of (machine_for w.now.machine.sheet.bytes.now) run.now).end }
-    ensures { fin result ≡ reading_cost (machine_for w.now.machine.sheet.bytes.now) (reading_of (machine_for w.now.machine.sheet.bytes.now) run.now) }
+    requires reading { IsReading (machine_for w.now.at.sheet.bytes.now) (reading_of (machine_for w.now.at.sheet.bytes.now) run.now) }
+    requires end_value { w.now.at.node ≡ (reading_of (machine_for w.now.at.sheet.bytes.now) run.now).end }
+    ensures { fin result ≡ reading_cost (machine_for w.now.at.sheet.bytes.now) (reading_of (machine_for w.now.at.sheet.bytes.now) run.now) }
 {
-    let sheet = &w.machine.sheet;
+    let sheet = &w.at.sheet;
     let sum = run_sum(sheet, run);
-    let last = tropical_weight::from_bits(sheet.final_bits(w.at));
+    // it has a final weight: a reading ends there
+    let last = tropical_weight::from_bits(sheet.final_bits(w.at.node).unwrap_or(0));
     tropical_weight::cost(tropical_weight::times(sum, last))
 }

@@ -11,7 +11,6 @@ use crate::walk::Walk;
 use crate::way::HeldList;
 use machine::climbing::Machine;
 use sheet::refusal::Refusal;
-use sheet::tr::NO_START;
 
 // How many links the reading has, its cost in units and the node where it ends.
 #[derive(Clone, Copy)]
@@ -25,10 +24,7 @@ pub struct Told {
 fn walked<'a>(machine: &Machine<'a>, list: &HeldList, k: u32) -> Option<Walk<'a>>
     ensures { Walked machine.now.sheet.bytes.now (way_to list.now k) result }
 {
-    let start = machine.sheet.start;
-    if start == NO_START {
-        return None;
-    }
+    let start = machine.sheet.start()?;
     list.walk(&Walk::begin(machine, start), k)
 }
 
@@ -46,7 +42,7 @@ fn held(machine: &Machine, list: &HeldList, k: u32, run: &mut [u32]) -> Result<T
     Ok(Told {
         links: w.count,
         cost: cost_of(&w, &run[..count]),
-        end: w.at,
+        end: w.at.node,
     })
 }
 

@@ -1,20 +1,18 @@
 // A walk over the links of a machine, by their numbers.
 ghost use Rattle.std.specs.Prelude.{◌≡◌, ◌≤◌, ◌<◌};
-ghost use Rattle.sheet.specs.Records.{first_link};
+ghost use Rattle.machine.specs.Input.{input_number};
 
 use machine::climbing::Machine;
+use sheet::source::Source;
 use sheet::tr::BARRED;
 
-// The node that it has come to, the number of that node's first link, and how many links it has taken.
+// The node that it has come to, as the source of its links, and how many links it has taken.
 #[derive(Clone, Copy)]
 pub struct Walk<'a> {
-    pub machine: Machine<'a>,
-    pub at: u32,
-    pub first: u32,
+    pub at: Source<'a>,
     pub count: u32,
-    pub ghost inside: { at < machine.sheet.nodes },
-    pub ghost first_is: { first ≡ first_link machine.sheet.bytes.now machine.sheet.links at },
-    pub ghost few: { count ≤ at },
+    pub ghost climbs: { input_number at.sheet.bytes.now ≡ 0 },
+    pub ghost few: { count ≤ at.node },
 }
 
 impl<'a> Walk<'a> {
@@ -31,9 +29,11 @@ impl<'a> Walk<'a> {
         ensures { Comes machine.now.sheet.bytes.now (some (0, at)) (Some result) }
     {
         let lowest = Walk {
-            machine: *machine,
-            at: 0,
-            first: 0,
+            at: Source {
+                sheet: machine.sheet,
+                node: 0,
+                first: 0,
+            },
             count: 0,
         };
         lowest.moved(at, 0)
@@ -41,17 +41,21 @@ impl<'a> Walk<'a> {
 
     // The walk at a node that is no lower, by so many links in all.
     fn moved(&self, to: u32, count: u32) -> Walk<'a>
-        requires { (self.now.at ≤ to) × (to < self.now.machine.sheet.nodes) × (count ≤ to) }
-        ensures { Comes self.now.machine.sheet.bytes.now (some (count, to)) (Some result) }
+        requires { (self.now.at.node ≤ to) × (to < self.now.at.sheet.nodes) × (count ≤ to) }
+        ensures { Comes self.now.at.sheet.bytes.now (some (count, to)) (Some result) }
     {
-        let mut first = self.first;
-        for v in self.at..to {
-            first += self.machine.sheet.count(v);
+        let sheet = self.at.sheet;
+        let mut first = self.at.first;
+        // Not by Sources, which begin at node 0: it goes on from where the walk stands.
+        for v in self.at.node..to {
+            first += sheet.count(v);
         }
         Walk {
-            machine: self.machine,
-            at: to,
-            first,
+            at: Source {
+                sheet,
+                node: to,
+                first,
+            },
             count,
         }
     }
@@ -59,18 +63,18 @@ impl<'a> Walk<'a> {
     // The walk after what a result tells: it stays where that is no number, and else goes on by the
     // link, unless it leaves another node or is barred.
     pub fn goes_on(&self, told: Option<u32>) -> Option<Walk<'a>>
-        ensures { Comes self.now.machine.sheet.bytes.now (goes_to (machine_for self.now.machine.sheet.bytes.now) self.now.at self.now.count told) result }
+        ensures { Comes self.now.at.sheet.bytes.now (goes_to (machine_for self.now.at.sheet.bytes.now) self.now.at.node self.now.count told) result }
     {
         let Some(l) = told else {
             return Some(*self);
         };
-        let sheet = &self.machine.sheet;
-        if l < self.first {
+        if l < self.at.first {
             return None;
         }
-        if self.first + sheet.count(self.at) <= l {
+        if self.at.first + self.at.count() <= l {
             return None;
         }
+        let sheet = &self.at.sheet;
         if sheet.link_bits(l) == BARRED {
             return None;
         }
@@ -79,12 +83,11 @@ impl<'a> Walk<'a> {
 
     // Whether a reading may end at the node that it has come to: it has mark 1, and is not barred.
     pub fn at_final(&self) -> bool
-        ensures { result ≡ is_ending (final (machine_for self.now.machine.sheet.bytes.now) self.now.at) }
+        ensures { result ≡ is_ending (final (machine_for self.now.at.sheet.bytes.now) self.now.at.node) }
     {
-        let sheet = &self.machine.sheet;
-        if sheet.mark(self.at) == 0 {
-            return false;
-        }
-        sheet.final_bits(self.at) != BARRED
+        self.at
+            .sheet
+            .final_bits(self.at.node)
+            .is_some_and(|bits| bits != BARRED)
     }
 }

@@ -7,11 +7,12 @@ use crate::walk::Walk;
 use sheet::refusal::Refusal;
 use sheet::tr::TRAILER;
 use sheet::words::word;
-use slots::NOTHING;
+use slots::number_in;
 use tropical_weight::LIST_LIMIT;
 
 // A result that is long enough for a list for n whose machine has so many nodes and links, and for its
-// words; and how many links stand before the only links of the states above the last.
+// words; and how many links stand before the only links of the states above the last. n as it was asked for,
+// no enum of two kinds of lists: the definitions go by n, and each method tests it once.
 #[derive(Clone, Copy)]
 pub struct HeldList<'a> {
     pub res: &'a [u8],
@@ -108,15 +109,10 @@ impl<'a> HeldList<'a> {
         requires { l < self.now.links }
         ensures { result ≡ number_told (number_at self.now.res.now self.now.nodes self.now.links l) }
     {
-        let number = word(
+        number_in(word(
             self.res,
             16 * (self.links as usize) + 12 * (self.nodes as usize) + TRAILER + 4 * l,
-        );
-        if number == NOTHING {
-            None
-        } else {
-            Some(number)
-        }
+        ))
     }
 
     // The only link of a state above the last.
@@ -148,7 +144,7 @@ impl<'a> HeldList<'a> {
     // A walk along the way of reading k: where it comes to, by as many links as the way tells, where a
     // reading may end there.
     pub fn walk<'s>(&self, begun: &Walk<'s>, k: u32) -> Option<Walk<'s>>
-        ensures { Comes begun.now.machine.sheet.bytes.now (outcome (machine_for begun.now.machine.sheet.bytes.now) begun.now.at begun.now.count (way_to self.now k)) result }
+        ensures { Comes begun.now.at.sheet.bytes.now (outcome (machine_for begun.now.at.sheet.bytes.now) begun.now.at.node begun.now.count (way_to self.now k)) result }
     {
         let last = self.last();
         let mut w = *begun;
@@ -165,7 +161,8 @@ impl<'a> HeldList<'a> {
         if w.at_final() { Some(w) } else { None }
     }
 
-    // Stores the numbers along the way of reading k, which there is.
+    // Stores the numbers along the way of reading k, which there is. Not one pass with `walk`: the area is
+    // written only once the way is known to be a reading that has room.
     pub fn store_way(&self, k: u32, run: &mut [u32])
         requires way { way_to self.now k ≡ some (run_in (way_to self.now k)) }
         requires room { length (run_in (way_to self.now k)) ≤ length run.old }
@@ -185,7 +182,8 @@ impl<'a> HeldList<'a> {
     }
 }
 
-// Stores a number behind so many, where it is one, and answers how many there are then.
+// Stores a number behind so many, where it is one, and answers how many there are then. The count is not
+// the area's own: the area is lent whole, and the numbers fill its front.
 fn put_number(told: Option<u32>, count: usize, run: &mut [u32]) -> usize
     requires { count + length (told_by told) ≤ length run.old }
     ensures { (result ≡ count + length (told_by told)) × (run.new ≡ sets run.old count (told_by told)) }

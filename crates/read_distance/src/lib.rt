@@ -8,9 +8,7 @@ ghost use Rattle.read_distance.specs.Promise.{ReadBack};
 use distance::WRITTEN;
 use sheet::refusal::Refusal;
 use sheet::words::word;
-
-// The most units of a sum, either way.
-const SUM_LIMIT: u32 = 1 << 24;
+use tropical_weight::SUM_LIMIT;
 
 // The distance of a reached node by its second word: the pattern of so many units within the limit.
 fn reached_at(bits: u32) -> Result<Option<i32>, Refusal>
@@ -39,7 +37,7 @@ fn distance_of(mark: u32, bits: u32) -> Result<Option<i32>, Refusal>
 
 // The distance of a node, or none of an unreached one, from a result that is said to hold so many values:
 // refused where the result is shorter, where the node is not among them, and where its words are no
-// distance.
+// distance. The count is what a caller from C was told, and is tested.
 pub fn distance_at(res: &[u8], values: u32, node: u32) -> Result<Option<i32>, Refusal>
     ensures value { result ≡ distance_told res.now values node }
     ensures read_back { ReadBack res.now values node result }

@@ -5,6 +5,9 @@
 // the case is. Prints the lines that differ, and how many there were.
 #![tactic(auto)]
 
+ghost use Rattle.std.specs.Prelude.{◌≡◌, ◌*◌, true, IfOk, IfErr};
+ghost use Rattle.sheet.specs.Refusals.{number_in};
+
 use distance::WRITTEN;
 use sheet::refusal::Refusal;
 use shortest_distance::shortest_distance;
@@ -22,15 +25,21 @@ const SHEET: usize = 16 * (LINK_LIMIT + 4);
 
 // Whether the call answered this number, and where it is 0 so many bytes of distances.
 // Apart in each program: crate stored_cases knows no refusals.
-fn answered(answer: Result<u32, Refusal>, said: usize, bytes: usize) -> bool {
+fn answered(answer: Result<u32, Refusal>, said: usize, bytes: usize) -> bool
+    ensures number { result ≡ true → number_in answer ≡ said }
+    ensures long { result ≡ true → IfOk answer (λ n. bytes ≡ 8 * n) × IfErr answer (λ e. bytes ≡ 0) }
+{
     match answer {
         Ok(n) => said == 0 && bytes == WRITTEN * (n as usize),
         Err(refusal) => said == (u32::from(refusal) as usize) && bytes == 0,
     }
 }
 
+// This, `does` and `holds` are apart in each program: the fields stand at other places, and the calls take
+// and answer other types.
+//
 // The call for distances with as many words and bytes of the areas as the line says, none where there
-// are fewer.
+// are fewer. Promises nothing itself: the call does, and the line's numbers have no definition.
 fn call(
     line: Line<'_>,
     sheet: &[u8],
@@ -42,7 +51,8 @@ fn call(
     Some(shortest_distance(sheet, work, res))
 }
 
-// Whether the call on this sheet does what the line says.
+// Whether the call on this sheet does what the line says. Promises nothing: what a line says has no
+// definition, and what the areas must hold is promised by the tests of them.
 fn does(line: Line<'_>, sheet: &[u8]) -> bool {
     let mut work = [WORK_MARK; CELLS];
     let mut result = [RESULT_MARK; CELLS];
@@ -56,7 +66,7 @@ fn does(line: Line<'_>, sheet: &[u8]) -> bool {
         && work_left(&work, line.number(3))
 }
 
-// Whether the case of a line holds.
+// Whether the case of a line holds. Promises nothing, as `does`.
 fn holds(line: Line<'_>) -> bool {
     let mut sheet = [0u8; SHEET];
     let sheet = line.bytes(5, &mut sheet);

@@ -6,7 +6,10 @@
 // were.
 #![tactic(auto)]
 
-ghost use Rattle.std.specs.Prelude.{◌≡◌, ◌+◌, ◌*◌};
+ghost use Rattle.std.specs.Prelude.{◌≡◌, ◌+◌, ◌*◌, ◌==◌, true};
+ghost use Rattle.stored_cases.specs.Digits.{number_on};
+ghost use Rattle.stored_cases.specs.Fields.{field_of};
+ghost use Rattle.replay_lists.specs.Told.{Told};
 
 use list_answer::Listed;
 use sheet::refusal::Refusal;
@@ -27,7 +30,9 @@ const RESULT: usize = 32 * (NODE_LIMIT + 4);
 const SHEET: usize = 16 * (LINK_LIMIT + 4);
 
 // Whether the field behind so many spaces has this number.
-fn says(line: Line<'_>, spaces: usize, n: u32) -> bool {
+fn says(line: Line<'_>, spaces: usize, n: u32) -> bool
+    ensures { result ≡ (number_on 0 (field_of line.entry.text.now spaces) == n) }
+{
     line.number(spaces) == (n as usize)
 }
 
@@ -40,8 +45,11 @@ fn length_of(nodes: u32, links: u32) -> usize
 
 // Whether the call answered what the line says: 0 with the counts, or its number alone, and so many
 // bytes.
-// Apart in each program: crate stored_cases knows no refusals.
-fn answered(answer: Result<Listed, Refusal>, line: Line<'_>, bytes: usize) -> bool {
+// Apart in each program: crate stored_cases knows no refusals. By number: a case may tell one that no
+// refusal has.
+fn answered(answer: Result<Listed, Refusal>, line: Line<'_>, bytes: usize) -> bool
+    ensures { result ≡ true → Told answer line.entry.text.now bytes }
+{
     match answer {
         Ok(list) => {
             says(line, 0, 0)
@@ -55,7 +63,7 @@ fn answered(answer: Result<Listed, Refusal>, line: Line<'_>, bytes: usize) -> bo
 }
 
 // The call for a list with as many words and bytes of the areas as the line says, none where there are
-// fewer.
+// fewer. `as`, since a line's number has six digits at most.
 fn call(
     line: Line<'_>,
     sheet: &[u8],
@@ -67,20 +75,20 @@ fn call(
     Some(shortest_path(sheet, line.number(1) as u32, work, res))
 }
 
-// Whether the call on this sheet does what the line says.
+// Whether the call on this sheet does what the line says. No clause says it: what the call leaves is in
+// areas of this function's own, which a clause cannot name. What is tested of them is what `answered`,
+// `result_left` and `work_left` promise.
 fn does(line: Line<'_>, sheet: &[u8]) -> bool {
     let mut work = [WORK_MARK; WORK];
     let mut result = [RESULT_MARK; RESULT];
     let mut bytes = [0u8; RESULT];
     let bytes = line.bytes(10, &mut bytes);
-    match call(line, sheet, &mut work, &mut result) {
-        Some(answer) => {
-            answered(answer, line, bytes.len())
-                && result_left(&result, bytes)
-                && work_left(&work, line.number(4))
-        }
-        None => false,
-    }
+    let Some(answer) = call(line, sheet, &mut work, &mut result) else {
+        return false;
+    };
+    answered(answer, line, bytes.len())
+        && result_left(&result, bytes)
+        && work_left(&work, line.number(4))
 }
 
 // Whether the case of a line holds.

@@ -1,5 +1,8 @@
 // The open calls on a queue's record by their numbers in the stored cases, and what they answer.
-ghost use Rattle.std.specs.Prelude.{◌+◌, ◌≤◌, length};
+ghost use Rattle.std.specs.Prelude.{◌≡◌, ◌≤◌, length, MatchResult};
+ghost use Rattle.replay_queues.specs.Calls.{made_of, given_by, Leaves};
+ghost use Rattle.replay_queues.specs.declared.calls.Answer.TheVariants.{Refused};
+ghost use Rattle.sheet.specs.Refusals.{number_of};
 
 use sheet::words::word;
 use state_order_queue::{Answered, Queue};
@@ -34,7 +37,13 @@ pub struct Unknown;
 impl TryFrom<u32> for Call {
     type Error = Unknown;
 
-    fn try_from(number: u32) -> Result<Call, Unknown> {
+    ghost use Rattle.replay_queues.specs.Calls.{call_of};
+
+    ghost try_from_gives = { λ number r. r ≡ call_of number };
+
+    fn try_from(number: u32) -> Result<Call, Unknown>
+        ensures { result ≡ call_of number }
+    {
         Ok(match number {
             0 => Call::Enqueue,
             1 => Call::Dequeue,
@@ -52,7 +61,13 @@ impl TryFrom<u32> for Call {
 impl TryFrom<(u32, u32)> for Answer {
     type Error = Unknown;
 
-    fn try_from(told: (u32, u32)) -> Result<Answer, Unknown> {
+    ghost use Rattle.replay_queues.specs.Calls.{answer_of};
+
+    ghost try_from_gives = { λ told r. r ≡ answer_of told.0 told.1 };
+
+    fn try_from(told: (u32, u32)) -> Result<Answer, Unknown>
+        ensures { result ≡ answer_of told.0 told.1 }
+    {
         Ok(match told {
             (0, 0) => Answer::Done,
             (1, node) => Answer::Node(node),
@@ -66,19 +81,37 @@ impl TryFrom<(u32, u32)> for Answer {
 }
 
 impl From<()> for Answer {
-    fn from(_done: ()) -> Answer {
+    ghost use Rattle.replay_queues.specs.declared.calls.Answer.TheVariants.{Done};
+
+    ghost from_gives = { λ _ r. r ≡ Done };
+
+    fn from(_done: ()) -> Answer
+        ensures { result ≡ Done }
+    {
         Answer::Done
     }
 }
 
 impl From<Option<u32>> for Answer {
-    fn from(node: Option<u32>) -> Answer {
+    ghost use Rattle.replay_queues.specs.Calls.{node_answer};
+
+    ghost from_gives = { λ node r. r ≡ node_answer node };
+
+    fn from(node: Option<u32>) -> Answer
+        ensures { result ≡ node_answer node }
+    {
         node.map_or(Answer::None, |v| Answer::Node(v))
     }
 }
 
 impl From<bool> for Answer {
-    fn from(test: bool) -> Answer {
+    ghost use Rattle.replay_queues.specs.declared.calls.Answer.TheVariants.{Test};
+
+    ghost from_gives = { λ test r. r ≡ Test test };
+
+    fn from(test: bool) -> Answer
+        ensures { result ≡ Test test }
+    {
         Answer::Test(test)
     }
 }
@@ -92,7 +125,10 @@ pub struct Made {
 }
 
 // What a call answered, and the record that it handed back.
-fn told<T: Into<Answer>>(answered: Answered<T>) -> (Answer, Queue) {
+fn told<T: Into<Answer>>(answered: Answered<T>) -> (Answer, Queue)
+    ensures answer { MatchResult answered.answer (λ value. T.converts value result.0) (λ refusal. result.0 ≡ Refused (number_of refusal)) }
+    ensures queue { result.1 ≡ answered.queue }
+{
     let queue = answered.queue;
     match answered.answer {
         Ok(given) => (given.into(), queue),
@@ -101,20 +137,24 @@ fn told<T: Into<Answer>>(answered: Answered<T>) -> (Answer, Queue) {
 }
 
 impl Made {
-    // The call that stands at an index, four words.
-    pub fn at(words: &[u8], at: usize) -> Result<Made, Unknown>
-        requires { at + 16 ≤ length words.now }
+    // The call of sixteen bytes, which are four words.
+    pub fn of(words: &[u8]) -> Result<Made, Unknown>
+        requires { 16 ≤ length words.now }
+        ensures { result ≡ made_of words.now }
     {
         Ok(Made {
-            call: Call::try_from(word(words, at))?,
-            node: word(words, at + 4),
-            answer: Answer::try_from((word(words, at + 8), word(words, at + 12)))?,
+            call: Call::try_from(word(words, 0))?,
+            node: word(words, 4),
+            answer: Answer::try_from((word(words, 8), word(words, 12)))?,
         })
     }
 
-    // The record that it hands back, where it gives its answer.
-    pub fn on(&self, q: Queue) -> Option<Queue> {
-        let (answer, queue) = match self.call {
+    // What the call answers, and the record that it hands back. A match and no table of functions: a
+    // call's answer is a node, a test or nothing, each of another type.
+    fn given(&self, q: Queue) -> (Answer, Queue)
+        ensures { result ≡ given_by self.now.call self.now.node q }
+    {
+        match self.call {
             Call::Enqueue => told(q.enqueue(self.node)),
             Call::Dequeue => told(q.dequeue()),
             Call::Head => told(q.head()),
@@ -122,7 +162,14 @@ impl Made {
             Call::IsEmpty => told(q.is_empty()),
             Call::Clear => told(q.clear()),
             Call::IsValid => (Answer::Test(q.is_valid()), q),
-        };
+        }
+    }
+
+    // The record that it hands back, where it gives its answer.
+    pub fn on(&self, q: Queue) -> Option<Queue>
+        ensures { Leaves self.now q result }
+    {
+        let (answer, queue) = self.given(q);
         (answer == self.answer).then_some(queue)
     }
 }

@@ -22,8 +22,8 @@ const RECORD: usize = 12 + 4 * NODE_LIMIT;
 // The record that the calls leave, where each gives its answer.
 fn left(q: Queue, made: &[u8]) -> Option<Queue> {
     let mut queue = q;
-    for k in 0..made.len() / 16 {
-        queue = Made::at(made, 16 * k).ok()?.on(queue)?;
+    for call in made.chunks_exact(16) {
+        queue = Made::of(call).ok()?.on(queue)?;
     }
     Some(queue)
 }

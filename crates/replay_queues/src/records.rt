@@ -2,6 +2,7 @@
 // whose flag is set.
 ghost use Rattle.std.specs.Prelude.{◌≡◌, true, ◌≤◌, length};
 ghost use Rattle.replay_queues.specs.Same.{Same};
+ghost use Rattle.replay_queues.specs.Records.{queue_of};
 
 use sheet::words::word;
 use state_order_queue::Queue;
@@ -10,11 +11,13 @@ use tropical_weight::NODE_LIMIT;
 // The record of these words.
 pub fn record_of(words: &[u8]) -> Queue
     requires { 12 ≤ length words.now }
+    ensures { result ≡ queue_of words.now }
 {
     let mut flags = [false; NODE_LIMIT];
-    for k in 3..words.len() / 4 {
-        if let Some(flag) = flags.get_mut(word(words, 4 * k) as usize) {
-            *flag = true;
+    for node in words[12..].chunks_exact(4) {
+        let v = word(node, 0) as usize;
+        if v < NODE_LIMIT {
+            flags[v] = true;
         }
     }
     let has_back = word(words, 4) != 0;
@@ -25,7 +28,7 @@ pub fn record_of(words: &[u8]) -> Queue
     }
 }
 
-// Whether both records have the same ends and flags.
+// Whether both records have the same ends and flags: by the derived equality, in a function for its clause.
 pub fn same(a: &Queue, b: &Queue) -> bool
     ensures { result ≡ true → Same a.now b.now }
 {

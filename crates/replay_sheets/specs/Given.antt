@@ -5,6 +5,11 @@ use Rattle.std.specs.Float.Ieee.{to_bits}
 use Rattle.sheet.specs.declared.tr.Link.{Link}
 use Rattle.sheet.specs.Words.{word}
 use Rattle.sheet.specs.Reading.{next_link, place_at}
+use Rattle.sheet.specs.Refusals.{number_in}
+use Rattle.sheet.specs.Answers.{tested}
+use Rattle.stored_cases.specs.Digits.{number_on}
+use Rattle.stored_cases.specs.Fields.{field_of}
+use Rattle.stored_cases.specs.Parts.{bytes_told}
 
 -- a link with the four fields that stand at an index
 abbrev pub SameFields : Link → List ℕ → ℕ → Type 0
@@ -18,3 +23,7 @@ Given None links at = length links ≡ at
 -- one by one, from the first link to the end: what a reader gives that went on k times
 abbrev pub Reads : List ℕ → List ℕ → Type 0
 Reads sheet links = (k : ℕ) → 16 * k ≤ length links → Given (next_link sheet (place_at sheet k)) links (16 * k)
+
+-- the case of a line: reading the sheet in field 1 answers the number in field 0, and a link reader gives the links in field 2
+abbrev pub Holds : List ℕ → Type 0
+Holds line = let sheet = bytes_told (field_of line 1) 256 in (number_in (tested sheet) ≡ number_on 0 (field_of line 0)) × Reads sheet (bytes_told (field_of line 2) 256)

@@ -5,7 +5,9 @@
 #![tactic(auto)]
 
 ghost use Rattle.std.specs.Prelude.{◌≡◌, true, ◌+◌, ◌≤◌, length};
-ghost use Rattle.replay_sheets.specs.Given.{SameFields, Given, Reads};
+ghost use Rattle.sheet.specs.Refusals.{number_in};
+ghost use Rattle.sheet.specs.Answers.{tested};
+ghost use Rattle.replay_sheets.specs.Given.{SameFields, Given, Reads, Holds};
 
 use sheet::reader::Reader;
 use sheet::tr::Link;
@@ -14,8 +16,10 @@ use std::io;
 use stored_cases::lines::Line;
 use stored_cases::replay::replay;
 
-// What reading answers, as the case has it.
-fn answer(sheet: &[u8]) -> u32 {
+// The number that reading answers, 0 where it accepts: the line tells it so.
+fn answer(sheet: &[u8]) -> u32
+    ensures { result ≡ number_in (tested sheet.now) }
+{
     match sheet::read::read(sheet) {
         Ok(_) => 0,
         Err(refusal) => u32::from(refusal),
@@ -44,7 +48,8 @@ fn given(link: Option<Link>, links: &[u8], at: usize) -> bool
     }
 }
 
-// Whether a link reader gives these links, and then none for good.
+// Whether a link reader gives these links, and then none for good. By number and not by chunks: the
+// claim is of link k and the bytes from 16 k on, and the end must come at such a place too.
 fn reads(sheet: &[u8], links: &[u8]) -> bool
     ensures { result ≡ true → Reads sheet.now links.now }
 {
@@ -62,7 +67,9 @@ fn reads(sheet: &[u8], links: &[u8]) -> bool
 }
 
 // Whether the bytes of a line are read as it says.
-fn holds(line: Line<'_>) -> bool {
+fn holds(line: Line<'_>) -> bool
+    ensures { result ≡ true → Holds line.entry.text.now }
+{
     let mut sheet = [0u8; 256];
     let mut links = [0u8; 256];
     let sheet = line.bytes(1, &mut sheet);

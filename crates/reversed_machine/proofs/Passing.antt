@@ -1,5 +1,5 @@
 -- The passes of the reversal, a turn at a time. Assumes nothing.
-use mathlib.Core.Path.{◌≡◌, sym, ap, ◌∙◌}
+use mathlib.Core.Path.{◌≡◌, refl, sym, ap, ◌∙◌}
 use mathlib.Core.Bool.{Bool, true, false, cond}
 use mathlib.Core.List.{List}
 use Prim.Native.Nat.{ℕ, suc, ◌+◌, ◌-◌, ◌*◌, ◌<◌}
@@ -7,18 +7,19 @@ use native.Mathlib.Numerals.{add-one}
 use native.Mathlib.Omega.{arith}
 use lib.Dec.{eqb}
 use lib.ListN.{set}
-use lib.Ieee.{Float, binary32, add, of_bits}
-use borrow.Author.Tests.{eq-eqb, ne_eqb}
+use lib.Ieee.{Float}
+use borrow.Author.Tests.{eq-eqb, eqb-true, eqb-false, ne_eqb}
+use Rattle.std.specs.Prelude.{Some, None}
 use Rattle.tropical_weight.specs.Single.{lesser}
 use Rattle.sheet.specs.Below.{sum_below}
 use Rattle.sheet.specs.Words.{word}
 use Rattle.sheet.specs.Records.{count_at, first_link, mark_at, final_at}
 use Rattle.slots.specs.Slots.{nothing}
 use Rattle.distance.specs.Held.{Distance}
-use Rattle.distance.specs.Held.{weight_in, distance_in, with_distance}
+use Rattle.distance.specs.Held.{total_in, distance_in, with_distance}
 use Rattle.machine.specs.Finals.{final_count}
 use Rattle.reversed_machine.specs.ReverseWords.{heads_cleared, chained, links_put, links_reversed, finals_reversed, least_total, least_distance, chains_put, reversed_words}
-use Rattle.sheet.specs.Accepted.{trailer_in}
+use Rattle.sheet.specs.Accepted.{trailer_in, ending_at}
 use Rattle.sheet.specs.Machine.{machine}
 use Rattle.machine.specs.declared.climbing.Machine.{Machine}
 use Rattle.machine.proofs.SheetFields.{SheetFields, fields-for}
@@ -33,6 +34,22 @@ pub first_below : (bytes : List ℕ) (T v : ℕ) → 0 < v → first_link bytes 
 unfolding sum_below
 first_below bytes T v h = ap (first_link bytes T) (let z : v ≡ suc (v - 1) = omega arith in z)
 
+-- a node's final weight by the bytes: where there is one, and where there is none
+module _ (bytes : List ℕ) (T v : ℕ) where
+  pub final-given : (bits : ℕ) → ending_at bytes T v ≡ Some bits → (mark_at bytes T v ≡ 0 → ⊥) × (bits ≡ final_at bytes T v)
+  final-given bits = go (eqb (mark_at bytes T v) 0) refl
+    where
+      go : (t : Bool) → eqb (mark_at bytes T v) 0 ≡ t → cond t None (Some (final_at bytes T v)) ≡ Some bits → (mark_at bytes T v ≡ 0 → ⊥) × (bits ≡ final_at bytes T v)
+      go true q e = absurd (cc)
+      go false q e = (eqb-false (mark_at bytes T v) 0 q, cc)
+
+  pub final-absent : ending_at bytes T v ≡ None → mark_at bytes T v ≡ 0
+  final-absent = go (eqb (mark_at bytes T v) 0) refl
+    where
+      go : (t : Bool) → eqb (mark_at bytes T v) 0 ≡ t → cond t None (Some (final_at bytes T v)) ≡ None → mark_at bytes T v ≡ 0
+      go true q e = eqb-true (mark_at bytes T v) 0 q
+      go false q e = absurd (cc)
+
 module _ (bytes : List ℕ) (nodes links : ℕ) (part new whole : List ℕ) where
   -- a link of node v, by what the calls answer
   pub links-again : (v first i next bits : ℕ) → 0 < i → next ≡ word bytes (16 * (first + (i - 1)) + 12) → bits ≡ word bytes (16 * (first + (i - 1)) + 8)
@@ -46,14 +63,12 @@ module _ (bytes : List ℕ) (nodes links : ℕ) (part new whole : List ℕ) wher
       ∙ ap (λ (k : ℕ). links_put bytes nodes links v first k part) top ∙ w
 
   -- a node of a sheet with T links
-  pub nodes-again : (T v count : ℕ) → 0 < v → count ≡ count_at bytes T (v - 1) → new ≡ links_put bytes nodes links (v - 1) (first_link bytes T v - count) count part
+  pub nodes-again : (T v : ℕ) → 0 < v → new ≡ links_put bytes nodes links (v - 1) (first_link bytes T (v - 1)) (count_at bytes T (v - 1)) part
       → links_reversed bytes nodes links T v part ≡ whole → links_reversed bytes nodes links T (v - 1) new ≡ whole
   unfolding links_reversed
-  nodes-again T v count h n e w =
+  nodes-again T v h e w =
       let top : suc (v - 1) ≡ v = omega arith in
-      let first : first_link bytes T v - count ≡ first_link bytes T (v - 1) = omega (arith, first_below bytes T v h) in
-      ap (links_reversed bytes nodes links T (v - 1)) (e ∙ λ j. links_put bytes nodes links (v - 1) (first j) (n j) part)
-      ∙ ap (λ (k : ℕ). links_reversed bytes nodes links T k part) top ∙ w
+      ap (links_reversed bytes nodes links T (v - 1)) e ∙ ap (λ (k : ℕ). links_reversed bytes nodes links T k part) top ∙ w
 
   module _ (T v : ℕ) (h : 0 < v) (w : finals_reversed bytes nodes links T v part ≡ whole) where
     -- the pass over the node before, with its mark tested
@@ -75,18 +90,20 @@ module _ (bytes : List ℕ) (nodes links : ℕ) (part new whole : List ℕ) wher
 -- ---- the least total, one node more
 module _ (bytes : List ℕ) (nodes T v : ℕ) (part : List ℕ) where
   total-next : (b : Bool) → eqb (mark_at bytes T v) 0 ≡ b
-      → least_total bytes nodes T (v + 1) part ≡ cond b (least_total bytes nodes T v part) (lesser (least_total bytes nodes T v part) (add binary32 (weight_in (distance_in part (nodes + 8 * (v + 1)))) (of_bits binary32 (final_at bytes T v))))
+      → least_total bytes nodes T (v + 1) part ≡ cond b (least_total bytes nodes T v part) (lesser (least_total bytes nodes T v part) (total_in (distance_in part (nodes + 8 * (v + 1))) (final_at bytes T v)))
   unfolding least_total
   total-next b e =
       ap (λ (k : ℕ). least_total bytes nodes T k part) (add-one v)
-      ∙ ap (λ (t : Bool). cond t (least_total bytes nodes T v part) (lesser (least_total bytes nodes T v part) (add binary32 (weight_in (distance_in part (nodes + 8 * (v + 1)))) (of_bits binary32 (final_at bytes T v))))) e
+      ∙ ap (λ (t : Bool). cond t (least_total bytes nodes T v part) (lesser (least_total bytes nodes T v part) (total_in (distance_in part (nodes + 8 * (v + 1))) (final_at bytes T v)))) e
 
-  pub total-plain : (least : Float) → least ≡ least_total bytes nodes T v part → mark_at bytes T v ≡ 0 → least ≡ least_total bytes nodes T (v + 1) part
-  total-plain least h e = h ∙ sym (total-next true (eq-eqb (mark_at bytes T v) 0 e))
+  pub total-plain : (least : Float) → least ≡ least_total bytes nodes T v part → ending_at bytes T v ≡ None → least ≡ least_total bytes nodes T (v + 1) part
+  total-plain least h e = h ∙ sym (total-next true (eq-eqb (mark_at bytes T v) 0 (final-absent bytes T v e)))
 
-  pub total-final : (least d w s r : Float) → least ≡ least_total bytes nodes T v part → (mark_at bytes T v ≡ 0 → ⊥) → d ≡ weight_in (distance_in part (nodes + 8 * (v + 1))) → w ≡ of_bits binary32 (final_at bytes T v)
-      → s ≡ add binary32 d w → r ≡ lesser least s → r ≡ least_total bytes nodes T (v + 1) part
-  total-final least d w s r h n a b e f = f ∙ (λ i. lesser (h i) ((e ∙ λ j. add binary32 (a j) (b j)) i)) ∙ sym (total-next false (ne_eqb (mark_at bytes T v) 0 n))
+  pub total-final : (least s r : Float) (d : Distance) (bits : ℕ) → least ≡ least_total bytes nodes T v part → ending_at bytes T v ≡ Some bits → d ≡ distance_in part (nodes + 8 * (v + 1))
+      → s ≡ total_in d bits → r ≡ lesser least s → r ≡ least_total bytes nodes T (v + 1) part
+  total-final least s r d bits h n a e f =
+      let given = final-given bytes T v bits n in
+      f ∙ (λ i. lesser (h i) ((e ∙ λ j. total_in (a j) (given.1 j)) i)) ∙ sym (total-next false (ne_eqb (mark_at bytes T v) 0 given.0))
 
 -- ---- one pass after the other
 pub passes-made : (bytes : List ℕ) (nodes links N T : ℕ) (part a b d new : List ℕ) (least : Distance) → a ≡ heads_cleared nodes (N + 1) part → b ≡ links_reversed bytes nodes links T N a → d ≡ finals_reversed bytes nodes links T N b

@@ -1,2 +1,3 @@
 pub mod ReverseWords
 pub mod Laid
+pub mod Roomy

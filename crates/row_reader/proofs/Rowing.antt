@@ -1,8 +1,9 @@
 -- The row reader's answers: by the fields that are given one by one, and by the definitions of rows. Assumes nothing.
-use mathlib.Core.Path.{◌≡◌, refl, ap, ◌∙◌, subst}
+use mathlib.Core.Path.{◌≡◌, refl, sym, ap, ◌∙◌, subst}
 use mathlib.Core.Bool.{Bool, true, false, cond}
 use Rattle.std.proofs.Common.{Bor, Option, None, Some}
 use mathlib.Core.List.{List, [], ◌∷◌, ◌++◌}
+use Rattle.std.proofs.lemmas.List.{append_assoc, append-nil}
 use Prim.Native.Nat.{ℕ, ◌+◌, ◌≤◌, ◌<◌}
 use native.Mathlib.Omega.{arith}
 use lib.Dec.{ltb}
@@ -19,15 +20,24 @@ use Rattle.row_reader.specs.declared.row.Row as Code
 use Rattle.row_reader.proofs.Runs.{run-most}
 
 -- ---- the fields that are given one by one, in the text that the reader began with
-module _ (text : Bor (List ℕ)) (at : ℕ) where
-  abbrev pub fields : List (List ℕ)
-  fields = row_fields text.now at
+pub record Taken (text : Bor (List ℕ)) (at : ℕ) (now : Bor (List ℕ)) (here : ℕ) (xs : List (List ℕ)) : Type 0 where
+  pub kept : now ≡ text
+  pub are : row_fields text.now at ≡ xs ++ row_fields text.now here
 
-  pub grown : {now : Bor (List ℕ)} → now ≡ text → (xs : List (List ℕ)) (a b : ℕ) (f : List ℕ) → fields ≡ xs ++ row_fields text.now a → FieldGiven now.now a (Some f) b → fields ≡ xs ++ (f ∷ row_fields text.now b)
-  grown e xs a b f before g = before ∙ ap (λ (fs : List (List ℕ)). xs ++ fs) (subst (λ (t : Bor (List ℕ)). FieldGiven t.now a (Some f) b) e g).0
+pub taken_none : (text : Bor (List ℕ)) (at : ℕ) → Taken text at text at []
+taken_none text at = record { kept = refl; are = refl }
 
-  pub ended : {now : Bor (List ℕ)} → now ≡ text → (xs : List (List ℕ)) (a b : ℕ) → fields ≡ xs ++ row_fields text.now a → FieldGiven now.now a None b → fields ≡ xs ++ []
-  ended e xs a b before g = before ∙ ap (λ (fs : List (List ℕ)). xs ++ fs) (subst (λ (t : Bor (List ℕ)). FieldGiven t.now a None b) e g).0
+module _ {text now : Bor (List ℕ)} {at here : ℕ} {xs : List (List ℕ)} (taken : Taken text at now here xs) where
+  pub taken_more : (f : List ℕ) {new : Bor (List ℕ)} {there : ℕ} → new ≡ now → FieldGiven now.now here (Some f) there → Taken text at new there (xs ++ (f ∷ []))
+  taken_more f {new} {there} e g = record {
+    kept = e ∙ taken.kept;
+    are =
+        taken.are ∙ ap (λ (fs : List (List ℕ)). xs ++ fs) (subst (λ (t : Bor (List ℕ)). FieldGiven t.now here (Some f) there) taken.kept g).0
+        ∙ sym (append_assoc xs (f ∷ []) (row_fields text.now there));
+  }
+
+  pub taken_all : {there : ℕ} → FieldGiven now.now here None there → row_fields text.now at ≡ xs
+  taken_all {there} g = taken.are ∙ ap (λ (fs : List (List ℕ)). xs ++ fs) (subst (λ (t : Bor (List ℕ)). FieldGiven t.now here None there) taken.kept g).0 ∙ append-nil xs
 
 -- ---- the row of these fields
 abbrev pub row_for : List (List ℕ) → Option Code.Row

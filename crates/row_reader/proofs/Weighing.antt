@@ -89,24 +89,19 @@ of-below [] v e = absurd (cc)
 of-below (c ∷ cs) v e = let h = digits-below (c ∷ cs) 0 v e in omega arith
 
 -- ---- decimals
-abbrev pub scale : List ℕ
-scale = 1000000 ∷ 100000 ∷ 10000 ∷ 1000 ∷ 100 ∷ 10 ∷ 1 ∷ []
-
--- the table's rule, and k digits scaled are below a million
+-- k digits scaled are below a million
 pub record Scaled (k : ℕ) : Type 0 where
-  pub power : get_or scale k 0 ≡ 10 ^ (6 - k)
-  pub most : get_or scale k 0 ≤ 1000000
   pub below : (v : ℕ) → v < 10 ^ k → v * 10 ^ (6 - k) < 1000000
   pub small : 10 ^ k ≤ 1000000
 
 pub scaled : (k : ℕ) → k ≤ 6 → Scaled k
-scaled zero h = record { power = refl; most = omega arith; below = λ v l. omega arith; small = omega arith }
-scaled (suc zero) h = record { power = refl; most = omega arith; below = λ v l. omega arith; small = omega arith }
-scaled (suc (suc zero)) h = record { power = refl; most = omega arith; below = λ v l. omega arith; small = omega arith }
-scaled (suc (suc (suc zero))) h = record { power = refl; most = omega arith; below = λ v l. omega arith; small = omega arith }
-scaled (suc (suc (suc (suc zero)))) h = record { power = refl; most = omega arith; below = λ v l. omega arith; small = omega arith }
-scaled (suc (suc (suc (suc (suc zero))))) h = record { power = refl; most = omega arith; below = λ v l. omega arith; small = omega arith }
-scaled (suc (suc (suc (suc (suc (suc zero)))))) h = record { power = refl; most = omega arith; below = λ v l. omega arith; small = omega arith }
+scaled zero h = record { below = λ v l. omega arith; small = omega arith }
+scaled (suc zero) h = record { below = λ v l. omega arith; small = omega arith }
+scaled (suc (suc zero)) h = record { below = λ v l. omega arith; small = omega arith }
+scaled (suc (suc (suc zero))) h = record { below = λ v l. omega arith; small = omega arith }
+scaled (suc (suc (suc (suc zero)))) h = record { below = λ v l. omega arith; small = omega arith }
+scaled (suc (suc (suc (suc (suc zero))))) h = record { below = λ v l. omega arith; small = omega arith }
+scaled (suc (suc (suc (suc (suc (suc zero)))))) h = record { below = λ v l. omega arith; small = omega arith }
 scaled (suc (suc (suc (suc (suc (suc (suc k))))))) h = absurd (omega arith)
 
 module _ (ds : List ℕ) where
@@ -122,7 +117,7 @@ module _ (ds : List ℕ) where
   by-none (Some n) e = absurd (cc)
 
   by_value : (o : Option ℕ) (v : ℕ) → digits_held o ≡ Some v → (length ds ≤ 6) → ((n : ℕ) → o ≡ Some n → n < 10 ^ length ds)
-      → (part_by o) ≡ Some (v * get_or scale (length ds) 0)
+      → (part_by o) ≡ Some (v * 10 ^ (6 - length ds))
   by_value None v e h below = absurd (cc)
   by_value (Some n) v e h below =
       let s = scaled (length ds) h in
@@ -130,7 +125,7 @@ module _ (ds : List ℕ) where
       let l = below n refl in
       let same : n ≡ v = omega (arith, s.small) in
       ap (λ (b : Bool). (cond b (Some (n * 10 ^ (6 - length ds))) None)) (le-leb _ _ h)
-      ∙ (λ i. Some (same i * sym s.power i))
+      ∙ ap (λ (x : ℕ). Some (x * 10 ^ (6 - length ds))) same
 
   by_most : (o : Option ℕ) (m : ℕ) → (part_by o) ≡ Some m → ((n : ℕ) → o ≡ Some n → n < 10 ^ length ds) → m < 1000000
   by_most None m e below = absurd (cc)
@@ -151,7 +146,7 @@ module _ (ds : List ℕ) where
   unfolding part_of
   part_none e = by-none (digits_of ds) e
 
-  pub part-is : (v : ℕ) → digits_held (digits_of ds) ≡ Some v → length ds ≤ 6 → (part_of (46 ∷ ds)) ≡ Some (v * get_or scale (length ds) 0)
+  pub part-is : (v : ℕ) → digits_held (digits_of ds) ≡ Some v → length ds ≤ 6 → (part_of (46 ∷ ds)) ≡ Some (v * 10 ^ (6 - length ds))
   unfolding part_of
   part-is v e h = by_value (digits_of ds) v e h (of-below ds)
 

@@ -34,7 +34,8 @@ fn field_length(text: &[u8]) -> usize
     text.iter().take_while(|c| in_field(**c)).count()
 }
 
-// The fields of the row that goes on at a place of a text.
+// The fields of the row that goes on at a place of a text. A place beside the text, and not its rest alone: where the row
+// ends is asked for as a place.
 #[derive(Clone, Copy)]
 pub struct Fields<'a> {
     pub text: &'a [u8],
@@ -43,7 +44,8 @@ pub struct Fields<'a> {
 }
 
 impl<'a> Fields<'a> {
-    // The next field; none at the row's end, where `at` is then.
+    // The next field; none at the row's end, where `at` is then. A method and no Iterator: no loop goes over a
+    // row's fields, and the clause stands here.
     pub fn next_field(&mut self) -> Option<&'a [u8]>
         ensures kept { self.new.text ≡ self.old.text }
         ensures given { FieldGiven self.old.text.now self.old.at (option_map (λ f. f.now) result) self.new.at }

@@ -13,6 +13,7 @@ const KEPT: usize = tropical_weight::NODE_LIMIT;
 const NODES: u64 = 0x1_0000_0000;
 
 // A pass under way over the final rows at nodes from `first` on: the nodes kept, rising, and the node from which on all are left to the next pass.
+// An array and a count: no heap, and so no Vec.
 #[derive(Drop)]
 struct Pass {
     first: u64,
@@ -23,7 +24,8 @@ struct Pass {
 }
 
 // Puts a node among the kept ones; true where it is there already. From the back and not by binary_search: final rows mostly
-// rise, so that one comparison finds the place, and the nodes behind it move in the same loop.
+// rise, so that one comparison finds the place, and the nodes behind it move in the same loop. The count stands beside the
+// array, since the node that is put takes the slot behind the kept ones.
 fn put(kept: &mut [u32; KEPT], count: usize, node: u32) -> bool
     requires { count < most }
     ensures value { result ≡ has node (falling kept.old count) }

@@ -85,7 +85,8 @@ fn row_of(fields: &mut Fields) -> Option<Row>
     }
 }
 
-// The row that begins at a place of a text: a newline ends it.
+// The row that begins at a place of a text: a newline ends it. By the place and not by the text's rest: the end that is
+// told is a place of the same text.
 pub fn row_at(text: &[u8], at: usize) -> Option<Read>
     requires { at ≤ length text.now }
     ensures { result ≡ row_at text.now at }

@@ -5,7 +5,8 @@ ghost use Rattle.row_reader.specs.RowReading.{Gives};
 
 use crate::row::{Row, row_at};
 
-// The rows of a text from a place on where a row begins; the last where one cannot be read is a none.
+// The rows of a text from a place on where a row begins; the last where one cannot be read is a none. A place beside the
+// text, since a row that is read tells where the next begins as a place.
 #[derive(Clone, Copy, Drop)]
 pub struct Rows<'a> {
     text: &'a [u8],

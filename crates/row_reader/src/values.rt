@@ -1,4 +1,4 @@
-// Numbers and weights of fields.
+// Numbers and weights of fields. `as` narrows what the clauses bound: TryFrom would have a case that never comes.
 ghost use Rattle.std.specs.Prelude.{◌≡◌, ◌∷◌, ◌≤◌, ◌==◌, position};
 ghost use Rattle.std.specs.Option.{option_map};
 ghost use Rattle.tropical_weight.specs.Limits.{weight_limit};
@@ -6,10 +6,7 @@ ghost use Rattle.text_rows.specs.Fields.{number_of, infinity_text, same_text, pa
 ghost use Rattle.row_reader.specs.Reading.{most_millionths, millionths_held, units_read, signed_by, weight_by, decimal_read, weight_read};
 
 use decimals::read::{HELD, digits_in};
-use tropical_weight::{UNIT, WEIGHT_LIMIT};
-
-// How many units are 1.
-const UNITS: u64 = 1 << UNIT;
+use tropical_weight::{UNITS, WEIGHT_LIMIT};
 
 // How many millionths are 1.
 const MILLION: u64 = 1_000_000;
@@ -32,9 +29,6 @@ fn point_in(field: &[u8]) -> Option<usize>
 // The most decimals of a weight.
 const DECIMALS: usize = 6;
 
-// Millionths in one at so many decimals.
-const SCALE: [u64; 7] = [MILLION, 100_000, 10_000, 1000, 100, 10, 1];
-
 // One to six decimals, in millionths.
 fn part_in(decimals: &[u8]) -> Option<u64>
     ensures { result ≡ part_of (46 ∷ decimals.now) }
@@ -44,7 +38,7 @@ fn part_in(decimals: &[u8]) -> Option<u64>
         return None;
     }
     let value = digits_in(decimals)?;
-    Some(value * SCALE[n])
+    Some(value * 10u64.pow((DECIMALS - n) as u32))
 }
 
 // Digits, and perhaps a point and one to six digits: so many millionths, held where the ones are more than any weight has.
@@ -66,7 +60,7 @@ fn units_in(millionths: u64) -> Option<u32>
     requires { millionths ≤ most_millionths }
     ensures { result ≡ units_read millionths }
 {
-    let scaled = millionths * UNITS;
+    let scaled = millionths * u64::from(UNITS);
     if scaled % MILLION != 0 {
         return None;
     }
@@ -93,7 +87,8 @@ fn by_sign(minus: bool, units: u32) -> i32
     if minus { -(units as i32) } else { units as i32 }
 }
 
-// So many millionths, by their sign.
+// So many millionths, by their sign. It goes beside them: the grid and the limit are tested without it, so that
+// a signed number would be split again.
 fn weight_of(minus: bool, millionths: u64) -> Weight
     requires { millionths ≤ most_millionths }
     ensures { result ≡ weight_by minus (units_read millionths) }

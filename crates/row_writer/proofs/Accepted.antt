@@ -1,22 +1,43 @@
--- Of an accepted sheet: what its counts and its start are of its parts, the numbers of each node's links, and that its weights pass test 4. Assumes nothing.
-use mathlib.Core.Path.{◌≡◌, sym, ap, ◌∙◌, subst}
-use mathlib.Core.Bool.{Bool, true, ◌||◌}
+-- Of an accepted sheet: what its counts and its start are of its parts, the numbers of each node's links, its marks, and that its weights pass test 4. Assumes nothing.
+use mathlib.Core.Path.{◌≡◌, refl, sym, ap, ◌∙◌, subst}
+use mathlib.Core.Bool.{Bool, true, false, ◌&&◌, ◌||◌, cond, false≢true, true≢false}
+use Rattle.std.proofs.Common.{Option, None, Some, is_some, unwrap_or}
 use Prim.Native.Nat.{ℕ, ◌+◌, ◌*◌, ◌≤◌, ◌<◌}
-use native.Mathlib.Numerals.{add-one}
 use native.Mathlib.Omega.{arith}
+use lib.Dec.{eqb, ltb}
 use lib.ListN.{get_or}
-use borrow.Author.Tests.{ne_eqb}
+use borrow.Author.Tests.{eqb-true, ltb-false}
 use Rattle.sheet.specs.declared.accepted.Sheet.{Sheet}
+use Rattle.sheet.specs.declared.source.Source.{Source}
 use Rattle.sheet.specs.declared.tr.Trailer.{Trailer}
-use Rattle.sheet.specs.Below.{sum_below}
+use Rattle.sheet.specs.Below.{all_below, sum_below}
 use Rattle.sheet.specs.Words.{word}
-use Rattle.sheet.specs.Sheet.{Parts, link_count, node_count, ilabel, olabel, link_bits, next, count, mark, final_bits, weight_fits, weights_fit, parts_of, read_number, sizes_fit, nodes_fit, stated_links}
-use Rattle.sheet.proofs.Below.{sum_mono}
-use Rattle.sheet.proofs.Fields.{get_d_words, read-fields}
-use Rattle.sheet.proofs.Sources.{counts-sum}
+use Rattle.sheet.specs.Records.{count_at, first_link}
+use Rattle.sheet.specs.Sheet.{Parts, link_count, node_count, ilabel, olabel, link_bits, next, count, mark, final_bits, well_marked, weight_fits, weights_fit, parts_of, read_number, sizes_fit, nodes_fit, stated_links}
+use Rattle.sheet.specs.Accepted.{start_in, ending}
+use Rattle.sheet.proofs.Apart.{both}
+use Rattle.sheet.proofs.Below.{all_below-at, sum_below-same}
+use Rattle.sheet.proofs.Fields.{get_d_words}
+use Rattle.sheet.proofs.AcceptedSheet as Of
 use Rattle.text_rows.specs.Written.{first_of}
 use Rattle.text_rows.proofs.Fitting as Fitting
 use Rattle.text_rows.proofs.RowsBack.{accepted}
+
+-- where there is no start, its field is no node
+pub start-past : (nodes start : ℕ) → start_in nodes start ≡ None → nodes ≤ start
+start-past nodes start e = go (ltb start nodes) refl e
+  where
+    go : (b : Bool) → ltb start nodes ≡ b → cond b (Some start) None ≡ None → nodes ≤ start
+    go true q e = absurd (true≢false (ap is_some e))
+    go false q e = ltb-false start nodes q
+
+-- a final weight is that of a node with a mark
+pub ended : (p : Parts) (v bits : ℕ) → ending p v ≡ Some bits → (eqb (mark p v) 0 ≡ false) × (bits ≡ final_bits p v)
+ended p v bits e = go (eqb (mark p v) 0) refl e
+  where
+    go : (b : Bool) → eqb (mark p v) 0 ≡ b → cond b None (Some (final_bits p v)) ≡ Some bits → (eqb (mark p v) 0 ≡ false) × (bits ≡ final_bits p v)
+    go true q e = absurd (false≢true (ap is_some e))
+    go false q e = (q, sym (ap (λ (o : Option ℕ). unwrap_or o 0) e))
 
 module _ (s : Sheet) where
   abbrev p : Parts
@@ -24,37 +45,46 @@ module _ (s : Sheet) where
 
   -- ---- the trailer
   pub links-are : s.links ≡ link_count p
-  links-are = ap (λ (t : Trailer). t.links) s.stated ∙ sym (read-fields s.bytes.now).links-are
+  links-are = sym (Of.link-count-is s.bytes.now s.links s.nodes s.start s.accepted s.stated)
 
   pub nodes-are : s.nodes ≡ node_count p
-  nodes-are = ap (λ (t : Trailer). t.nodes) s.stated ∙ sym (read-fields s.bytes.now).nodes-are
+  nodes-are = sym (Of.node-count-is s.bytes.now s.links s.nodes s.start s.accepted s.stated)
 
   pub start_is : s.start ≡ p.start
-  unfolding parts_of
-  start_is = ap (λ (t : Trailer). t.start) s.stated
+  start_is = Of.start-is s.bytes.now s.links s.nodes s.start s.accepted s.stated
 
   -- ---- links by node
-  pub first_next : (v : ℕ) → first_of p (v + 1) ≡ first_of p v + count p v
-  unfolding sum_below
-  first_next v = ap (first_of p) (add-one v)
+  pub count-is : (v : ℕ) → v < s.nodes → count_at s.bytes.now s.links v ≡ count p v
+  count-is = Of.count-is s.bytes.now s.links s.nodes s.start s.accepted s.stated
 
+  first-is : (v : ℕ) → v ≤ s.nodes → first_link s.bytes.now s.links v ≡ first_of p v
+  first-is v h = sum_below-same v (count_at s.bytes.now s.links) (count p) (λ u b. count-is u (omega arith))
+
+  -- ---- marks
   nodes-fit : nodes_fit p ≡ true
   unfolding read_number
   nodes-fit = (accepted (sizes_fit s.bytes.now) p s.accepted).0
 
-  pub first-most : (v : ℕ) → v ≤ s.nodes → first_of p v ≤ s.links
-  first-most v h = omega (arith, links-are, counts-sum p nodes-fit, sum_mono (count p) (node_count p) v (omega (arith, nodes-are)))
-
-  pub link-below : (v i : ℕ) → v < s.nodes → i < count p v → first_of p v + i < s.links
-  link-below v i h b = omega (arith, first-most (v + 1) (omega arith), first_next v, b)
+  -- a node has an end where its mark is 1
+  pub end-marked : (v : ℕ) → v < s.nodes → is_some (ending p v) ≡ eqb (mark p v) 1
+  unfolding nodes_fit
+  end-marked v h =
+      let all = (both (all_below (node_count p) (λ u. well_marked (mark p u) (final_bits p u))) (eqb (sum_below (node_count p) (count p)) (link_count p)) nodes-fit).0 in
+      go (eqb (mark p v) 1) (eqb (mark p v) 0) refl refl (all_below-at (node_count p) (λ u. well_marked (mark p u) (final_bits p u)) all v (omega (arith, nodes-are)))
+    where
+      go : (a b : Bool) → eqb (mark p v) 1 ≡ a → eqb (mark p v) 0 ≡ b → a || (b && eqb (final_bits p v) 0) ≡ true → is_some (cond b None (Some (final_bits p v))) ≡ a
+      go true true e f w = absurd (omega (arith, eqb-true (mark p v) 1 e, eqb-true (mark p v) 0 f))
+      go true false e f w = refl
+      go false true e f w = refl
+      go false false e f w = absurd (false≢true w)
 
   -- ---- a link's next node and labels
   module _ (l : ℕ) (h : l < s.links) where
+    pub next_at : word s.bytes.now (16 * l + 12) ≡ next p l
+    next_at = Of.next-is s.bytes.now s.links s.nodes s.start s.accepted s.stated l h
+
     l-in : l < stated_links s.bytes.now
     l-in = subst (λ (n : ℕ). l < n) (ap (λ (t : Trailer). t.links) s.stated) h
-
-    pub next_at : word s.bytes.now (16 * l + 12) ≡ next p l
-    next_at = sym ((read-fields s.bytes.now).next-is l l-in)
 
     among : (i at : ℕ) → i < 4 * stated_links s.bytes.now → 4 * i ≡ at → word s.bytes.now at ≡ get_or p.links i 0
     unfolding parts_of
@@ -74,5 +104,11 @@ module _ (s : Sheet) where
   pub link_on : (l : ℕ) → l < s.links → weight_fits (link_bits p l) ≡ true
   link_on l h = Fitting.link_on p weights-fit l (subst (λ (n : ℕ). l < n) links-are h)
 
-  pub final-on : (v : ℕ) → v < s.nodes → (mark p v ≡ 0 → ⊥) → weight_fits (final_bits p v) ≡ true
-  final-on v h n = ap (λ (b : Bool). b || weight_fits (final_bits p v)) (sym (ne_eqb (mark p v) 0 n)) ∙ Fitting.final-on p weights-fit v (subst (λ (n : ℕ). v < n) nodes-are h)
+  pub final-on : (v bits : ℕ) → v < s.nodes → ending p v ≡ Some bits → weight_fits bits ≡ true
+  final-on v bits h e =
+      let held = ended p v bits e in
+      ap weight_fits held.1 ∙ ap (λ (b : Bool). b || weight_fits (final_bits p v)) (sym held.0) ∙ Fitting.final-on p weights-fit v (omega (arith, nodes-are))
+
+-- a source's first link, by the parts
+pub source-first : (r : Source) → r.first ≡ first_of (parts_of r.sheet.bytes.now) r.node
+source-first r = r.begins ∙ first-is r.sheet r.node (omega (arith, r.inside))

@@ -8,8 +8,9 @@ use native.Mathlib.Omega.{arith}
 use lib.Dec.{eqb}
 use lib.ListN.{length, length-append}
 use borrow.Author.Tests.{eq-eqb, ne_eqb}
+use Rattle.sheet.specs.declared.accepted.Sheet.{Sheet}
 use Rattle.sheet.specs.Below.{sum_below, list_below}
-use Rattle.sheet.specs.Sheet.{Parts, node_count, count}
+use Rattle.sheet.specs.Sheet.{Parts, node_count, count, parts_of}
 use Rattle.sheet.proofs.Below.{sum_mono, sum_below-same, sum_below-add, sum_below-only, flat-snoc}
 use Rattle.text_rows.specs.Written.{link_row, final_row, first_of, node_rows, text_of}
 use Rattle.row_writer.specs.OtherRows.{other_rows}
@@ -17,6 +18,10 @@ use Rattle.row_writer.specs.OtherRows.{other_rows}
 pub sum_more : (f : ℕ → ℕ) (n : ℕ) → sum_below (n + 1) f ≡ sum_below n f + f n
 unfolding sum_below
 sum_more f n = ap (λ (k : ℕ). sum_below k f) (add-one n)
+
+-- a node's rows, by the sheet and the number that its source has
+pub rows-same : (s t : Sheet) (u v : ℕ) → s ≡ t → u ≡ v → node_rows (parts_of s.bytes.now) u ≡ node_rows (parts_of t.bytes.now) v
+rows-same s t u v e h i = node_rows (parts_of (e i).bytes.now) (h i)
 
 -- ---- texts for the numbers below a bound, one after the other
 module _ (f : ℕ → List ℕ) where

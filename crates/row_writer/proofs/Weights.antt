@@ -1,19 +1,19 @@
 -- The text of a weight by its sign, and the units of a field on the grid. Assumes nothing.
 use mathlib.Core.Path.{◌≡◌, refl, sym, ap, ◌∙◌, subst}
-use mathlib.Core.Bool.{Bool, true, false, ◌||◌, true≢false}
-use mathlib.Core.List.{◌∷◌}
+use mathlib.Core.Bool.{Bool, true, ◌||◌}
+use mathlib.Core.List.{◌++◌}
+use Rattle.decimals.specs.Decimal.{sign_text}
 use Prim.Native.Nat.{ℕ, ◌≤◌}
 use native.Mathlib.Nat.{le_trans}
 use native.Mathlib.Omega.{arith}
 use lib.IntN.{ℤ, pos, negsuc, nat_abs}
-use lib.Signed.{lt_z}
 use lib.Dec.{lit≤}
 use lib.Ieee.{Float, binary32, of_bits}
 use lib.Ieee.Bits.{of_bits-fits}
 use mir.Syntax.{w32}
 use mir.Val.{SFits, to_z, of_z}
 use mir.ValLaws.{to_z-of_z}
-use borrow.Author.Tests.{ltb-true, ne_eqb}
+use borrow.Author.Tests.{ne_eqb}
 use Rattle.tropical_weight.specs.Limits.{unit, weight_limit}
 use Rattle.tropical_weight.specs.Single.{Costs}
 use Rattle.tropical_weight.proofs.Grid.{on_grid-whole}
@@ -22,15 +22,10 @@ use Rattle.tropical_weight.specs.Grid.{grid_bits}
 use Rattle.sheet.specs.Sheet.{barred_bits, on_grid_bits, weight_fits}
 use Rattle.text_rows.specs.Written.{magnitude_text, weight_text}
 
-pub weight-minus : (z : ℤ) → lt_z z (pos 0) ≡ true → 45 ∷ magnitude_text (nat_abs z) ≡ weight_text z
+pub weight-signed : (z : ℤ) → sign_text z ++ magnitude_text (nat_abs z) ≡ weight_text z
 unfolding weight_text
-weight-minus (pos n) e = absurd (omega (arith, ltb-true n 0 e))
-weight-minus (negsuc n) e = refl
-
-pub weight-plain : (z : ℤ) → lt_z z (pos 0) ≡ false → magnitude_text (nat_abs z) ≡ weight_text z
-unfolding weight_text
-weight-plain (pos n) e = refl
-weight-plain (negsuc n) e = absurd (true≢false e)
+weight-signed (pos n) = refl
+weight-signed (negsuc n) = refl
 
 -- a field that passes and does not bar is on the grid
 pub on-grid : (bits : ℕ) → weight_fits bits ≡ true → (bits ≡ barred_bits → ⊥) → on_grid_bits bits ≡ true

@@ -10,7 +10,7 @@ fn has_own(sheet: &Sheet, v: u32) -> bool
     requires { v < sheet.now.nodes }
     ensures { result ≡ has_own (parts_of sheet.now.bytes.now) v }
 {
-    sheet.count(v) != 0 || sheet.mark(v) == 1
+    sheet.count(v) != 0 || sheet.final_bits(v).is_some()
 }
 
 // A link to node v.
@@ -29,9 +29,9 @@ fn is_led(sheet: &Sheet, v: u32) -> bool
 pub fn has_rows(sheet: &Sheet) -> bool
     ensures { result ≡ has_rows (parts_of sheet.now.bytes.now) }
 {
-    if sheet.nodes <= sheet.start {
+    let Some(start) = sheet.start() else {
         return false;
-    }
+    };
     let last = sheet.nodes - 1;
-    has_own(sheet, sheet.start) && (has_own(sheet, last) || is_led(sheet, last))
+    has_own(sheet, start) && (has_own(sheet, last) || is_led(sheet, last))
 }

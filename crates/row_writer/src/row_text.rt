@@ -1,4 +1,5 @@
-// The text of one row, part by part behind what a row holds already.
+// The text of one row, part by part behind what a row holds already. By hand and not by Display: the clauses say the bytes,
+// and no heap is used.
 ghost use Rattle.std.specs.Prelude.{◌≡◌, true, ◌+◌, ◌≤◌, ◌<◌, ◌++◌, nat_abs, length};
 ghost use Rattle.tropical_weight.specs.Limits.{weight_limit};
 ghost use Rattle.sheet.specs.Sheet.{parts_of, weight_fits};
@@ -9,16 +10,14 @@ ghost use Rattle.text_rows.specs.Written.{part_text, magnitude_text, weight_text
 use decimals::text::Text;
 use sheet::accepted::Sheet;
 use sheet::tr::BARRED;
-use tropical_weight::UNIT;
+use tropical_weight::UNITS;
 
+// `as` narrows what the clauses bound.
 // A row as it is made. Its area has room for any: at least `row_most`.
 pub type Row = Text<64>;
 
-// How many units are 1.
-const UNITS: u32 = 1 << UNIT;
-
 // How many millionths are a unit.
-const IN_UNIT: u32 = 1_000_000 >> UNIT;
+const IN_UNIT: u32 = 1_000_000 / UNITS;
 
 // How many millionths a first digit behind the point counts.
 const TENTH: u32 = 100_000;
@@ -60,9 +59,7 @@ fn put_units(row: &mut Row, units: i32)
     ensures text { row.new ≡ row.old ++ weight_text units }
     ensures upper_bound { length row.new ≤ length row.old + units_most }
 {
-    if units < 0 {
-        row.put_byte(b'-');
-    }
+    row.put_sign(units);
     put_magnitude(row, units.unsigned_abs());
 }
 
@@ -128,11 +125,11 @@ pub fn final_row(sheet: &Sheet, v: u32) -> Row
     ensures upper_bound { length result ≤ row_most }
 {
     let mut row = Row::new();
-    if sheet.mark(v) == 0 {
+    let Some(bits) = sheet.final_bits(v) else {
         return row;
-    }
+    };
     row.put_decimal(v);
-    put_weight(&mut row, sheet.final_bits(v));
+    put_weight(&mut row, bits);
     row.put_byte(b'\n');
     row
 }

@@ -9,10 +9,7 @@ use row_filler::fill::fill;
 use row_reader::finals::finals_once;
 use row_reader::survey::{Survey, start_of, survey_of};
 use sheet::refusal::Refusal;
-use sheet::tr::TRAILER;
-
-// So many links that 16 bytes each are past the field of the nodes' offset.
-const LINKS_PAST: usize = 0x1000_0000;
+use sheet::tr::{LINKS_PAST, TRAILER};
 
 // What the rows of a text say, after the tests 8, 1 and 4, each over the whole text, in this order.
 fn judge(text: &[u8]) -> Result<Survey, Refusal>

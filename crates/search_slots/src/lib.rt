@@ -1,5 +1,6 @@
 // The part of the work area that a search runs on: the words of the slots of its entries, nodes and
-// reversed links.
+// reversed links. Numbers of words and no struct: the slots are lent from C as words, and entries, chains
+// and the heap are numbers of slots, since there is no heap memory.
 #![tactic(auto)]
 
 // The words of an entry's slot, after its node: where it came from, and by which input link; a place

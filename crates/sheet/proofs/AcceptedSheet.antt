@@ -1,8 +1,10 @@
 -- Of an accepted sheet with its counts: what its records are in the words of specs/. Assumes nothing.
 use mathlib.Core.Path.{◌≡◌, refl, sym, ap, ◌∙◌, subst}
-use mathlib.Core.Bool.{Bool, true, false, ◌&&◌}
+use mathlib.Core.Bool.{Bool, cond, true, false, ◌&&◌}
+use Rattle.std.proofs.Common.{Option, None, Some}
+use Rattle.std.proofs.lemmas.Bool.{ltb-false}
 use mathlib.Core.List.{List}
-use Prim.Native.Nat.{ℕ, ◌+◌, ◌*◌, ◌<◌}
+use Prim.Native.Nat.{ℕ, ◌+◌, ◌*◌, ◌≤◌, ◌<◌}
 use native.Mathlib.Omega.{arith}
 use lib.Dec.{leb, ltb, eqb, ltb→lt, T as Holds}
 use borrow.Author.Tests.{eqb-true}
@@ -11,7 +13,7 @@ use Rattle.sheet.specs.declared.tr.Trailer.{Trailer}
 use Rattle.sheet.specs.Words.{word}
 use Rattle.sheet.specs.Sheet.{Parts, link_count, node_count, count, mark, final_bits, link_bits, next, nodes_fit, start_fits, nexts_fit, weights_fit, verdict, parts_of, sizes_fit, read_number, stated_links, stated_nodes, trailer_field, trailer_length}
 use Rattle.sheet.specs.Records.{trailer_at, count_at, mark_at, final_at}
-use Rattle.sheet.specs.Accepted.{trailer_in}
+use Rattle.sheet.specs.Accepted.{trailer_in, stated_trailer}
 use Rattle.sheet.proofs.Apart.{both}
 use Rattle.sheet.proofs.Below.{all_below-at}
 use Rattle.sheet.proofs.Passes.{first_failing, first-known}
@@ -27,7 +29,16 @@ pub read-known : (bytes : List ℕ) → Known (read_number bytes)
 unfolding read_number
 read-known bytes = verdict-known (sizes_fit bytes) (parts_of bytes)
 
--- a verdict of 0 says of each next node that it is one
+-- a verdict of 0 says of the nodes that they pass test 1
+pub nodes-pass : (laid : Bool) (p : Parts) → verdict laid p ≡ 0 → nodes_fit p ≡ true
+unfolding verdict
+nodes-pass laid p e = (both laid (nodes_fit p) (first (laid && nodes_fit p) (start_fits (node_count p) p.start) (nexts_fit p) (weights_fit p) e)).1
+  where
+    first : (a b c d : Bool) → first_failing a b c d ≡ 0 → a ≡ true
+    first true b c d e = refl
+    first false b c d e = absurd (omega arith)
+
+-- and of each next node that it is one
 pub nexts-pass : (laid : Bool) (p : Parts) → verdict laid p ≡ 0 → nexts_fit p ≡ true
 unfolding verdict
 nexts-pass laid p = first (laid && nodes_fit p) (start_fits (node_count p) p.start) (nexts_fit p) (weights_fit p)
@@ -37,6 +48,21 @@ nexts-pass laid p = first (laid && nodes_fit p) (start_fits (node_count p) p.sta
     first true false c d e = absurd (omega arith)
     first true true true d e = refl
     first true true false d e = absurd (omega arith)
+
+-- ---- the trailer of a byte string, where it is long enough for one
+pub stated-some : (bytes : List ℕ) (t : Trailer) → ◌≡◌ {A = Option Trailer} (Some t) (stated_trailer bytes) → (20 ≤ length bytes) × (t ≡ trailer_at bytes)
+stated-some bytes t e = go (ltb (length bytes) trailer_length) refl e
+  where
+    go : (b : Bool) → ltb (length bytes) trailer_length ≡ b → ◌≡◌ {A = Option Trailer} (Some t) (cond b None (Some (trailer_at bytes))) → (20 ≤ length bytes) × (t ≡ trailer_at bytes)
+    go true q h = absurd (cc)
+    go false q h = (ltb-false (length bytes) 20 q, cc)
+
+pub stated-none : (bytes : List ℕ) → ◌≡◌ {A = Option Trailer} None (stated_trailer bytes) → length bytes < 20
+stated-none bytes e = go (ltb (length bytes) trailer_length) refl e
+  where
+    go : (b : Bool) → ltb (length bytes) trailer_length ≡ b → ◌≡◌ {A = Option Trailer} None (cond b None (Some (trailer_at bytes))) → length bytes < 20
+    go true q h = ltb→lt (length bytes) 20 (subst Holds (sym q) tt)
+    go false q h = absurd (cc)
 
 -- ---- the trailer of a sheet that is accepted
 pub trailer-stated : (bytes : List ℕ) → read_number bytes ≡ 0 → trailer_in (stated_links bytes) (stated_nodes bytes) (trailer_field bytes 4) ≡ trailer_at bytes

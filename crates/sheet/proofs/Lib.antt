@@ -10,4 +10,5 @@ pub mod Sources
 pub mod Encoding
 pub mod Reading
 pub mod AcceptedSheet
+pub mod NodeSources
 pub mod Bench

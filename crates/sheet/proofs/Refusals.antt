@@ -1,5 +1,5 @@
 -- An answer by its number, and the number by the answer. Assumes nothing.
-use mathlib.Core.Path.{◌≡◌, refl, sym, ap, ◌∙◌, subst}
+use mathlib.Core.Path.{◌≡◌, refl, sym, ap, ◌∙◌}
 use mathlib.Core.Logic.{◌⊎◌, inl, inr}
 use mathlib.Core.Bool.{Bool, true, false, cond}
 use Prim.Native.Nat.{ℕ}
@@ -8,6 +8,7 @@ use borrow.Author.Tests.{eq-eqb, eqb-true}
 use Rattle.std.specs.Prelude.{Result, Ok, Err}
 use Rattle.sheet.specs.declared.refusal.Refusal.{Refusal}
 use Rattle.sheet.specs.Refusals.{number_of, refusal_of, answer_by, answer, number_in}
+use Rattle.sheet.proofs.Apart.{not-both}
 
 -- ---- a refusal and its number
 pub refusal-again : (r : Refusal) → refusal_of (number_of r) ≡ r
@@ -42,11 +43,8 @@ positive Refusal.Queue = refl
 positive Refusal.NoAnswer = refl
 positive Refusal.Absent = refl
 
-differ : {t : Bool} → t ≡ true → t ≡ false → ⊥
-differ a b = subst (λ (x : Bool). cond x Unit ⊥) (sym a ∙ b) tt
-
 pub number-positive : (r : Refusal) → number_of r ≡ 0 → ⊥
-number-positive r e = differ (eq-eqb (number_of r) 0 e) (positive r)
+number-positive r e = not-both (eq-eqb (number_of r) 0 e) (positive r)
 
 -- two refusals of one number are one
 pub same-refusal : (r s : Refusal) → number_of r ≡ number_of s → r ≡ s
@@ -77,7 +75,7 @@ module _ {A : Type 0} (a : A) where
 
       go : (b : Bool) → eqb k 0 ≡ b → Ok x ≡ answer_by b a k → (k ≡ 0) × (x ≡ a)
       go true e h = (eqb-true k 0 e, ap (value a) h)
-      go false e h = absurd (differ (sym (ap good h)) refl)
+      go false e h = absurd (not-both (sym (ap good h)) refl)
 
   -- what is refused, with another value in its place
   pub passed-on : {B : Type 0} (b : B) (k : ℕ) (r : Refusal) → Err r ≡ answer a k → Err r ≡ answer b k
@@ -92,7 +90,7 @@ module _ {A : Type 0} (a : A) where
       good (Err s) = false
 
       go : (t : Bool) → Err r ≡ answer_by t a k → Err r ≡ answer_by t b k
-      go true h = absurd (differ refl (sym (ap good h)))
+      go true h = absurd (not-both refl (sym (ap good h)))
       go false h = ap Err (ap (refused r) h)
 
 -- ---- numbers that answers have: 0, and those of refusals

@@ -66,11 +66,17 @@ word-front : (w : ℕ) (rest : List ℕ) → w < 4294967296 → word (bytes_of w
 unfolding word bytes_of
 word-front w rest h = digits-back w h
 
-word-drop : (bytes : List ℕ) (at : ℕ) → word bytes at ≡ word (drop at bytes) 0
+pub word-behind : (n : ℕ) (bytes : List ℕ) (at : ℕ) → word (drop n bytes) at ≡ word bytes (n + at)
 unfolding word
-word-drop bytes at =
-    let zero-at : get_or bytes at 0 ≡ get_or (drop at bytes) 0 0 = ap (λ (k : ℕ). get_or bytes k 0) (sym (add-zero at)) ∙ sym (get_or-drop at bytes 0 0) in
-    λ i. zero-at i + 256 * sym (get_or-drop at bytes 1 0) i + 65536 * sym (get_or-drop at bytes 2 0) i + 16777216 * sym (get_or-drop at bytes 3 0) i
+word-behind n bytes at =
+    let one : n + (at + 1) ≡ n + at + 1 = omega arith in
+    let two : n + (at + 2) ≡ n + at + 2 = omega arith in
+    let three : n + (at + 3) ≡ n + at + 3 = omega arith in
+    let field : (i place : ℕ) → n + i ≡ place → get_or (drop n bytes) i 0 ≡ get_or bytes place 0 = λ i place e. get_or-drop n bytes i 0 ∙ ap (λ (k : ℕ). get_or bytes k 0) e in
+    λ j. field at (n + at) refl j + 256 * field (at + 1) (n + at + 1) one j + 65536 * field (at + 2) (n + at + 2) two j + 16777216 * field (at + 3) (n + at + 3) three j
+
+word-drop : (bytes : List ℕ) (at : ℕ) → word bytes at ≡ word (drop at bytes) 0
+word-drop bytes at = sym (word-behind at bytes 0 ∙ ap (word bytes) (add-zero at))
 
 pub bytes_of-word : (bytes : List ℕ) (at : ℕ) → Below 256 bytes → at + 4 ≤ length bytes → bytes_of (word bytes at) ≡ take 4 (drop at bytes)
 unfolding word bytes_of

@@ -1,7 +1,28 @@
--- What a sheet's value keeps of the bytes that it borrows. Definitions only.
-use Rattle.std.specs.Prelude.{ℕ, ◌*◌}
+-- What a sheet's value keeps of the bytes that it borrows, and what its methods give. Definitions only.
+use Rattle.std.specs.Prelude.{ℕ, ◌*◌, cond, ltb, eqb, length, List, [], ◌∷◌, Option, None, Some}
 use Rattle.sheet.specs.declared.tr.Trailer.{Trailer}
+use Rattle.sheet.specs.Sheet.{Parts, mark, final_bits, trailer_length}
+use Rattle.sheet.specs.Records.{trailer_at, mark_at, final_at}
 
 -- the trailer that these counts and this start make
 abbrev pub trailer_in : ℕ → ℕ → ℕ → Trailer
 trailer_in links nodes start = record { link_offset = 0; node_offset = 16 * links; nodes = nodes; links = links; start = start }
+
+-- a trailer's fields, in their order
+abbrev pub trailer_fields : Trailer → List ℕ
+trailer_fields t = t.link_offset ∷ t.node_offset ∷ t.nodes ∷ t.links ∷ t.start ∷ []
+
+-- the trailer of a byte string that is long enough for one
+abbrev pub stated_trailer : List ℕ → Option Trailer
+stated_trailer bytes = cond (ltb (length bytes) trailer_length) None (Some (trailer_at bytes))
+
+-- the start, where it is a node
+abbrev pub start_in : ℕ → ℕ → Option ℕ
+start_in nodes start = cond (ltb start nodes) (Some start) None
+
+-- the field of node v's final weight, where it has a mark: by the bytes, and by the parts
+abbrev pub ending_at : List ℕ → ℕ → ℕ → Option ℕ
+ending_at bytes links v = cond (eqb (mark_at bytes links v) 0) None (Some (final_at bytes links v))
+
+abbrev pub ending : Parts → ℕ → Option ℕ
+ending p v = cond (eqb (mark p v) 0) None (Some (final_bits p v))

@@ -9,3 +9,4 @@ pub mod Answers
 pub mod Reading
 pub mod Readers
 pub mod Accepted
+pub mod NodeSources

@@ -1,11 +1,11 @@
 // A sheet that has passed tests 1 to 4, with the counts and the start that its trailer states. Where
-// one stands, its records may be read without a test.
-ghost use Rattle.std.specs.Prelude.{◌≡◌, ◌+◌, ◌*◌, ◌^◌, ◌<◌, length, IfOk};
+// one stands, its records may be read without a test. Its start is the trailer's word, as C is told it.
+ghost use Rattle.std.specs.Prelude.{◌≡◌, ◌+◌, ◌*◌, ◌^◌, ◌<◌, length, unwrap_or, IfOk, IfSome};
 ghost use Rattle.sheet.specs.Refusals.{number_in};
 ghost use Rattle.sheet.specs.Words.{word as word_at};
-ghost use Rattle.sheet.specs.Sheet.{read_number, parts_of, count, mark, final_bits, link_bits, next};
-ghost use Rattle.sheet.specs.Records.{link_at as record_at, trailer_at, count_at, mark_at, final_at};
-ghost use Rattle.sheet.specs.Accepted.{trailer_in};
+ghost use Rattle.sheet.specs.Sheet.{read_number, parts_of, count, link_bits, next};
+ghost use Rattle.sheet.specs.Records.{link_at as record_at, trailer_at, count_at, final_at};
+ghost use Rattle.sheet.specs.Accepted.{trailer_in, start_in, ending_at, ending};
 
 use crate::read::read;
 use crate::refusal::Refusal;
@@ -40,6 +40,14 @@ impl<'a> Sheet<'a> {
         })
     }
 
+    // The start, where it is a node.
+    pub fn start(&self) -> Option<u32>
+        ensures value { result ≡ start_in self.now.nodes self.now.start }
+        ensures below { IfSome result (λ v. (v ≡ self.now.start) × (v < self.now.nodes)) }
+    {
+        (self.start < self.nodes).then_some(self.start)
+    }
+
     // Field number i of node v, 0 to 2.
     fn node_field(&self, v: u32, i: usize) -> u32
         requires { (v < self.now.nodes) × (i < 3) }
@@ -60,22 +68,17 @@ impl<'a> Sheet<'a> {
         self.node_field(v, 0)
     }
 
-    // The mark of node v.
-    pub fn mark(&self, v: u32) -> u32
+    // The field of node v's final weight, none where it has no mark. Where there is none the field is 0.
+    pub fn final_bits(&self, v: u32) -> Option<u32>
         requires { v < self.now.nodes }
-        ensures word { result ≡ mark_at self.now.bytes.now self.now.links v }
-        ensures part { result ≡ mark (parts_of self.now.bytes.now) v }
+        ensures word { result ≡ ending_at self.now.bytes.now self.now.links v }
+        ensures part { result ≡ ending (parts_of self.now.bytes.now) v }
+        ensures bits { unwrap_or result 0 ≡ final_at self.now.bytes.now self.now.links v }
     {
-        self.node_field(v, 1)
-    }
-
-    // The field of node v's final weight.
-    pub fn final_bits(&self, v: u32) -> u32
-        requires { v < self.now.nodes }
-        ensures word { result ≡ final_at self.now.bytes.now self.now.links v }
-        ensures part { result ≡ final_bits (parts_of self.now.bytes.now) v }
-    {
-        self.node_field(v, 2)
+        if self.node_field(v, 1) == 0 {
+            return None;
+        }
+        Some(self.node_field(v, 2))
     }
 
     // Link number l.

@@ -1,5 +1,5 @@
-// Lists of 32-bit fields by their numbers: those that follow an offset of a byte string, and words.
-ghost use Rattle.std.specs.Prelude.{◌≡◌, ℕ, ◌+◌, ◌-◌, ◌*◌, ◌/◌, ◌<◌, length, get_or};
+// Lists of 32-bit fields by their numbers: those of a byte string, and words.
+ghost use Rattle.std.specs.Prelude.{◌≡◌, ℕ, ◌*◌, ◌/◌, ◌<◌, length, get_or};
 ghost use Rattle.sheet.specs.Words.{word as word_at};
 
 use crate::words::word;
@@ -14,20 +14,19 @@ pub trait Fields {
         ensures { result ≡ value self.now i };
 }
 
-// The fields of a byte string from an offset on.
+// The fields of a byte string, from its first byte on.
 #[derive(Clone, Copy)]
 pub struct Bytes<'a> {
     pub bytes: &'a [u8],
-    pub at: usize,
 }
 
 impl<'a> Fields for Bytes<'a> {
-    ghost count = { λ f. (length f.bytes.now - f.at) / 4 };
+    ghost count = { λ f. length f.bytes.now / 4 };
 
-    ghost value = { λ f i. word_at f.bytes.now (f.at + 4 * i) };
+    ghost value = { λ f i. word_at f.bytes.now (4 * i) };
 
     fn field(&self, i: usize) -> u32 {
-        word(self.bytes, self.at + 4 * i)
+        word(self.bytes, 4 * i)
     }
 }
 

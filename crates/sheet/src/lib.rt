@@ -7,6 +7,7 @@ pub mod field;
 pub mod read;
 pub mod reader;
 pub mod refusal;
+pub mod source;
 mod tests;
 pub mod tr;
 pub mod words;

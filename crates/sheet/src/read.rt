@@ -5,7 +5,7 @@ ghost use Rattle.sheet.specs.Answers.{tested};
 use crate::field::Bytes;
 use crate::refusal::Refusal;
 use crate::tests::{judge, test_links, test_nodes};
-use crate::tr::{TRAILER, Trailer, trailer_of};
+use crate::tr::{TRAILER, Trailer, stated_trailer};
 
 // Offsets and length as laid out.
 fn sizes_fit(t: Trailer, bytes: usize) -> bool
@@ -26,23 +26,15 @@ fn sizes_fit(t: Trailer, bytes: usize) -> bool
 pub fn read(sheet: &[u8]) -> Result<Trailer, Refusal>
     ensures { result ≡ tested sheet.now }
 {
-    if sheet.len() < TRAILER {
+    let Some(t) = stated_trailer(sheet) else {
         return Err(Refusal::Layout);
-    }
-    let t = trailer_of(sheet);
+    };
     if !sizes_fit(t, sheet.len()) {
         return Err(Refusal::Layout);
     }
-    let node_fields = Bytes {
-        bytes: sheet,
-        at: 16 * (t.links as usize),
-    };
-    let link_fields = Bytes {
-        bytes: sheet,
-        at: 0,
-    };
-    let n = test_nodes(&node_fields, t.nodes);
-    let l = test_links(&link_fields, t.links, t.nodes);
+    let nodes = &sheet[16 * (t.links as usize)..];
+    let n = test_nodes(&Bytes { bytes: nodes }, t.nodes);
+    let l = test_links(&Bytes { bytes: sheet }, t.links, t.nodes);
     judge(n, l, t.links, t.nodes, t.start)?;
     Ok(t)
 }

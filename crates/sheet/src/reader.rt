@@ -1,18 +1,17 @@
 // A link reader: it borrows a sheet, accepted or not, and gives the sheet's links one by one.
 ghost use Rattle.std.specs.Prelude.{◌≡◌};
-ghost use Rattle.sheet.specs.Reading.{has_link, next_link, place_after};
+ghost use Rattle.sheet.specs.Reading.{has_link, next_link};
 
-use crate::tr::{Link, TRAILER, link_at, trailer_of};
+use crate::tr::{Link, TRAILER, link_at, stated_trailer};
 
 // Whether there is a link l: the trailer states it, and the links that it states lie before the
 // trailer.
 fn has_link(sheet: &[u8], l: usize) -> bool
     ensures { result ≡ has_link sheet.now l }
 {
-    if sheet.len() < TRAILER {
+    let Some(t) = stated_trailer(sheet) else {
         return false;
-    }
-    let t = trailer_of(sheet);
+    };
     let links = t.links as usize;
     if links <= l {
         return false;
@@ -30,13 +29,6 @@ pub fn link_or_end(sheet: &[u8], l: usize) -> Option<Link>
     } else {
         None
     }
-}
-
-// The number after l, where there is a link l; l itself past the last.
-pub fn place_after(sheet: &[u8], l: usize) -> usize
-    ensures { result ≡ place_after sheet.now l }
-{
-    if has_link(sheet, l) { l + 1 } else { l }
 }
 
 // It remembers the number of the next link.
@@ -66,8 +58,8 @@ impl<'a> Iterator for Reader<'a> {
     ghost remaining = { λ r. at_most (links_left r) };
 
     fn next(&mut self) -> Option<Link> {
-        let link = link_or_end(self.sheet, self.next);
-        self.next = place_after(self.sheet, self.next);
-        link
+        let link = link_or_end(self.sheet, self.next)?;
+        self.next += 1;
+        Some(link)
     }
 }

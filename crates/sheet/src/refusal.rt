@@ -51,7 +51,7 @@ impl From<Refusal> for u32 {
 
 impl fmt::Display for Refusal {
     fn fmt<W: fmt::Write>(&self, f: &mut fmt::Formatter<W>) -> fmt::Result {
-        write!(f, "refused {}", *self as u32)
+        write!(f, "refused {}", u32::from(*self))
     }
 }
 

@@ -20,7 +20,7 @@ pub struct NodeTests {
     pub weights: bool,
 }
 
-// What the links so far pass: the next nodes (test 3) and the weights (test 4).
+// What the links so far pass: the next nodes (test 3) and the weights (test 4). Flags, as of the nodes.
 #[derive(Clone, Copy)]
 pub struct LinkTests {
     pub nexts: bool,
@@ -61,29 +61,32 @@ fn start_fits(start: u32, nodes: u32) -> bool
     start == NO_START
 }
 
-// One node more.
+// One node more. The record's test goes before the flag: the flag first would be a branch at each record,
+// by which the tests took a twentieth more.
 fn with_node(shifts: &GridShifts, t: NodeTests, count: u32, mark: u32, bits: u32) -> NodeTests
     requires { t.links + count < 2 ^ 64 }
     ensures { result ≡ with_node t count mark bits }
 {
     NodeTests {
-        marked: t.marked && well_marked(mark, bits),
-        links: t.links + (count as u64),
-        weights: t.weights && final_fits(shifts, mark, bits),
+        marked: well_marked(mark, bits) && t.marked,
+        links: t.links + u64::from(count),
+        weights: final_fits(shifts, mark, bits) && t.weights,
     }
 }
 
-// One link more.
+// One link more, in the same way.
 fn with_link(shifts: &GridShifts, t: LinkTests, bits: u32, next: u32, nodes: u32) -> LinkTests
     ensures { result ≡ with_link t bits next nodes }
 {
     LinkTests {
-        nexts: t.nexts && next < nodes,
-        weights: t.weights && weight_fits(shifts, bits),
+        nexts: next < nodes && t.nexts,
+        weights: weight_fits(shifts, bits) && t.weights,
     }
 }
 
-// The nodes, three fields a node.
+// The nodes, three fields a node. Not inlined, nor are the links: each loop has the registers to itself so,
+// and the tests of a large sheet took a tenth more without it.
+#[inline(never)]
 pub fn test_nodes<F: Fields>(fields: &F, nodes: u32) -> NodeTests
     requires { 3 * nodes ≤ F.count fields.now }
     ensures { result ≡ node_tests nodes (λ v. F.value fields.now (3 * v)) (λ v. F.value fields.now (3 * v + 1)) (λ v. F.value fields.now (3 * v + 2)) }
@@ -107,7 +110,8 @@ pub fn test_nodes<F: Fields>(fields: &F, nodes: u32) -> NodeTests
     t
 }
 
-// The links, four fields a link.
+// The links, four fields a link. Apart from the nodes: records of another width, and other tests.
+#[inline(never)]
 pub fn test_links<F: Fields>(fields: &F, links: u32, nodes: u32) -> LinkTests
     requires { 4 * links ≤ F.count fields.now }
     ensures { result ≡ link_tests links nodes (λ l. F.value fields.now (4 * l + 2)) (λ l. F.value fields.now (4 * l + 3)) }
@@ -134,7 +138,7 @@ pub fn test_links<F: Fields>(fields: &F, links: u32, nodes: u32) -> LinkTests
 pub fn judge(n: NodeTests, l: LinkTests, links: u32, nodes: u32, start: u32) -> Result<(), Refusal>
     ensures { result ≡ answer tt (judged n l links nodes start) }
 {
-    if !(n.marked && n.links == (links as u64)) {
+    if !(n.marked && n.links == u64::from(links)) {
         return Err(Refusal::Layout);
     }
     if !start_fits(start, nodes) {

@@ -1,6 +1,7 @@
 // The records of a sheet (tr.rs of rustfst).
-ghost use Rattle.std.specs.Prelude.{◌≡◌, ◌+◌, ◌*◌, ◌≤◌, length};
+ghost use Rattle.std.specs.Prelude.{◌≡◌, ◌+◌, ◌*◌, ◌^◌, ◌≤◌, ◌<◌, length};
 ghost use Rattle.sheet.specs.Records.{link_at, node_at, trailer_at};
+ghost use Rattle.sheet.specs.Accepted.{trailer_in, trailer_fields, stated_trailer};
 
 use crate::words::word;
 
@@ -13,7 +14,8 @@ pub struct Link {
     pub nextstate: u32,
 }
 
-// A node: how many links leave it, its final mark, 0 or 1, and its final weight.
+// A node: how many links leave it, its final mark, 0 or 1, and its final weight. As its fields are, and the
+// mark no Option: C is given them, also of a sheet that is not accepted.
 #[derive(Clone, Copy)]
 pub struct Node {
     pub links: u32,
@@ -32,7 +34,7 @@ pub struct Trailer {
 }
 
 // The bits of positive infinity, the weight of what is barred.
-pub const BARRED: u32 = 0x7f80_0000;
+pub const BARRED: u32 = tropical_weight::INFINITY;
 
 // The start's field where there is none.
 pub const NO_START: u32 = 0xffff_ffff;
@@ -40,7 +42,10 @@ pub const NO_START: u32 = 0xffff_ffff;
 // The bytes of a trailer.
 pub const TRAILER: usize = 20;
 
-// Link number l.
+// So many links that their bytes, 16 each, are past a field of 32 bits.
+pub const LINKS_PAST: usize = 0x1000_0000;
+
+// Link number l of any bytes that hold it.
 pub fn link_at(sheet: &[u8], l: usize) -> Link
     requires { 16 * l + 16 ≤ length sheet.now }
     ensures { result ≡ link_at sheet.now l }
@@ -54,7 +59,8 @@ pub fn link_at(sheet: &[u8], l: usize) -> Link
     }
 }
 
-// Node number v of a sheet with so many links.
+// Node number v of a sheet with so many links. The count goes beside the bytes: they need not be an accepted
+// sheet, which has methods.
 pub fn node_at(sheet: &[u8], links: usize, v: usize) -> Node
     requires { 16 * links + 12 * v + 12 ≤ length sheet.now }
     ensures { result ≡ node_at sheet.now links v }
@@ -64,6 +70,35 @@ pub fn node_at(sheet: &[u8], links: usize, v: usize) -> Node
         links: word(sheet, at),
         mark: word(sheet, at + 4),
         weight: tropical_weight::from_bits(word(sheet, at + 8)),
+    }
+}
+
+impl Trailer {
+    // The trailer of a sheet of so many links and nodes.
+    pub fn of(links: u32, nodes: u32, start: u32) -> Trailer
+        requires { 16 * links < 2 ^ 32 }
+        ensures { result ≡ trailer_in links nodes start }
+    {
+        Trailer {
+            link_offset: 0,
+            node_offset: 16 * links,
+            nodes,
+            links,
+            start,
+        }
+    }
+
+    // Its fields, in their order.
+    pub fn words(&self) -> [u32; 5]
+        ensures { result ≡ trailer_fields self.now }
+    {
+        [
+            self.link_offset,
+            self.node_offset,
+            self.nodes,
+            self.links,
+            self.start,
+        ]
     }
 }
 
@@ -80,4 +115,11 @@ pub fn trailer_of(sheet: &[u8]) -> Trailer
         links: word(sheet, at + 12),
         start: word(sheet, at + 16),
     }
+}
+
+// The trailer of a byte string, none where it is shorter than one.
+pub fn stated_trailer(sheet: &[u8]) -> Option<Trailer>
+    ensures { result ≡ stated_trailer sheet.now }
+{
+    (TRAILER <= sheet.len()).then(|| trailer_of(sheet))
 }

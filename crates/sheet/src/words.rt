@@ -24,8 +24,7 @@ pub fn put_words(bytes: &mut [u8], at: usize, words: &[u32])
     requires { at + 4 * length words.now ≤ length bytes.old }
     ensures { bytes.new ≡ sets bytes.old at (bytes_of_all words.now) }
 {
-    // by number: the place of each word goes by it
-    for i in 0..words.len() {
-        put_word(bytes, at + 4 * i, words[i]);
+    for (i, word) in words.iter().enumerate() {
+        put_word(bytes, at + 4 * i, *word);
     }
 }

@@ -1,4 +1,5 @@
-// Writing a sheet from lists of links and nodes in its own fields.
+// Writing a sheet from lists of links and nodes in its own fields. The lists come as C lends them, words, four
+// a link and three a node, and stay apart; `as` where `records_fit` has tested that a field holds the count.
 ghost use Rattle.std.specs.Prelude.{◌≡◌, ◌&&◌, ℕ, ◌+◌, ◌*◌, ◌/◌, ◌%◌, ◌^◌, ◌≤◌, ◌<◌, eqb, ltb, length, Ok};
 ghost use Rattle.std.proofs.lemmas.List.Edits.{sets};
 ghost use Rattle.sheet.specs.Sheet.{sheet_of};
@@ -7,7 +8,7 @@ ghost use Rattle.sheet.specs.Answers.{parts, written, written_over, ReadBack};
 use crate::field::Words;
 use crate::refusal::Refusal;
 use crate::tests::{judge, test_links, test_nodes};
-use crate::tr::TRAILER;
+use crate::tr::{LINKS_PAST, TRAILER, Trailer};
 use crate::words::put_words;
 
 // Whole records, and counts and offsets that their fields hold.
@@ -23,7 +24,7 @@ fn records_fit(links: usize, nodes: usize) -> bool
     if 0xffff_ffff < nodes / 3 {
         return false;
     }
-    links / 4 < 0x1000_0000
+    links / 4 < LINKS_PAST
 }
 
 // Stores links, nodes and trailer.
@@ -34,10 +35,10 @@ fn put_sheet(res: &mut [u8], links: &[u32], nodes: &[u32], start: u32)
 {
     let t = links.len() / 4;
     let n = nodes.len() / 3;
-    let trailer = [0, (16 * t) as u32, n as u32, t as u32, start];
+    let trailer = Trailer::of(t as u32, n as u32, start);
     put_words(res, 0, links);
     put_words(res, 16 * t, nodes);
-    put_words(res, 16 * t + 12 * n, &trailer);
+    put_words(res, 16 * t + 12 * n, &trailer.words());
 }
 
 // Tests the lists, four words a link and three a node, and writes their sheet to the result area.

@@ -6,7 +6,7 @@ use machine::finals::count_finals;
 use sheet::accepted::Sheet;
 use sheet::refusal::Refusal;
 
-// N, T, F and the start's field.
+// N, T, F and the start's field: the word and no Option, since C is told the word.
 #[derive(Clone, Copy)]
 pub struct SheetCounts {
     pub nodes: u32,

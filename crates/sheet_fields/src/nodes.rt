@@ -5,18 +5,15 @@ ghost use Rattle.sheet.specs.Machine.{machine as machine_for};
 ghost use Rattle.sheet_fields.specs.Nodes.{next_node};
 ghost use Rattle.sheet_fields.specs.Fields.{NodeOf};
 
-use sheet::tr::{Node, TRAILER, node_at, trailer_of};
+use sheet::tr::{Node, TRAILER, node_at, stated_trailer};
 
 // Node number v of a sheet, or none past the last; on a byte string that is too short for the links and
-// nodes that it states there is none.
+// nodes that it states there is none. Not one with link_or_end, which asks for room for the links alone.
 pub fn node_or_end(sheet: &[u8], v: usize) -> Option<Node>
     ensures value { result ≡ next_node sheet.now v }
     ensures node_of { read_number sheet.now ≡ 0 → NodeOf (machine_for sheet.now) v result }
 {
-    if sheet.len() < TRAILER {
-        return None;
-    }
-    let t = trailer_of(sheet);
+    let t = stated_trailer(sheet)?;
     let links = t.links as usize;
     let nodes = t.nodes as usize;
     if nodes <= v {

@@ -22,7 +22,8 @@ use Rattle.machine.specs.Readings.{link}
 use Rattle.machine.specs.Distance.{dist, distance, is_reached, is_led_to, is_counted, height}
 use Rattle.machine.proofs.Named.{weight-of}
 use Rattle.machine.proofs.Reached.{led-by, leads, height-above, height-attained}
-use Rattle.machine.proofs.SheetFields.{SheetFields, next-first, first-in}
+use Rattle.sheet.proofs.NodeSources.{next-first}
+use Rattle.machine.proofs.SheetFields.{SheetFields, first-in}
 use Rattle.distance.specs.Held.{held, reached_in}
 use Rattle.distance.proofs.Offers.{reached-held}
 use Rattle.shortest_distance.specs.NodeSlots.{distance_at, height_in, led_from, led_height, length_in}
@@ -33,11 +34,12 @@ pub led-from-next : (bytes : List ℕ) (first n height : ℕ)
 unfolding led_from
 led-from-next bytes first n height = ap (λ (k : ℕ). led_from bytes first k height) (add-one n)
 
-pub led-height-next : (bytes : List ℕ) (links : ℕ) (work : List ℕ) (v height : ℕ)
-    → led_height bytes links work (v + 1) height
-    ≡ cond (reached_in (distance_at work v)) (led_from bytes (first_link bytes links v) (count_at bytes links v) (led_height bytes links work v height)) (led_height bytes links work v height)
+pub led-height-next : (bytes : List ℕ) (links : ℕ) (work : List ℕ) (v next height : ℕ) (reached : Bool) → next ≡ v + 1 → reached_in (distance_at work v) ≡ reached
+    → led_height bytes links work next height ≡ cond reached (led_from bytes (first_link bytes links v) (count_at bytes links v) (led_height bytes links work v height)) (led_height bytes links work v height)
 unfolding led_height
-led-height-next bytes links work v height = ap (λ (k : ℕ). led_height bytes links work k height) (add-one v)
+led-height-next bytes links work v next height reached e q =
+    ap (λ (k : ℕ). led_height bytes links work k height) (e ∙ add-one v)
+    ∙ λ i. cond (q i) (led_from bytes (first_link bytes links v) (count_at bytes links v) (led_height bytes links work v height)) (led_height bytes links work v height)
 
 -- ---- what is found is above the nodes that the links lead to, and is the height there was, or one more than such a node
 -- a node more

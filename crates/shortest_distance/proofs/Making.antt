@@ -6,15 +6,17 @@ use mathlib.Core.List.{List}
 use Prim.Native.Nat.{ℕ, ◌+◌, ◌*◌, ◌≤◌, ◌<◌}
 use native.Mathlib.Nat.{le_of_eq}
 use native.Mathlib.Omega.{arith}
-use lib.Dec.{eqb}
+use lib.Dec.{ltb, eqb}
 use lib.ListN.{length, drop}
-use borrow.Author.Tests.{le-ltb, ne_eqb}
+use borrow.Author.Tests.{le-ltb, ltb-false, ne_eqb}
+use Rattle.std.specs.Prelude.{Some, None}
 use Rattle.tropical_weight.specs.Limits.{node_limit}
 use Rattle.tropical_weight.specs.Tropical.{inf}
 use Rattle.sheet.specs.Below.{sum_below}
 use Rattle.sheet.specs.Words.{word}
 use Rattle.sheet.specs.declared.tr.Trailer.{Trailer}
 use Rattle.sheet.specs.Records.{trailer_at, count_at}
+use Rattle.sheet.specs.Accepted.{start_in}
 use Rattle.sheet.specs.Sheet.{parts_of, no_start, node_count, trailer_field, stated_links, stated_nodes}
 use Rattle.sheet.specs.Machine.{machine_of, machine}
 use Rattle.sheet.proofs.Fields.{read-fields}
@@ -39,6 +41,14 @@ use Rattle.shortest_distance.proofs.Starts.{zero-cost, begun-holds}
 use Rattle.shortest_distance.proofs.Kept.{put-kept, store_kept}
 use Rattle.state_order_queue.proofs.Sets.{emptied-full, emptied-valid, emptied-empty, empty-exactly}
 use Rattle.sheet.proofs.Apart.{not-both}
+
+-- where the start is no node
+pub start-absent : (nodes start : ℕ) → start_in nodes start ≡ None → nodes ≤ start
+start-absent nodes start = go (ltb start nodes) refl
+  where
+    go : (b : Bool) → ltb start nodes ≡ b → cond b (Some start) None ≡ None → nodes ≤ start
+    go true q e = absurd (cc)
+    go false q e = omega (arith, ltb-false start nodes q)
 
 module _ (bytes old : List ℕ) (e : input_number bytes ≡ 0) (room : 8 * stated_nodes bytes ≤ length old) where
   few : stated_nodes bytes ≤ node_limit

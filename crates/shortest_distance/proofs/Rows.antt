@@ -29,7 +29,8 @@ use Rattle.machine.specs.Distance.{Distance, unreached, as_weight, nearer, onwar
 use Rattle.machine.specs.Parents.{parent}
 use Rattle.machine.proofs.Named.{weight-of, of-weight, same-weight, step-weight}
 use Rattle.machine.proofs.Fold as Fold
-use Rattle.machine.proofs.SheetFields.{SheetFields, next-first, first-in}
+use Rattle.sheet.proofs.NodeSources.{next-first}
+use Rattle.machine.proofs.SheetFields.{SheetFields, first-in}
 use Rattle.machine.proofs.Relax.{row_at, row-size, relax-is}
 use Rattle.machine.proofs.Bounds.{row_within, step-within}
 use Rattle.state_order_queue.specs.Queues.{holds, is_empty, enqueued, dequeued}

@@ -19,7 +19,8 @@ mod node_slots;
 pub mod parent;
 mod relax;
 
-// Hands the distances of the first nodes over, where the result area has room for them.
+// Hands the distances of the first nodes over, where the result area has room for them: so many, for the
+// area is lent and longer (C interface).
 fn hand_over(work: &[u32], count: u32, res: &mut [u8]) -> Result<u32, Refusal>
     requires { 8 * count ≤ length work.now }
     ensures value { result ≡ handed count (length res.old) }
@@ -37,9 +38,8 @@ pub fn make(m: &Machine, work: &mut [u32])
     requires { 8 * m.now.sheet.nodes ≤ length work.old }
     ensures { Made m.now.sheet.bytes.now work.old work.new }
 {
-    let start = m.sheet.start;
     node_slots::prepare(&m.sheet, work);
-    if start < m.sheet.nodes {
+    if let Some(start) = m.sheet.start() {
         let begun = Some(tropical_weight::one());
         distance::put_distance(work, SLOT * (start as usize), begun);
         let q = Queue::new().enqueue_untested(start);

@@ -1,14 +1,17 @@
-// The work area while distances are made: a slot a node. That it has so many stays a clause of each
-// function: the area is lent on as words, so that a value around it would be opened again at each call.
+// The work area while distances are made: a slot a node. The area is lent and longer (C interface), so that
+// counts stand beside it. That it has so many slots stays a clause of each function: the area is lent on as
+// words, so that a value around it would be opened again at each call.
 ghost use Rattle.std.specs.Prelude.{◌≡◌, ◌+◌, ◌*◌, ◌≤◌, length};
 ghost use Rattle.std.proofs.lemmas.List.Edits.{sets};
 ghost use Rattle.sheet.specs.Words.{bytes_of_all};
+ghost use Rattle.sheet.specs.Records.{count_at};
 ghost use Rattle.shortest_distance.specs.NodeSlots.{prepared, height_in, led_from, led_height, length_in};
 ghost use Rattle.shortest_distance.specs.NodeSlots.{distance_words};
 
 use crate::parent;
 use distance::WRITTEN;
 use sheet::accepted::Sheet;
+use sheet::source::{Source, Sources};
 use slots::SLOT;
 
 // The word of a slot that holds the number of its node's first link.
@@ -19,13 +22,11 @@ pub fn prepare(sheet: &Sheet, work: &mut [u32])
     requires { 8 * sheet.now.nodes ≤ length work.old }
     ensures { work.new ≡ prepared sheet.now.bytes.now sheet.now.links sheet.now.nodes work.old }
 {
-    let mut first = 0u32;
-    for v in 0..sheet.nodes {
-        let at = SLOT * (v as usize);
+    for source in Sources::new(sheet) {
+        let at = SLOT * (source.node as usize);
         distance::put_distance(work, at, None);
-        parent::store_parent(work, v, None);
-        work[at + FIRST] = first;
-        first += sheet.count(v);
+        parent::store_parent(work, source.node, None);
+        work[at + FIRST] = source.first;
     }
 }
 
@@ -42,14 +43,13 @@ fn reached_height(work: &[u32], nodes: u32) -> u32
     0
 }
 
-// A height, raised above the nodes that so many links lead to, from a number on.
-fn led_from(sheet: &Sheet, first: u32, count: u32, height: u32) -> u32
-    requires { first + count ≤ sheet.now.links }
-    ensures { result ≡ led_from sheet.now.bytes.now first count height }
+// A height, raised above the nodes that the links of a node lead to.
+fn led_from(source: &Source, height: u32) -> u32
+    ensures { result ≡ led_from source.now.sheet.bytes.now source.now.first (count_at source.now.sheet.bytes.now source.now.sheet.links source.now.node) height }
 {
     let mut top = height;
-    for i in 0..count {
-        top = top.max(sheet.next(first + i) + 1);
+    for i in 0..source.count() {
+        top = top.max(source.sheet.next(source.first + i) + 1);
     }
     top
 }
@@ -60,14 +60,11 @@ fn led_height(sheet: &Sheet, work: &[u32], reached: u32) -> u32
     ensures { result ≡ led_height sheet.now.bytes.now sheet.now.links work.now reached reached }
 {
     let mut top = reached;
-    let mut first = 0u32;
-    for v in 0..reached {
-        let count = sheet.count(v);
-        let own = distance::distance_at(work, SLOT * (v as usize));
+    for source in Sources::new(sheet).take(reached as usize) {
+        let own = distance::distance_at(work, SLOT * (source.node as usize));
         if own.is_some() {
-            top = led_from(sheet, first, count, top);
+            top = led_from(&source, top);
         }
-        first += count;
     }
     top
 }

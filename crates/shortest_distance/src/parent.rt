@@ -2,7 +2,7 @@
 ghost use Rattle.std.specs.Prelude.{◌≡◌, ◌+◌, ◌*◌, ◌≤◌, length};
 ghost use Rattle.shortest_distance.specs.ParentWords.{parent_at, parent_stored};
 
-use slots::{NOTHING, SLOT};
+use slots::{NOTHING, SLOT, number_in};
 
 // The words of a slot that hold the parent: the link, and its source.
 const LINK: usize = 2;
@@ -22,10 +22,7 @@ pub fn parent_at(work: &[u32], v: u32) -> Option<Parent>
     ensures { result ≡ parent_at work.now v }
 {
     let at = SLOT * (v as usize);
-    let link = work[at + LINK];
-    if link == NOTHING {
-        return None;
-    }
+    let link = number_in(work[at + LINK])?;
     let source = work[at + SOURCE];
     Some(Parent { link, source })
 }

@@ -7,7 +7,7 @@ ghost use Rattle.shortest_path.specs.Promise.{Promised};
 
 use list_answer::Listed;
 use machine::climbing::Machine;
-use machine::finals::count_finals;
+use machine::counted::Counted;
 use sheet::refusal::Refusal;
 use slots::SLOT;
 use tropical_weight::LIST_LIMIT;
@@ -24,13 +24,13 @@ fn lists_of(machine: &Machine, n: u32, work: &mut [u32], res: &mut [u8]) -> Resu
         return Err(Refusal::Count);
     }
     let sheet = machine.sheet;
-    let finals = count_finals(sheet.bytes, sheet.links, sheet.nodes);
-    let needed = list_answer::slots_needed(sheet.nodes, sheet.links, finals, n);
+    let counted = Counted::new(machine);
+    let needed = list_answer::slots_needed(sheet.nodes, sheet.links, counted.finals, n);
     if work.len() / SLOT < (needed as usize) {
         return Err(Refusal::Work);
     }
     let words = SLOT * (needed as usize);
-    let answer = lists::list_in(machine, n, finals, &mut work[..words], res);
+    let answer = lists::list_in(&counted, n, &mut work[..words], res);
     slots::clear(work, needed);
     answer
 }

@@ -1,42 +1,41 @@
-// Lists of a machine, on a part of the work area with the slots that they need.
+// Lists of a machine, on a part of the work area with the slots that they need. n stands beside the
+// counted machine: what the two functions ask of it differs, and a struct for both would be no shorter.
 ghost use Rattle.std.specs.Prelude.{◌≡◌, ◌*◌, ◌≤◌, length};
 ghost use Rattle.tropical_weight.specs.Limits.{list_limit};
 ghost use Rattle.sheet.specs.Sheet.{parts_of};
 ghost use Rattle.sheet.specs.Machine.{machine_of};
 ghost use Rattle.search.specs.ListMachine.{result_for};
-ghost use Rattle.machine.specs.Finals.{final_count};
 ghost use Rattle.list_answer.specs.ListAnswer.{slots_for, listed_in, listed_over};
 
 use list_answer::Listed;
 use list_machine::trim;
-use machine::climbing::Machine;
+use machine::counted::Counted;
 use n_shortest::n_best;
 use reversed_machine::reverse;
 use sheet::refusal::Refusal;
 use single_path::single;
 use slots::SLOT;
 
-// The n cheapest readings of a machine with so many final nodes, n from 2.
+// The n cheapest readings of a machine, n from 2.
 pub fn list_many(
-    machine: &Machine,
+    counted: &Counted,
     n: u32,
-    finals: u32,
     part: &mut [u32],
     res: &mut [u8],
 ) -> Result<Listed, Refusal>
-    requires counted { finals ≡ final_count machine.now.sheet.bytes.now machine.now.sheet.links machine.now.sheet.nodes }
-    requires le_n { (2 ≤ n) × (n ≤ list_limit) × (8 * slots_for (machine_of (parts_of machine.now.sheet.bytes.now)) n ≤ length part.old) }
-    ensures value { result ≡ listed_in (result_for (machine_of (parts_of machine.now.sheet.bytes.now)) n) (length res.old) }
-    ensures res_after { res.new ≡ listed_over (result_for (machine_of (parts_of machine.now.sheet.bytes.now)) n) res.old }
+    requires { (2 ≤ n) × (n ≤ list_limit) × (8 * slots_for (machine_of (parts_of counted.now.machine.sheet.bytes.now)) n ≤ length part.old) }
+    ensures value { result ≡ listed_in (result_for (machine_of (parts_of counted.now.machine.sheet.bytes.now)) n) (length res.old) }
+    ensures res_after { res.new ≡ listed_over (result_for (machine_of (parts_of counted.now.machine.sheet.bytes.now)) n) res.old }
 {
-    let sheet = machine.sheet;
-    let allowed = 1 + finals + n * (sheet.links + 1);
+    let sheet = counted.machine.sheet;
+    let allowed = 1 + counted.finals + n * (sheet.links + 1);
     let heads = SLOT * (allowed as usize);
     let chains = heads + SLOT * ((sheet.nodes as usize) + 1);
     single::are_bytes(sheet.bytes);
-    reverse::measure(machine, part, heads);
-    reverse::reverse(machine, finals, part, heads, chains);
-    // without a reading the least total is unreached; with one there is a start
+    reverse::measure(&counted.machine, part, heads);
+    reverse::reverse(counted, part, heads, chains);
+    // without a reading the least total is unreached; with one there is a start, whose field is read
+    // below without another test
     if distance::distance_at(part, heads).is_none() {
         return list_answer::put_none(res);
     }
@@ -46,7 +45,7 @@ pub fn list_many(
         inputs: sheet.links,
         end: sheet.start + 1,
     };
-    let c = n_best::n_shortest_path(part, p, n, sheet.links + finals, allowed);
+    let c = n_best::n_shortest_path(part, p, n, sheet.links + counted.finals, allowed);
     trim::write_list(
         sheet.bytes,
         sheet.links,
@@ -58,22 +57,20 @@ pub fn list_many(
     )
 }
 
-// The n cheapest readings of a machine with so many final nodes.
+// The n cheapest readings of a machine.
 pub fn list_in(
-    machine: &Machine,
+    counted: &Counted,
     n: u32,
-    finals: u32,
     part: &mut [u32],
     res: &mut [u8],
 ) -> Result<Listed, Refusal>
-    requires counted { finals ≡ final_count machine.now.sheet.bytes.now machine.now.sheet.links machine.now.sheet.nodes }
-    requires n_le_list_limit { (n ≤ list_limit) × (8 * slots_for (machine_of (parts_of machine.now.sheet.bytes.now)) n ≤ length part.old) }
-    ensures value { result ≡ listed_in (result_for (machine_of (parts_of machine.now.sheet.bytes.now)) n) (length res.old) }
-    ensures res_after { res.new ≡ listed_over (result_for (machine_of (parts_of machine.now.sheet.bytes.now)) n) res.old }
+    requires { (n ≤ list_limit) × (8 * slots_for (machine_of (parts_of counted.now.machine.sheet.bytes.now)) n ≤ length part.old) }
+    ensures value { result ≡ listed_in (result_for (machine_of (parts_of counted.now.machine.sheet.bytes.now)) n) (length res.old) }
+    ensures res_after { res.new ≡ listed_over (result_for (machine_of (parts_of counted.now.machine.sheet.bytes.now)) n) res.old }
 {
     match n {
         0 => list_answer::put_none(res),
-        1 => single::single_shortest_path(machine, part, res),
-        _ => list_many(machine, n, finals, part, res),
+        1 => single::single_shortest_path(&counted.machine, part, res),
+        _ => list_many(counted, n, part, res),
     }
 }

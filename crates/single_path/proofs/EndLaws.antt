@@ -8,8 +8,7 @@ use native.Mathlib.Omega.{arith}
 use lib.Dec.{eqb}
 use borrow.Author.Tests.{eqb-true, eqb-false}
 use lib.ListN.{length}
-use lib.Ieee.{binary32, add, lt, of_bits}
-use lib.Ieee as Ieee
+use lib.Ieee.{binary32, add, lt}
 use Rattle.tropical_weight.specs.Limits.{unit, weight_limit, node_limit, sum_limit}
 use Rattle.tropical_weight.specs.Tropical.{Tropical, lt_t, ◌⊗◌, Within}
 use Rattle.tropical_weight.specs.Grid.{of_t}
@@ -29,7 +28,7 @@ use Rattle.distance.specs.Held.{held, weight_in}
 use Rattle.distance.proofs.Offers.{weight-dist}
 use Rattle.shortest_distance.specs.NodeSlots.{distance_at}
 use Rattle.std.specs.Prelude as Core
-use Rattle.single_path.specs.SingleWords.{total_value, Best, best_below}
+use Rattle.single_path.specs.SingleWords.{total_by, total_value, Best, best_below}
 
 -- the end at a node, or none
 abbrev pub end_at : Option ℕ → Core.Option ℕ
@@ -45,21 +44,22 @@ module _ (bytes : List ℕ) (m : Machine) (f : SheetFields bytes (length m.links
   total-in v h = total-limit m f.climbs weight_limit f.small node_limit limits f.few-nodes v h
 
   total-is : (v : ℕ) → v < length m.finals → total_value bytes links work v ≡ of_t unit (total_at m v)
-  total-is v h = go (eqb (mark_at bytes links v) 1) refl
+  total-is v h = go (eqb (mark_at bytes links v) 0) refl
     where
       weight : weight_in (distance_at work v) ≡ of_t unit (dist m v)
       weight = ap weight_in (distances v h) ∙ weight-dist m v
 
-      go : (b : Bool) → eqb (mark_at bytes links v) 1 ≡ b → cond b (add binary32 (weight_in (distance_at work v)) (of_bits binary32 (final_at bytes links v))) (Ieee.inf false) ≡ of_t unit (total_at m v)
+      go : (b : Bool) → eqb (mark_at bytes links v) 0 ≡ b → total_by (distance_at work v) (cond b Core.None (Core.Some (final_at bytes links v))) ≡ of_t unit (total_at m v)
       go true e =
-          let one = eqb-true (mark_at bytes links v) 1 e in
-          let n : mark_at bytes links v ≡ 0 → ⊥ = λ z. omega (arith, one, z) in
+          let z = eqb-true (mark_at bytes links v) 0 e in
+          sym (ap (of_t unit) (ap (λ o. dist m v ⊗ final_weight o) (unmarked-final f v h (λ y. omega (arith, z, y))) ∙ ⊗-zero (dist m v)))
+      go false e =
+          let n = eqb-false (mark_at bytes links v) 0 e in
           let final-is = marked-final f v h n in
           let lim = dist-limit m f.climbs weight_limit f.small node_limit limits f.few-nodes v h in
           let w = weight_of (final_at bytes links v) in
           let wide : Within sum_limit w = within-mono weight_limit sum_limit w (let z : weight_limit ≤ sum_limit = omega arith in z) (f.small.on_final v w final-is) in
           (λ i. add binary32 (weight i) (f.final_value v h n i)) ∙ times-of_t unit covered (dist m v) w lim wide ∙ ap (λ o. of_t unit (dist m v ⊗ final_weight o)) (sym final-is)
-      go false e = sym (ap (of_t unit) (ap (λ o. dist m v ⊗ final_weight o) (unmarked-final f v h (eqb-false (mark_at bytes links v) 1 e)) ∙ ⊗-zero (dist m v)))
 
   -- ---- the pass: of the first n nodes, what is found is what is chosen among their totals
   abbrev found : Option ℕ → Tropical → Best

@@ -28,9 +28,9 @@ use Rattle.shortest_distance.specs.Handed.{handed_over}
 use Rattle.std.specs.Prelude as Core
 use Rattle.sheet.specs.declared.refusal.Refusal.{Refusal}
 use Rattle.list_answer.specs.declared.Listed.{Listed}
-use Rattle.single_path.specs.SingleWords.{way_links, way_states, way_nodes, way_trailer, way_words, way_listed}
-use Rattle.list_answer.specs.ListAnswer.{listed_by, listed_in, listed_over}
-use Rattle.single_path.proofs.WriteTurns.{sets-words}
+use Rattle.single_path.specs.SingleWords.{way_links, way_nodes, way_trailer, way_words, way_listed}
+use Rattle.list_answer.specs.ListAnswer.{listed_by, listed_in, listed_over, state_words}
+use Rattle.list_answer.proofs.Stores.{sets-words, length-states}
 
 -- ---- how long the words are
 length-way_links : (bytes : List ℕ) (s : ℕ) (way : List ℕ) → length (way_links bytes s way) ≡ 4 * length way
@@ -38,14 +38,9 @@ unfolding way_links
 length-way_links bytes s [] = refl
 length-way_links bytes s (l ∷ ls) = omega (arith, length-way_links bytes (suc s) ls)
 
-length-way_states : (n : ℕ) → length (way_states n) ≡ 3 * n
-unfolding way_states
-length-way_states zero = refl
-length-way_states (suc n) = omega (arith, length-way_states n)
-
 module _ (bytes : List ℕ) (bits : ℕ) (way : List ℕ) where
   length_front : (length (way_links bytes 0 way) ≡ 4 * length way) × (length (way_nodes bits (length way)) ≡ 3 * length way + 3)
-  length_front = (length-way_links bytes 0 way, omega (arith, length-way_states (length way)))
+  length_front = (length-way_links bytes 0 way, omega (arith, length-states (length way)))
 
   pub length-way_words : length (bytes_of_all (way_words bytes bits way)) ≡ 32 * length way + 32
   length-way_words =
@@ -91,8 +86,8 @@ leaving-one m s (l ∷ ls) v a b = go (ℕ_discrete s v) (λ p q. leaving-one m 
     go (yes e) ih = ap (λ (t : Bool). cond t (suc (leaving (back_links m (suc s) ls) v)) (leaving (back_links m (suc s) ls) v)) (eq-eqb s v e) ∙ ap suc (leaving-below m (suc s) ls v (omega arith))
     go (no e) ih = ap (λ (t : Bool). cond t (suc (leaving (back_links m (suc s) ls) v)) (leaving (back_links m (suc s) ls) v)) (ne_eqb s v e) ∙ ih (omega (arith, e)) (omega arith)
 
-states-are : (ks : List Link) (v n : ℕ) → ((i : ℕ) → v ≤ i → i < v + n → leaving ks i ≡ 1) → node_fields ks v (replicate n none) ≡ way_states n
-unfolding node_fields way_states
+states-are : (ks : List Link) (v n : ℕ) → ((i : ℕ) → v ≤ i → i < v + n → leaving ks i ≡ 1) → node_fields ks v (replicate n none) ≡ state_words n
+unfolding node_fields state_words
 states-are ks v zero h = refl
 states-are ks v (suc n) h = λ i. h v (omega arith) (omega arith) i ∷ 0 ∷ 0 ∷ states-are ks (suc v) n (λ j a b. h j (omega arith) (omega arith)) i
 

@@ -1,29 +1,18 @@
 -- The best end and the way back from it, turn by turn of the loops. Assumes nothing.
 use mathlib.Core.Path.{◌≡◌, refl, sym, ap, ◌∙◌}
-use mathlib.Core.Bool.{Bool, true, false, cond}
+use mathlib.Core.Bool.{Bool, cond}
 use mathlib.Core.List.{List, [], ◌∷◌}
 use Prim.Native.Nat.{ℕ, zero, suc, ◌+◌, ◌≤◌}
 use native.Mathlib.Numerals.{add-one}
 use native.Mathlib.Omega.{arith}
-use lib.Dec.{eqb}
-use lib.Ieee.{binary32, add, lt, of_bits}
-use lib.Ieee as Ieee
-use Rattle.distance.specs.Held.{weight_in}
-use Rattle.shortest_distance.specs.NodeSlots.{distance_at}
-use Rattle.sheet.specs.Records.{mark_at, final_at}
+use lib.Ieee.{lt}
 use Rattle.shortest_distance.specs.declared.parent.Parent.{Parent}
 use Rattle.std.specs.Prelude.{Option, None, Some}
 use Rattle.shortest_distance.specs.ParentWords.{by, parent_at}
-use Rattle.single_path.specs.SingleWords.{total_value, Best, best_below, Falls, on_from, way_back}
+use Rattle.single_path.specs.SingleWords.{total_value, Best, best_below, Falls, Traced, Back, on_from, way_back}
 
 -- ---- the best end
 module _ (bytes : List ℕ) (links : ℕ) (work : List ℕ) where
-  pub total-none : (v : ℕ) → eqb (mark_at bytes links v) 1 ≡ false → Ieee.inf false ≡ total_value bytes links work v
-  total-none v e = sym (ap (λ (b : Bool). cond b (add binary32 (weight_in (distance_at work v)) (of_bits binary32 (final_at bytes links v))) (Ieee.inf false)) e)
-
-  pub total-some : (v : ℕ) → eqb (mark_at bytes links v) 1 ≡ true → add binary32 (weight_in (distance_at work v)) (of_bits binary32 (final_at bytes links v)) ≡ total_value bytes links work v
-  total-some v e = sym (ap (λ (b : Bool). cond b (add binary32 (weight_in (distance_at work v)) (of_bits binary32 (final_at bytes links v))) (Ieee.inf false)) e)
-
   -- one node more, by the test
   abbrev pub next : ℕ → Bool → Best
   next v b = cond b (record { end = Some v; least = total_value bytes links work v }) (best_below bytes links work v)
@@ -57,14 +46,22 @@ module _ (work : List ℕ) (end : ℕ) (falls : Falls work end) where
           let down = falls.sources v p.link p.source h e in
           ap (λ (r : List ℕ). p.link ∷ r) (ih p.source (omega arith) (omega arith) (omega arith))
 
-  pub way_end : (v : ℕ) → parent_at work v ≡ None → way_back work v v ≡ []
+  way_end : (v : ℕ) → parent_at work v ≡ None → way_back work v v ≡ []
   unfolding way_back
   way_end zero e = refl
   way_end (suc v) e = ap (λ (p : Option Parent). on_from p (way_back work v)) e
 
-  pub way_step : (v l u : ℕ) → v ≤ end → parent_at work v ≡ by l u → way_back work v v ≡ l ∷ way_back work u u
+  way_step : (v l u : ℕ) → v ≤ end → parent_at work v ≡ by l u → way_back work v v ≡ l ∷ way_back work u u
   unfolding way_back
   way_step zero l u h e = absurd (omega (arith, falls.sources 0 l u h e))
   way_step (suc v) l u h e =
       let down = falls.sources (suc v) l u h e in
       ap (λ (p : Option Parent). on_from p (way_back work v)) e ∙ ap (λ (r : List ℕ). l ∷ r) (way-more v u u (omega arith) (omega arith) (omega arith))
+
+-- by the parent that is read
+pub back_is : (bytes work : List ℕ) (end : ℕ) → Traced bytes work end → (v : ℕ) → v ≤ end → Back bytes work v (parent_at work v)
+back_is bytes work end x v h = go (parent_at work v) refl
+  where
+    go : (p : Option Parent) → parent_at work v ≡ p → Back bytes work v p
+    go None e = way_end work end x.falls v e
+    go (Some p) e = (x.falls.sources v p.link p.source h e, x.among v p.link p.source h e, way_step work end x.falls v p.link p.source h e)

@@ -1,24 +1,26 @@
 -- Mirrors the code: the one best reading in the slots of the nodes, word by word. A reader need not believe it: laws tie it to Parents of crate machine (proofs/WayBytes).
 -- Definitions only.
-use Rattle.std.specs.Prelude.{◌≡◌, false, cond, List, [], ◌∷◌, ◌++◌, ℕ, zero, suc, ◌+◌, ◌*◌, ◌≤◌, ◌<◌, eqb, ltb, length, Float, Option, Some, None, Result}
-use Rattle.std.specs.Float.{binary32}
-use Rattle.std.specs.Float.Ieee.{add, lt, of_bits}
+use Rattle.std.specs.Prelude.{◌≡◌, false, cond, List, [], ◌∷◌, ◌++◌, ℕ, zero, suc, ◌+◌, ◌*◌, ◌≤◌, ◌<◌, ltb, length, Float, Option, Some, None, Result}
+use Rattle.std.specs.Float.Ieee.{lt}
 use Rattle.std.specs.Float.Ieee as Ieee
-use Rattle.sheet.specs.Words.{word}
-use Rattle.sheet.specs.Records.{mark_at, final_at}
-use Rattle.distance.specs.Held.{weight_in}
+use Rattle.sheet.specs.Records.{final_at}
+use Rattle.sheet.specs.Accepted.{ending_at}
+use Rattle.distance.specs.Held.{Distance, total_in}
 use Rattle.shortest_distance.specs.declared.parent.Parent.{Parent}
 use Rattle.shortest_distance.specs.ParentWords.{by, parent_at}
 use Rattle.shortest_distance.specs.NodeSlots.{distance_at}
 use Rattle.sheet.specs.declared.refusal.Refusal.{Refusal}
 use Rattle.list_answer.specs.declared.Listed.{Listed}
-use Rattle.list_answer.specs.ListAnswer.{listed_by}
+use Rattle.list_answer.specs.ListAnswer.{listed_by, link_to, state_words}
 
 -- ---- the best end
--- the total of node v, infinite where its mark is 0
+-- the total of a node at this distance, by the field of its final weight: infinite where it has none
+abbrev pub total_by : Distance → Option ℕ → Float
+total_by d None = Ieee.inf false
+total_by d (Some bits) = total_in d bits
+
 abbrev pub total_value : List ℕ → ℕ → List ℕ → ℕ → Float
-total_value bytes links work v =
-    cond (eqb (mark_at bytes links v) 1) (add binary32 (weight_in (distance_at work v)) (of_bits binary32 (final_at bytes links v))) (Ieee.inf false)
+total_value bytes links work v = total_by (distance_at work v) (ending_at bytes links v)
 
 -- An end, or none, and its total.
 pub record Best : Type 0 where
@@ -52,23 +54,19 @@ unfoldable pub way_back : List ℕ → ℕ → ℕ → List ℕ
 way_back work zero v = []
 way_back work (suc f) v = on_from (parent_at work v) (way_back work f)
 
--- link l with another next node
-abbrev pub link_to : List ℕ → ℕ → ℕ → List ℕ
-link_to bytes l next = word bytes (16 * l) ∷ word bytes (16 * l + 4) ∷ word bytes (16 * l + 8) ∷ next ∷ []
+-- How the way back goes on from v, by the parent there: it ends, or steps to a lower node by a link of the sheet.
+abbrev pub Back : List ℕ → List ℕ → ℕ → Option Parent → Type 0
+Back bytes work v None = way_back work v v ≡ []
+Back bytes work v (Some p) = (p.source < v) × (16 * p.link + 16 ≤ length bytes) × (way_back work v v ≡ p.link ∷ way_back work p.source p.source)
 
 -- the links of a way, the last first, to the states from s on
 unfoldable pub way_links : List ℕ → ℕ → List ℕ → List ℕ
 way_links bytes s [] = []
 way_links bytes s (l ∷ ls) = link_to bytes l s ++ way_links bytes (suc s) ls
 
--- n states with one link each
-unfoldable pub way_states : ℕ → List ℕ
-way_states zero = []
-way_states (suc n) = 1 ∷ 0 ∷ 0 ∷ way_states n
-
 -- the final state, with the weight of this field, and n more
 abbrev pub way_nodes : ℕ → ℕ → List ℕ
-way_nodes bits n = 0 ∷ 1 ∷ bits ∷ way_states n
+way_nodes bits n = 0 ∷ 1 ∷ bits ∷ state_words n
 
 abbrev pub way_trailer : ℕ → List ℕ
 way_trailer k = 0 ∷ 16 * k ∷ (k + 1) ∷ k ∷ k ∷ []

@@ -6,16 +6,16 @@ ghost use Rattle.sheet.specs.Words.{bytes_of_all};
 ghost use Rattle.search.specs.ListMachine.{result_for};
 ghost use Rattle.shortest_distance.specs.Handed.{handed_over};
 ghost use Rattle.sheet.specs.Machine.{machine as machine_in};
-ghost use Rattle.single_path.specs.SingleWords.{total_value, best_below, Traced, way_back};
-ghost use Rattle.single_path.specs.SingleWords.{link_to, way_links, way_nodes, way_from, way_listed};
+ghost use Rattle.single_path.specs.SingleWords.{total_value, best_below, Traced, way_back, Back};
+ghost use Rattle.single_path.specs.SingleWords.{way_links, way_nodes, way_from, way_listed};
 ghost use Rattle.list_answer.specs.ListAnswer.{listed_in, listed_over};
 
 use list_answer::Listed;
 use machine::climbing::Machine;
 use sheet::refusal::Refusal;
-use sheet::tr::TRAILER;
-use sheet::words::{put_word, put_words, word};
-use shortest_distance::parent::parent_at;
+use sheet::tr::{TRAILER, Trailer};
+use sheet::words::{put_word, put_words};
+use shortest_distance::parent::{Parent, parent_at};
 use slots::SLOT;
 
 // The bytes of an answer: for each link its record, a state and its number, and besides the final
@@ -24,17 +24,15 @@ const PER_LINK: usize = 16 + 12 + 4;
 
 const BESIDES: usize = 12 + TRAILER;
 
-// The total of a node, its distance and its final weight, or infinite where its mark is 0.
+// The total of a node, its distance and its final weight, or infinite where it has none.
 fn total_at(machine: &Machine, v: u32, work: &[u32]) -> f32
     requires { (v < machine.now.sheet.nodes) × (8 * v + 1 < length work.now) }
     ensures { result ≡ total_value machine.now.sheet.bytes.now machine.now.sheet.links work.now v }
 {
-    if machine.sheet.mark(v) != 1 {
+    let Some(bits) = machine.sheet.final_bits(v) else {
         return tropical_weight::zero();
-    }
-    let d = distance::distance_at(work, SLOT * (v as usize));
-    let weight = tropical_weight::from_bits(machine.sheet.final_bits(v));
-    tropical_weight::times(distance::as_weight(d), weight)
+    };
+    distance::total(distance::distance_at(work, SLOT * (v as usize)), bits)
 }
 
 // The lowest node with the least total, where that is finite. A strict test keeps the lowest.
@@ -54,17 +52,6 @@ fn best_end(machine: &Machine, work: &[u32]) -> Option<u32>
     best
 }
 
-// Stores a link of the sheet as the answer's link number i, to state i.
-fn put_link(sheet: &[u8], l: u32, i: u32, res: &mut [u8])
-    requires { (16 * l + 16 ≤ length sheet.now) × (16 * i + 16 ≤ length res.old) }
-    ensures { res.new
-        ≡ sets res.old (16 * i) (bytes_of_all (link_to sheet.now l i)) }
-{
-    let at = 16 * (l as usize);
-    let words = [word(sheet, at), word(sheet, at + 4), word(sheet, at + 8), i];
-    put_words(res, 16 * (i as usize), &words);
-}
-
 // Stores the states of a way of so many links, the final one first.
 fn put_states(at: usize, bits: u32, count: u32, res: &mut [u8])
     requires { at + 12 * count + 12 ≤ length res.old }
@@ -72,10 +59,7 @@ fn put_states(at: usize, bits: u32, count: u32, res: &mut [u8])
 {
     let last = [0, 1, bits];
     put_words(res, at, &last);
-    let state = [1, 0, 0];
-    for i in 0..count {
-        put_words(res, at + 12 + 12 * (i as usize), &state);
-    }
+    list_answer::put_states(count as usize, res, at + 12);
 }
 
 // The way back from a node by way of the parents: its links, the last first. Its passes are loops: an
@@ -90,6 +74,14 @@ struct Way<'a> {
 }
 
 impl<'a> Way<'a> {
+    // The parent of a node on it, and so how the way goes on from there.
+    fn parent(&self, v: u32) -> Option<Parent>
+        requires { v ≤ self.now.end }
+        ensures { Back self.now.machine.sheet.bytes.now self.now.work.now v result }
+    {
+        parent_at(self.work, v)
+    }
+
     // How many links it has.
     fn length(&self) -> u32
         ensures value { result ≡ length (way_back self.now.work.now self.now.end self.now.end) }
@@ -97,7 +89,7 @@ impl<'a> Way<'a> {
     {
         let mut n = 0u32;
         let mut v = self.end;
-        while let Some(parent) = parent_at(self.work, v) {
+        while let Some(parent) = self.parent(v) {
             v = parent.source;
             n += 1;
         }
@@ -112,8 +104,14 @@ impl<'a> Way<'a> {
     {
         let mut v = self.end;
         let mut i = 0u32;
-        while let Some(parent) = parent_at(self.work, v) {
-            put_link(self.machine.sheet.bytes, parent.link, i, res);
+        while let Some(parent) = self.parent(v) {
+            list_answer::put_link(
+                self.machine.sheet.bytes,
+                parent.link,
+                i,
+                res,
+                16 * (i as usize),
+            );
             v = parent.source;
             i += 1;
         }
@@ -127,7 +125,7 @@ impl<'a> Way<'a> {
     {
         let mut v = self.end;
         let mut next = at;
-        while let Some(parent) = parent_at(self.work, v) {
+        while let Some(parent) = self.parent(v) {
             put_word(res, next, parent.link);
             v = parent.source;
             next += 4;
@@ -141,13 +139,13 @@ impl<'a> Way<'a> {
         ensures { res.new
             ≡ sets res.old 0 (bytes_of_all (way_from self.now.machine.sheet.bytes.now self.now.machine.sheet.links self.now.work.now self.now.end)) }
     {
-        let bits = self.machine.sheet.final_bits(self.end);
+        let bits = self.machine.sheet.final_bits(self.end).unwrap_or(0);
         let states = 16 * (count as usize);
         let trailer_at = states + 12 * (count as usize) + 12;
-        let trailer = [0, 16 * count, count + 1, count, count];
+        let trailer = Trailer::of(count, count + 1, count);
         self.put_links(res);
         put_states(states, bits, count, res);
-        put_words(res, trailer_at, &trailer);
+        put_words(res, trailer_at, &trailer.words());
         self.put_numbers(trailer_at + TRAILER, res);
     }
 

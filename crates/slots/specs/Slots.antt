@@ -1,9 +1,13 @@
 -- The work area, in slots of eight words. Definitions only.
-use Rattle.std.specs.Prelude.{ℕ, ◌*◌, List, ◌++◌, replicate, drop}
+use Rattle.std.specs.Prelude.{ℕ, ◌*◌, cond, eqb, List, ◌++◌, Option, None, Some, replicate, drop}
 
 -- where there is no node, no link or no entry
 abbrev pub nothing : ℕ
 nothing = 0xffff_ffff
+
+-- the number that a word holds, or none
+abbrev pub number_in : ℕ → Option ℕ
+number_in w = cond (eqb w nothing) None (Some w)
 
 -- the first n slots left zero, and those beyond as they were
 abbrev pub cleared : ℕ → List ℕ → List ℕ

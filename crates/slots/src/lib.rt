@@ -2,7 +2,7 @@
 #![tactic(auto)]
 
 ghost use Rattle.std.specs.Prelude.{◌≡◌, ◌*◌, ◌≤◌, length};
-ghost use Rattle.slots.specs.Slots.{cleared};
+ghost use Rattle.slots.specs.Slots.{number_in, cleared};
 
 // The words of a slot.
 pub const SLOT: usize = 8;
@@ -11,7 +11,15 @@ pub const SLOT: usize = 8;
 // that are lent from C.
 pub const NOTHING: u32 = 0xffff_ffff;
 
-// Leaves the first slots zero, so that nothing of a run remains.
+// The number that a word holds, none for NOTHING.
+pub fn number_in(word: u32) -> Option<u32>
+    ensures { result ≡ number_in word }
+{
+    (word != NOTHING).then_some(word)
+}
+
+// Leaves the first slots zero, so that nothing of a run remains. The count goes beside the area, which
+// is lent from C and may be longer.
 pub fn clear(work: &mut [u32], slots: u32)
     requires { 8 * slots ≤ length work.old }
     ensures { work.new ≡ cleared slots work.old }

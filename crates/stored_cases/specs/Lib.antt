@@ -1,1 +1,5 @@
 pub mod Left
+pub mod Digits
+pub mod Fields
+pub mod Parts
+pub mod Filled

@@ -3,6 +3,7 @@
 
 pub mod areas;
 pub mod bytes;
+mod filled;
 mod hex;
 pub mod input;
 pub mod lines;

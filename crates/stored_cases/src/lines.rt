@@ -1,5 +1,8 @@
 // The fields of a line, with a space between, and the decimal numbers in them.
-ghost use Rattle.std.specs.Prelude.{◌≤◌};
+ghost use Rattle.std.specs.Prelude.{◌≡◌, ◌≤◌, length};
+ghost use Rattle.stored_cases.specs.Digits.{number_on};
+ghost use Rattle.stored_cases.specs.Fields.{field_of};
+ghost use Rattle.stored_cases.specs.Parts.{bytes_told};
 
 use crate::bytes::bytes_of;
 
@@ -9,9 +12,11 @@ pub struct Line<'a> {
     pub text: &'a [u8],
 }
 
-// The decimal number that a field begins with, cut off behind its sixth digit.
+// The decimal number that a field begins with, cut off behind its sixth digit: the library's parse
+// refuses a field that goes on, and does not cut off.
 fn decimal(field: &[u8]) -> usize
-    ensures { result ≤ 999999 }
+    ensures value { result ≡ number_on 0 field.now }
+    ensures most { result ≤ 999999 }
 {
     let mut n = 0usize;
     for c in field {
@@ -25,19 +30,24 @@ fn decimal(field: &[u8]) -> usize
 
 impl<'a> Line<'a> {
     // The field behind so many spaces, none where there are fewer.
-    pub fn field(&self, spaces: usize) -> &'a [u8] {
+    pub fn field(&self, spaces: usize) -> &'a [u8]
+        ensures { result.now ≡ field_of self.now.text.now spaces }
+    {
         self.text.split(|c| *c == b' ').nth(spaces).unwrap_or(&[])
     }
 
     // The decimal number in the field behind so many spaces.
     pub fn number(&self, spaces: usize) -> usize
-        ensures { result ≤ 999999 }
+        ensures value { result ≡ number_on 0 (field_of self.now.text.now spaces) }
+        ensures most { result ≤ 999999 }
     {
         decimal(self.field(spaces))
     }
 
     // The bytes in the field behind so many spaces, which are put into a buffer.
-    pub fn bytes<'b>(&self, spaces: usize, out: &'b mut [u8]) -> &'b [u8] {
+    pub fn bytes<'b>(&self, spaces: usize, out: &'b mut [u8]) -> &'b [u8]
+        ensures { result.now ≡ bytes_told (field_of self.now.text.now spaces) (length out.old) }
+    {
         let n = bytes_of(self.field(spaces), out);
         &out[..n]
     }

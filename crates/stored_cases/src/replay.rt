@@ -1,5 +1,7 @@
 // The replay of stored cases, a line each, by what a program tests of one.
-ghost use Rattle.std.specs.Prelude.{◌^◌, ◌<◌, length};
+ghost use Rattle.std.specs.Prelude.{◌≡◌, ◌^◌, ◌<◌, length};
+ghost use Rattle.std.specs.List.{before_first, after_first};
+ghost use Rattle.stored_cases.specs.Fields.{is_end};
 
 use crate::input::{read_full, zeros};
 use crate::lines::Line;
@@ -10,7 +12,9 @@ use std::io::Read;
 // The first line of a text, and what is behind it.
 fn split_line(text: &[u8]) -> (&[u8], &[u8])
     requires { 0 < length text.now }
-    ensures { length result.1.now < length text.now }
+    ensures line { result.0.now ≡ before_first is_end text.now }
+    ensures rest { result.1.now ≡ after_first is_end text.now }
+    ensures shorter { length result.1.now < length text.now }
 {
     match text.iter().position(|c| *c == b'\n') {
         Some(end) => (&text[..end], &text[end + 1..]),
@@ -18,7 +22,8 @@ fn split_line(text: &[u8]) -> (&[u8], &[u8])
     }
 }
 
-// Replays each line of a text: prints the numbers of those whose case does not hold, and the tally.
+// Replays each line of a text: prints the numbers of those whose case does not hold, and the tally. No
+// clause says it, since the library promises nothing of what `println` prints.
 fn replay_text<P: Print, F: Fn(Line<'_>) -> bool>(rt: &P, text: &[u8], holds: F) -> io::Result<()>
     requires { F.IsAlwaysCallable holds }
 {
@@ -37,7 +42,8 @@ fn replay_text<P: Print, F: Fn(Line<'_>) -> bool>(rt: &P, text: &[u8], holds: F)
     println!(rt; "{told}")
 }
 
-// Replays the first N bytes of what there is to read.
+// Replays the first N bytes of what there is to read, as `replay_text` does: what it prints is its whole
+// answer, of which no clause can speak.
 pub fn replay<const N: usize, P: Print, R: Read, F: Fn(Line<'_>) -> bool>(
     rt: &P,
     input: &mut R,

@@ -22,13 +22,19 @@ use std::num::saturating_f32_to_i32;
 pub const UNIT: u32 = 6;
 
 // How many units are 1.
-const UNITS: f32 = (1u32 << UNIT) as f32;
+pub const UNITS: u32 = 1 << UNIT;
 
 // One unit.
-const UNIT_WEIGHT: f32 = 1.0 / UNITS;
+const UNIT_WEIGHT: f32 = 1.0 / (UNITS as f32);
+
+// The bits of positive infinity.
+pub const INFINITY: u32 = 0x7f80_0000;
 
 // The most units of a weight, either way.
 pub const WEIGHT_LIMIT: u32 = 8192;
+
+// The most units of a sum of weights, either way.
+pub const SUM_LIMIT: u32 = 1 << 24;
 
 // The most nodes of a machine, and so the most terms of a sum along a reading.
 pub const NODE_LIMIT: usize = 2048;
@@ -43,7 +49,7 @@ pub const LIST_LIMIT: u32 = 64;
 pub fn zero() -> f32
     ensures { (j : ℕ) → j ≤ finest → result ≡ of_t j Tropical.zero }
 {
-    f32::from_bits(0x7f80_0000)
+    f32::from_bits(INFINITY)
 }
 
 // The semiring's one, neutral for `times`: 0.
@@ -74,7 +80,7 @@ pub fn natural_less(a: f32, b: f32) -> bool
     a < b
 }
 
-// Whether the two are equal within delta, as the Rust tests it.
+// Whether the two are equal within delta, as the Rust tests it: no PartialEq, which takes no delta.
 pub fn approx_equal(a: f32, b: f32, delta: f32) -> bool
     ensures { Approx a b delta result }
 {
@@ -89,11 +95,12 @@ pub fn on_grid(bits: u32) -> bool
     GridShifts::new().on_grid(bits)
 }
 
-// The value of a bit pattern; a NaN's is a NaN, of no particular pattern.
+// The value of a bit pattern; a NaN's is a NaN, of no particular pattern. The test goes by the bits, since
+// f32::from_bits keeps a pattern and asks for a number's.
 pub fn from_bits(bits: u32) -> f32
     ensures { result ≡ from_bits binary32 bits }
 {
-    if 0x7f80_0000 < bits % 0x8000_0000 {
+    if INFINITY < bits % 0x8000_0000 {
         return 0.0 / 0.0;
     }
     f32::from_bits(bits)
@@ -122,16 +129,16 @@ pub fn to_number_bits(value: f32) -> u32
     ensures { result ≡ number_bits value }
 {
     if value.is_nan() {
-        return 0x7f80_0000;
+        return INFINITY;
     }
-    f32::to_bits(value)
+    to_bits(value)
 }
 
 // The cost in units, as an i32: cut toward zero, held to the range, and 0 for a NaN.
 pub fn cost(weight: f32) -> i32
     ensures { Costs unit weight result }
 {
-    saturating_f32_to_i32(weight * UNITS)
+    saturating_f32_to_i32(weight * (UNITS as f32))
 }
 
 // The weight of so many units: exact up to 2^24 of them.
@@ -142,7 +149,7 @@ pub fn from_units(units: i32) -> f32
     (units as f32) * UNIT_WEIGHT
 }
 
-// The magnitude of a cost, which a u32 holds at every i32: a public function, kept for its callers.
+// The magnitude of a cost, which a u32 holds at every i32. No function here calls it, but it is public.
 pub fn magnitude(cost: i32) -> u32
     ensures { result ≡ unsigned_abs cost }
 {

@@ -55,7 +55,7 @@ impl GridShifts {
         requires { exponent < 256 }
         ensures { result ≡ grid_shift unit exponent }
     {
-        self.table[exponent as usize] as u32
+        u32::from(self.table[exponent as usize])
     }
 
     // The grid test of one of many weights.

@@ -37,7 +37,8 @@ const PATTERNS: [u32; 28] = [
     0x0080_0000, // the least normal value
 ];
 
-// The pattern, and its number of units where it is on the grid.
+// The pattern, and its number of units where it is on the grid. Lines of the program; no type has a text.
+// No clause says what is printed, since the library promises nothing of it.
 fn print_weight(rt: &impl Print, bits: u32) -> io::Result<()> {
     print!(rt; "{bits:08x}")?;
     if tropical_weight::on_grid(bits) {

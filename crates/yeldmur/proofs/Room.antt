@@ -96,12 +96,6 @@ serves nodes links finals n slots bytes few s b sheet below ok hN hT hF =
 
 -- ---- the number by counts
 module _ (nodes links n : ℕ) where
-  pub counts-nodes : node_limit < nodes → counts_number nodes links n ≡ 5
-  counts-nodes h = ap {B = ℕ} (λ (b : Bool). cond (not (b && leb links link_limit)) 5 (cond (ltb list_limit n) 7 0)) (lt-leb nodes node_limit h)
-
-  pub counts-links : link_limit < links → counts_number nodes links n ≡ 5
-  counts-links h = ap {B = ℕ} (λ (b : Bool). cond (not b) 5 (cond (ltb list_limit n) 7 0)) (ap (λ (b : Bool). leb nodes node_limit && b) (lt-leb links link_limit h) ∙ and-false (leb nodes node_limit))
-
   module _ (few : nodes ≤ node_limit) (fewer : links ≤ link_limit) where
     counts-fit : counts_number nodes links n ≡ cond (ltb list_limit n) 7 0
     counts-fit = λ i. cond (not (le-leb nodes node_limit few i && le-leb links link_limit fewer i)) 5 (cond (ltb list_limit n) 7 0)

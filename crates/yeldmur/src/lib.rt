@@ -30,10 +30,11 @@ ghost use Rattle.list_answer.specs.ListAnswer.{slots_of};
 ghost use Rattle.yeldmur.specs.Areas.{measured_number, bytes_of, bytes_enough, Enough, counts_number, finals_of, Serves};
 
 use machine::climbing::Machine;
-use machine::finals::count_finals;
+use machine::counted::Counted;
+use machine::limits::within_limits;
 use sheet::accepted::Sheet;
 use sheet::refusal::Refusal;
-use tropical_weight::{LINK_LIMIT, LIST_LIMIT, NODE_LIMIT};
+use tropical_weight::LIST_LIMIT;
 
 // Tests 1 to 4 of a byte string as a sheet.
 #[unsafe(no_mangle)]
@@ -46,7 +47,8 @@ pub extern "C" fn yeldmur_read_sheet(sheet: &[u8]) -> u32
     }
 }
 
-// What is answered, by numbers: 0 and how many bytes, values or readings, or the number of the refusal.
+// What is answered, by numbers: 0 and how many bytes, values or readings, or the number of the refusal. The
+// calls that tell several values match by hand: a closure's clause would have to name each of them.
 fn tell<T: Copy>(answer: Result<T, Refusal>, value: &mut T) -> u32
     ensures { (result, value.new) ≡ value_told answer value.old }
 {
@@ -259,11 +261,8 @@ pub extern "C" fn yeldmur_areas_of(
     ensures bytes_after { bytes.new ≡ cond (eqb result 0) (bytes_of nodes links (finals_of nodes finals) n) bytes.old }
     ensures serves { result ≡ 0 → Serves nodes links finals n slots.new bytes.new }
 {
-    if NODE_LIMIT < (nodes as usize) {
-        return u32::from(Refusal::Limits);
-    }
-    if LINK_LIMIT < (links as usize) {
-        return u32::from(Refusal::Limits);
+    if let Err(refusal) = within_limits(nodes, links) {
+        return u32::from(refusal);
     }
     if LIST_LIMIT < n {
         return u32::from(Refusal::Count);
@@ -286,7 +285,7 @@ pub extern "C" fn yeldmur_areas(sheet: &[u8], n: u32, slots: &mut u64, bytes: &m
 {
     match Machine::new(sheet) {
         Ok(m) => {
-            let finals = count_finals(m.sheet.bytes, m.sheet.links, m.sheet.nodes);
+            let finals = Counted::new(&m).finals;
             yeldmur_areas_of(m.sheet.nodes, m.sheet.links, finals, n, slots, bytes)
         }
         Err(refusal) => u32::from(refusal),

@@ -1,5 +1,5 @@
 use Rattle.std.proofs.Common.{◌≡◌, ◌^◌, lit≤, ◌<◌, ℤ, pos, ◌∙◌, subst, sym, w32, SFits}
-use lib.Ieee.{binary32, mul, of_bits, of_int, to_signed}
+use lib.Ieee.{binary32, mul, of_int, to_signed}
 use lib.Ieee.Casts.{to_signed_in}
 use lib.Signed.{mag}
 use mir.ValLaws.{to_z-of_z}
@@ -8,9 +8,8 @@ use Rattle.tropical_weight.specs.Single.{cost_of}
 use Rattle.tropical_weight.proofs.Units.{costs}
 use Rattle.tropical_weight.proofs.cost.Goals as goal
 
--- A literal of the code is its bits: with `of_bits` and `of_int` unfolded it is the same value.
 pub returns : goal.returns
-unfolding cost_of of_bits of_int
+unfolding cost_of
 returns c =
     let z = c.saturating_f32_to_i32.result in
     let is : z ≡ to_signed 31 (mul binary32 c.args.weight (of_int binary32 (pos (2 ^ unit)))) = c.saturating_f32_to_i32.ensures in

@@ -38,14 +38,14 @@ returns-in-Ok c =
     let below : Below 256 sheet = λ i. omega (arith, c.type_inv.sheet i) in
     let m = c.in-Ok.m in
     let same : m.sheet.bytes.now ≡ sheet = λ i. (c.in-Ok.ensures.same i).now in
-    let f = c.count_finals-finals.result in
-    let counted = c.count_finals-finals.ensures in
+    let f = c.new-finals.result.finals in
+    let counted = c.new-finals.ensures in
     let told = c.yeldmur_areas_of.ensures in
     let r = c.yeldmur_areas_of.result in
-    let own = own-counts m f counted.0 counted.1 a.n in record {
-      value = told.value ∙ number_same m f counted.0 counted.1 a.n ∙ ap (λ (s : List ℕ). tested_number s a.n 0) same;
-      slots_after = told.slots_after ∙ ap {B = ℕ} (λ s. cond (eqb r 0) s a.slots.now) (slots-told m f counted.0 counted.1 a.n ∙ ap (λ (s : List ℕ). slots_needed s a.n) same);
-      bytes_after = told.bytes_after ∙ ap {B = ℕ} (λ b. cond (eqb r 0) b a.bytes.now) (bytes-told m f counted.0 counted.1 a.n ∙ ap (λ (s : List ℕ). bytes_enough s a.n) same);
+    let own = own-counts m f counted.finals counted.few a.n in record {
+      value = told.value ∙ number_same m f counted.finals counted.few a.n ∙ ap (λ (s : List ℕ). tested_number s a.n 0) same;
+      slots_after = told.slots_after ∙ ap {B = ℕ} (λ s. cond (eqb r 0) s a.slots.now) (slots-told m f counted.finals counted.few a.n ∙ ap (λ (s : List ℕ). slots_needed s a.n) same);
+      bytes_after = told.bytes_after ∙ ap {B = ℕ} (λ b. cond (eqb r 0) b a.bytes.now) (bytes-told m f counted.finals counted.few a.n ∙ ap (λ (s : List ℕ). bytes_enough s a.n) same);
       enough = λ z.
           told.serves z sheet below (sym c.in-Ok.ensures.number) (subst (λ (s : List ℕ). length (machine s).finals ≤ m.sheet.nodes) same own.0) (subst (λ (s : List ℕ). length (machine s).links ≤ m.sheet.links) same own.1)
           (subst (λ (s : List ℕ). marked (machine s).finals ≤ f) same own.2);

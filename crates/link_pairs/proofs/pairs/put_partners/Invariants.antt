@@ -10,4 +10,4 @@ use Rattle.link_pairs.proofs.pairs.put_partners.Given as goal
 abbrev pub invariant-loop-second : goal.invariant-loop-second
 invariant-loop-second l =
     (l.next ≤ link_limit)
-    × ((done : List ℕ) × (l.next ≡ l.at + length done) × (l.pairs ≡ sets l.fn.pairs l.at done) × (done ++ map (pair_of l.nodes l.key) (partners l.key (drop (l.low + l.second-index) l.seconds)) ≡ pairs_of l.nodes l.seconds l.key))
+    × ((done : List ℕ) × (l.next ≡ l.at + length done) × (l.pairs ≡ sets l.fn.pairs l.at done) × (done ++ map (pair_of l.nodes l.key) (partners l.key (drop (l.low + l.second-index) l.fn.seconds.keys.now)) ≡ pairs_of l.nodes l.fn.seconds.keys.now l.key))

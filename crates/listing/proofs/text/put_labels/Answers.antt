@@ -1,10 +1,9 @@
-use mathlib.Core.Path.{refl, sym, ap, ◌∙◌}
+use mathlib.Core.Path.{sym, ap, ◌∙◌}
 use mathlib.Core.List.{List, ◌++◌, flat_map, append-nil}
 use Rattle.std.proofs.lemmas.List.{append_assoc}
 use Prim.Native.Nat.{ℕ, ◌*◌}
 use native.Mathlib.Omega.{arith}
 use lib.ListN.{take, get_or}
-use lib.Seq.{take_all}
 use Rattle.sheet.specs.Words.{word}
 use Rattle.listing.specs.Text.{label_text, labels_of}
 use Rattle.listing.proofs.Labels.{labels-more}
@@ -25,9 +24,3 @@ loop-l-preserved c =
           ∙ ap (λ (t : List ℕ). c.args.page.now ++ t) (labels-more sheet run turn.l-index (omega arith));
       bound = omega (arith, turn.invariant.bound, c.put_label.ensures.upper_bound);
     }
-
-pub returns : goal.returns
-returns c =
-    let turn = c.loop-l in
-    let all = take_all turn.l-index c.args.run.now (omega arith) in
-    record { text = turn.invariant.text ∙ ap (λ (r : List ℕ). c.args.page.now ++ flat_map label_text (labels_of c.args.sheet.now r)) all; upper_bound = omega (arith, turn.invariant.bound) }

@@ -1,60 +1,41 @@
-use mathlib.Core.Path.{◌≡◌, refl, sym, ap, ◌∙◌}
-use Prim.Native.Nat.{ℕ, ◌+◌, ◌*◌}
-use native.Mathlib.Numerals.{add-one}
+use mathlib.Core.Path.{◌≡◌, sym, ap, ◌∙◌}
+use Prim.Native.Nat.{ℕ, ◌<◌}
 use native.Mathlib.Omega.{arith}
-use lib.Dec.{ltb}
-use borrow.Author.Rules.{rules}
-use Rattle.sheet.specs.Below.{all_below, sum_below}
-use Rattle.sheet.specs.Words.{word}
-use Rattle.sheet.specs.Records.{first_link}
+use Rattle.sheet.specs.declared.accepted.Sheet.{Sheet}
+use Rattle.sheet.specs.declared.source.Sources.{Sources}
+use Rattle.sheet.specs.Below.{all_below}
 use Rattle.sheet.proofs.Below.{all_below-more, all_below-fails}
-use Rattle.machine.proofs.SheetFields.{next-first}
-use Rattle.machine.proofs.Machines.{first-within}
-use Rattle.machine.proofs.climbing.links_climb.Invariants.{climbing}
+use Rattle.machine.specs.Answers.{node_climbs}
 use Rattle.machine.proofs.climbing.links_climb.Goals as goal
-use Rattle.machine.proofs.climbing.links_climb.Lts
-use Rattle.machine.proofs.climbing.links_climb.Reads
-use Rattle.machine.proofs.climbing.links_climb.Tie
 
-abbrev After-node_climbs : Type 0
-After-node_climbs = Lts.After-node_climbs Tie.the-claims Reads.Pre Reads.Post goal.the-invariant-loop-v goal.the-decreases-loop-v Tie.handed_clauses
+-- a node's links, by the sheet and the number that its source has
+same-node : (s t : Sheet) (u v : ℕ) → t ≡ s → u ≡ v → node_climbs t.bytes.now t.links u ≡ node_climbs s.bytes.now s.links v
+same-node s t u v e h i = node_climbs (e i).bytes.now (e i).links (h i)
 
--- what the call finds of this node
-found : (c : After-node_climbs) → c.node_climbs.result ≡ climbing c.args.sheet.now.bytes.now c.args.sheet.now.links c.loop-v.v
-found c =
-    let bytes = c.args.sheet.now.bytes.now in
-    let turn = c.loop-v in
-    c.node_climbs.ensures ∙ λ i. all_below (c.count-count.ensures.word i) (λ k. ltb turn.v (word bytes (16 * (turn.invariant.0 i + k) + 12)))
-
-pub loop-v-init : goal.loop-v-init
-unfolding all_below sum_below
-loop-v-init c = (refl, refl)
-
-pub node_climbs-requires : goal.node_climbs-requires
-node_climbs-requires c =
+pub loop-source-init : goal.loop-source-init
+unfolding all_below
+loop-source-init c =
     let s = c.args.sheet.now in
-    omega (arith, c.loop-v.invariant.0, c.count-count.ensures.word, first-within s.bytes.now s.links s.nodes s.start s.accepted s.stated c.loop-v.v (search rules))
+    let same = c.into_iter-source-iterator.ensures.into_iter_gives in
+    let made = c.new-source-items.ensures in
+    (ap (λ (t : Sources). t.sheet) same ∙ made.0, ap (λ (n : ℕ). all_below n (node_climbs s.bytes.now s.links)) (ap (λ (t : Sources). t.node) same ∙ made.1))
 
 pub returns-then-not-node_climbs : goal.returns-then-not-node_climbs
 returns-then-not-node_climbs c =
     let s = c.args.sheet.now in
-    sym (all_below-fails s.nodes (climbing s.bytes.now s.links) c.loop-v.v (search rules) (sym (found c.before.before) ∙ c.if-not-node_climbs.true))
+    let it = c.loop-source.source-iterator in
+    let r = c.in-Some.source in
+    let steps = c.in-Some.ensures.steps in
+    let inside : it.node < s.nodes = omega (arith, steps.0, ap (λ (t : Sheet). t.nodes) c.loop-source.invariant.0) in
+    let low = sym (same-node s r.sheet r.node it.node (steps.1 ∙ c.loop-source.invariant.0) steps.2) ∙ sym c.node_climbs.ensures ∙ c.if-not-node_climbs.true in
+    sym (all_below-fails s.nodes (node_climbs s.bytes.now s.links) it.node inside low)
 
-pub overflow_add-first : goal.overflow_add-first
-overflow_add-first c =
+pub loop-source-preserved : goal.loop-source-preserved
+loop-source-preserved c =
     let s = c.args.sheet.now in
-    omega (arith, c.loop-v.invariant.0, c.count-count.ensures.word, first-within s.bytes.now s.links s.nodes s.start s.accepted s.stated c.loop-v.v (search rules))
-
-pub loop-v-preserved : goal.loop-v-preserved
-loop-v-preserved c =
-    let s = c.args.sheet.now in
-    let turn = c.loop-v in (
-      (λ i. turn.invariant.0 i + c.count-count.ensures.word i) ∙ sym (ap (first_link s.bytes.now s.links) (add-one turn.v) ∙ next-first s.bytes.now s.links turn.v),
-      all_below-more turn.v (climbing s.bytes.now s.links) turn.invariant.1 (sym (found c.before.before) ∙ c.if-not-node_climbs.false),
-    )
-
-pub returns : goal.returns
-returns c =
-    let s = c.args.sheet.now in
-    let all : c.loop-v.v ≡ s.nodes = omega arith in
-    sym (ap (λ (n : ℕ). all_below n (climbing s.bytes.now s.links)) (sym all) ∙ c.loop-v.invariant.1)
+    let turn = c.loop-source in
+    let it = turn.source-iterator in
+    let r = c.in-Some.source in
+    let steps = c.in-Some.ensures.steps in
+    let high = sym (same-node s r.sheet r.node it.node (steps.1 ∙ turn.invariant.0) steps.2) ∙ sym c.node_climbs.ensures ∙ c.if-not-node_climbs.false in
+    (steps.4 ∙ turn.invariant.0, ap (λ (n : ℕ). all_below n (node_climbs s.bytes.now s.links)) steps.5 ∙ all_below-more it.node (node_climbs s.bytes.now s.links) turn.invariant.1 high)

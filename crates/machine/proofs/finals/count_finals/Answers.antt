@@ -1,8 +1,7 @@
-use mathlib.Core.Path.{◌≡◌, sym, ap, ◌∙◌}
+use mathlib.Core.Path.{◌≡◌, sym, ◌∙◌}
 use Prim.Native.Nat.{suc, ◌+◌}
 use native.Mathlib.Omega.{arith}
 use borrow.Author.Rules.{rules}
-use Rattle.machine.specs.Finals.{final_count}
 use Rattle.machine.proofs.FinalCount.{count_none, count-plain, count-final}
 use Rattle.machine.proofs.finals.count_finals.Goals as goal
 use Rattle.machine.proofs.finals.count_finals.Goals.{then-word-ne0, else-word-ne0}
@@ -23,10 +22,3 @@ loop-v-preserved c =
         | else-word-ne0 w ↦ omega (arith, count-plain bytes links turn.v (turn.v + 1) next (sym read ∙ w.if-word-ne0.false))
       ],
     )
-
-pub returns : goal.returns
-returns c =
-    let bytes = c.args.sheet.now in
-    let links = c.args.links in
-    let all : c.loop-v.v ≡ c.args.nodes = omega arith in
-    (c.loop-v.invariant.1 ∙ ap (final_count bytes links) all, search rules)

@@ -5,14 +5,16 @@ use mir.ValLaws.{to_z-of_z}
 use borrow.Author.Rules.{sfits_of}
 use Rattle.tropical_weight.specs.Tropical.{fin}
 use Rattle.sheet.specs.Records.{final_at}
+use Rattle.machine.specs.declared.climbing.Machine.{Machine}
 use Rattle.read_back.proofs.RunCosts.{link-in-sheet, cost-answers}
 use Rattle.read_back.proofs.cost.cost_of.Goals as goal
 
 pub run_sum-sum-requires : goal.run_sum-sum-requires
-run_sum-sum-requires c = link-in-sheet c.args.w.now.machine c.args.run.now c.requires.reading
+run_sum-sum-requires c = let w = c.args.w.now in link-in-sheet (record { sheet = w.at.sheet; climbs = w.climbs }) c.args.run.now c.requires.reading
 
 pub returns : goal.returns
 returns c =
-    let m = c.args.w.now.machine in
-    let weight = c.from_bits-last.ensures ∙ ap (of_bits binary32) (c.final_bits.ensures.word ∙ ap (final_at m.sheet.bytes.now m.sheet.links) c.requires.end_value) in
+    let w = c.args.w.now in
+    let m : Machine = record { sheet = w.at.sheet; climbs = w.climbs } in
+    let weight = c.from_bits-last.ensures ∙ ap (of_bits binary32) (c.unwrap_or.ensures ∙ c.final_bits.ensures.bits ∙ ap (final_at w.at.sheet.bytes.now w.at.sheet.links) c.requires.end_value) in
     ap fin (to_z-of_z w32 c.cost.result (sfits_of c.cost.type_inv)) ∙ cost-answers m c.args.run.now c.requires.reading _ _ _ _ c.run_sum-sum.ensures weight c.times.ensures c.cost.ensures

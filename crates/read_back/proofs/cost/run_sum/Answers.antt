@@ -2,16 +2,12 @@ use mathlib.Core.Path.{◌≡◌, ap, ◌∙◌, subst}
 use Prim.Native.Nat.{ℕ}
 use lib.ListN.{length, drop}
 use native.Mathlib.Omega.{arith}
-use lib.Ieee.{Float, binary32, add, of_bits}
+use lib.Ieee.{binary32, add, of_bits}
 use mathlib.Core.List.{map}
-use Rattle.tropical_weight.specs.Limits.{unit}
 use Rattle.tropical_weight.specs.Single.{add_all}
 use Rattle.read_back.specs.Costs.{weight_at, run_sum}
 use Rattle.read_back.proofs.RunCosts.{sum-next, sum-end}
 use Rattle.read_back.proofs.cost.run_sum.Goals as goal
-
-pub loop-l-init : goal.loop-l-init
-loop-l-init c = ap (λ (s : Float). add_all s (map (weight_at c.args.sheet.now.bytes.now) c.args.run.now)) (c.one-sum.ensures unit (omega arith))
 
 pub loop-l-preserved : goal.loop-l-preserved
 loop-l-preserved c =

@@ -1,13 +1,18 @@
+use mathlib.Core.Path.{◌≡◌}
+use Rattle.std.proofs.Common.{None, rules}
 use Rattle.sheet.specs.Machine.{machine}
 use Rattle.read_back.specs.Walks.{way_to}
-use Rattle.read_back.proofs.Holding.{none-held, start_none, start-inside-it, walked-by}
+use Rattle.read_back.proofs.Holding.{none-held, starts-there, starts-not, walked-by}
 use Rattle.read_back.proofs.reading.walked.Goals as goal
 
-pub returns-then-start : goal.returns-then-start
-returns-then-start c = none-held (machine c.args.machine.now.sheet.bytes.now) (start_none c.args.machine.now c.if-start.true) (way_to c.args.list.now c.args.k)
-
-pub begin-requires : goal.begin-requires
-begin-requires c = start-inside-it c.args.machine.now c.if-start.false
+pub returns-in_err-start : goal.returns-in_err-start
+returns-in_err-start c =
+    let m = c.args.machine.now in
+    let none : c.from_residual.result ≡ None = search rules in
+    rw none (none-held (machine m.sheet.bytes.now) (starts-not m c.in_err-start.ensures.value) (way_to c.args.list.now c.args.k))
 
 pub returns : goal.returns
-returns c = walked-by c.args.machine.now c.begin.result c.begin.ensures c.if-start.false (way_to c.args.list.now c.args.k) c.walk.result c.walk.ensures
+returns c =
+    let m = c.args.machine.now in
+    let s = c.in_ok-start.start in
+    walked-by m.sheet.bytes.now s (starts-there m s c.in_ok-start.ensures.below) c.begin.result c.begin.ensures (way_to c.args.list.now c.args.k) c.walk.result c.walk.ensures

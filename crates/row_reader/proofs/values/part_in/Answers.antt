@@ -1,6 +1,7 @@
-use mathlib.Core.Path.{◌≡◌, sym, ◌∙◌}
+use mathlib.Core.Path.{◌≡◌, sym, ap, ◌∙◌}
+use Prim.Native.Nat.{ℕ, ◌*◌}
 use borrow.Author.Rules.{rules}
-use Rattle.std.proofs.Common.{None}
+use Rattle.std.proofs.Common.{None, Some}
 use Rattle.row_reader.proofs.Weighing.{part-long, part_none, part-is}
 use Rattle.row_reader.proofs.values.part_in.Goals as goal
 
@@ -14,4 +15,5 @@ returns-in_err-value c =
 
 pub returns : goal.returns
 returns c =
-    sym (part-is c.args.decimals.now c.in_ok-value.value (sym c.digits_in.ensures ∙ c.in_ok-value.was) c.if-n-gt-DECIMALS.false)
+    ap (λ (x : ℕ). Some (c.in_ok-value.value * x)) c.pow.ensures
+    ∙ sym (part-is c.args.decimals.now c.in_ok-value.value (sym c.digits_in.ensures ∙ c.in_ok-value.was) c.if-n-gt-DECIMALS.false)

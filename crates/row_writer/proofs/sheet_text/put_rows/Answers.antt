@@ -1,90 +1,96 @@
-use mathlib.Core.Path.{◌≡◌, refl, sym, ap, ◌∙◌}
+use mathlib.Core.Path.{◌≡◌, sym, ap, ◌∙◌}
 use mathlib.Core.Bool.{Bool, true, cond}
-use mathlib.Core.List.{[], ◌++◌}
+use mathlib.Core.List.{List, [], ◌++◌}
 use Prim.Native.Nat.{ℕ, ◌+◌, ◌<◌}
 use native.Mathlib.Omega.{arith}
 use lib.ListN.{length}
 use borrow.Author.Tests.{eq-eqb, ne_eqb}
 use Rattle.sheet.specs.declared.accepted.Sheet.{Sheet}
-use Rattle.sheet.specs.Below.{sum_below}
+use Rattle.sheet.specs.declared.source.Source.{Source}
+use Rattle.sheet.specs.declared.source.Sources.{Sources}
 use Rattle.sheet.specs.Sheet.{node_count, parts_of}
 use Rattle.decimals.specs.Stored.{Puts}
 use Rattle.decimals.proofs.Storing.{puts-same, puts_then}
 use Rattle.text_rows.specs.Written.{has_rows, node_rows}
 use Rattle.text_rows.proofs.HasRows.{start-below}
 use Rattle.row_writer.specs.OtherRows.{other_rows}
-use Rattle.row_writer.proofs.Stored.{puts_none, puts_as}
-use Rattle.row_writer.proofs.Accepted.{nodes-are, start_is, first_next, first-most}
-use Rattle.row_writer.proofs.Measured.{texts, texts-none, texts-more, text-is, start_fits_lem, other_fits}
+use Rattle.row_writer.proofs.Stored.{puts_none}
+use Rattle.row_writer.proofs.Accepted.{nodes-are, start_is}
+use Rattle.row_writer.proofs.Measured.{rows-same, texts, texts-none, texts-more, text-is, start_fits_lem, other_fits}
 use Rattle.row_writer.proofs.sheet_text.put_rows.Goals as goal
-use Rattle.row_writer.proofs.sheet_text.put_rows.Goals.{then-v-start, else-v-start}
 
 start-in : (s : Sheet) → has_rows (parts_of s.bytes.now) ≡ true → s.start < s.nodes
 start-in s rows = omega (arith, start_is s, nodes-are s, start-below (parts_of s.bytes.now) rows)
 
--- the start's rows, as the sheet names it
-start-size : (s : Sheet) → length (node_rows (parts_of s.bytes.now) s.start) ≡ length (node_rows (parts_of s.bytes.now) (parts_of s.bytes.now).start)
-start-size s = ap (λ (v : ℕ). length (node_rows (parts_of s.bytes.now) v)) (start_is s)
-
 -- a node's own rows, where it is not the start, and none for the start
-own : (s : Sheet) (v : ℕ) → (v ≡ s.start → ⊥) → node_rows (parts_of s.bytes.now) v ≡ other_rows (parts_of s.bytes.now) v
-own s v n =
+own : (s : Sheet) (r : Source) (v : ℕ) → r.sheet ≡ s → r.node ≡ v → (v ≡ s.start → ⊥) → node_rows (parts_of r.sheet.bytes.now) r.node ≡ other_rows (parts_of s.bytes.now) v
+own s r v e h n =
     let p = parts_of s.bytes.now in
-    sym (ap (λ (b : Bool). cond b [] (node_rows p v)) (ne_eqb v p.start (λ e. n (e ∙ sym (start_is s)))))
+    rows-same r.sheet s r.node v e h ∙ sym (ap (λ (b : Bool). cond b [] (node_rows p v)) (ne_eqb v p.start (λ z. n (z ∙ sym (start_is s)))))
 
 none : (s : Sheet) (v : ℕ) → v ≡ s.start → [] ≡ other_rows (parts_of s.bytes.now) v
 none s v e =
     let p = parts_of s.bytes.now in
     sym (ap (λ (b : Bool). cond b [] (node_rows p v)) (eq-eqb v p.start (e ∙ start_is s)))
 
-pub first_link-requires : goal.first_link-requires
-first_link-requires c = start-in c.args.sheet.now c.requires.rows
+-- the texts of the nodes before, and of one more
+next-puts : (s : Sheet) (v : ℕ) {next : ℕ} {old res new : List ℕ} {at middle end : ℕ} → next ≡ v + 1 → Puts old at (texts (other_rows (parts_of s.bytes.now)) v) res middle → Puts res middle (other_rows (parts_of s.bytes.now) v) new end
+    → Puts old at (texts (other_rows (parts_of s.bytes.now)) next) new end
+next-puts s v e before puts = puts-same (sym (ap (texts (other_rows (parts_of s.bytes.now))) e ∙ texts-more (other_rows (parts_of s.bytes.now)) v)) (puts_then before puts)
 
-pub invariant_of-named_first : goal.invariant_of-named_first
-invariant_of-named_first c = record { within = start-in c.args.sheet.now c.requires.rows; begins = c.first_link.ensures }
+pub returns-in_default : goal.returns-in_default
+returns-in_default c = absurd (omega (arith, start-in c.args.sheet.now c.requires.rows, c.start_of.ensures.none c.in_default.is))
+
+-- the start's rows, as its source has them
+start-rows : (s : Sheet) (r : Source) → (r.sheet ≡ s) × (r.node ≡ s.start) → node_rows (parts_of r.sheet.bytes.now) r.node ≡ node_rows (parts_of s.bytes.now) (parts_of s.bytes.now).start
+start-rows s r e = rows-same r.sheet s r.node (parts_of s.bytes.now).start e.0 (e.1 ∙ start_is s)
 
 pub put-next-requires : goal.put-next-requires
 put-next-requires c =
     let s = c.args.sheet.now in
-    omega (arith, start-size s, start_fits_lem (parts_of s.bytes.now), c.requires.text_in_bounds)
+    omega (arith, ap length (start-rows s c.in-Some.start c.in-Some.ensures.same), start_fits_lem (parts_of s.bytes.now), c.requires.text_in_bounds)
 
-pub loop-v-init : goal.loop-v-init
-unfolding sum_below
-loop-v-init c = record {
-  begins = refl;
-  puts = puts-same (sym (texts-none (other_rows (parts_of c.args.sheet.now.bytes.now)))) (puts_none _ c.put-next.result);
-}
+pub loop-source-init : goal.loop-source-init
+loop-source-init c =
+    let same = c.into_iter-source-iterator.ensures.into_iter_gives in
+    let made = c.new-source-items.ensures in
+    let other = other_rows (parts_of c.args.sheet.now.bytes.now) in record {
+      same = ap (λ (t : Sources). t.sheet) same ∙ made.0;
+      puts = puts-same (sym (ap (texts other) (ap (λ (t : Sources). t.node) same ∙ made.1) ∙ texts-none other)) (puts_none _ c.put-next.result);
+    }
 
-pub put-next-requires-then-v-start : goal.put-next-requires-then-v-start
-put-next-requires-then-v-start c =
+pub put-next-requires-then-source-start : goal.put-next-requires-then-source-start
+put-next-requires-then-source-start c =
     let s = c.args.sheet.now in
     let p = parts_of s.bytes.now in
-    omega (arith, start-size s, c.loop-v.invariant.puts.ends, c.put-next.ensures.ends, ap length (own s c.loop-v.v c.if-v-start.true), other_fits p c.loop-v.v (omega (arith, nodes-are s)), c.requires.text_in_bounds)
+    let it = c.loop-source.source-iterator in
+    let steps = c.in-Some-source.ensures.steps in
+    let same = c.loop-source.invariant.same in
+    let rows = own s c.in-Some-source.source it.node (steps.1 ∙ same) steps.2 (λ e. c.if-source-start.true (steps.2 ∙ e ∙ sym c.in-Some.ensures.same.1)) in
+    omega (arith, ap length (start-rows s c.in-Some.start c.in-Some.ensures.same), c.loop-source.invariant.puts.ends, c.put-next.ensures.ends, ap length rows, other_fits p it.node (omega (arith, steps.0, nodes-are s, ap (λ (t : Sheet). t.nodes) same)), c.requires.text_in_bounds)
 
-pub overflow_add-first : goal.overflow_add-first
-overflow_add-first c =
+pub loop-source-preserved-then-source-start : goal.loop-source-preserved-then-source-start
+loop-source-preserved-then-source-start c =
     let s = c.args.sheet.now in
-    let v = c.loop-v.v in
-    omega (arith, c.loop-v.invariant.begins, c.count-first.ensures.part, first_next s v, first-most s (v + 1) (omega arith))
+    let it = c.loop-source.source-iterator in
+    let steps = c.in-Some-source.ensures.steps in
+    let same = c.loop-source.invariant.same in
+    let rows = own s c.in-Some-source.source it.node (steps.1 ∙ same) steps.2 (λ e. c.if-source-start.true (steps.2 ∙ e ∙ sym c.in-Some.ensures.same.1)) in
+    record { same = steps.4 ∙ same; puts = next-puts s it.node steps.5 c.loop-source.invariant.puts (puts-same rows c.put-next-then-source-start.ensures) }
 
-pub loop-v-preserved : goal.loop-v-preserved
-loop-v-preserved c =
+pub loop-source-preserved : goal.loop-source-preserved
+loop-source-preserved c =
     let s = c.args.sheet.now in
-    let turn = c.loop-v in
-    let now = c.if-v-start in
-    let other : Puts turn.res turn.next (other_rows (parts_of s.bytes.now) turn.v) now.res now.next =
-    elim now.branch [
-      | then-v-start w ↦ puts_as w.res-is w.next-is (puts-same (own s turn.v w.if-v-start.true) w.put-next-then-v-start.ensures)
-      | else-v-start w ↦ puts_as w.res-is w.next-is (puts-same (none s turn.v w.if-v-start.false) (puts_none turn.res turn.next))
-    ] in record {
-      begins = omega (arith, first_next s turn.v, turn.invariant.begins, c.count-first.ensures.part);
-      puts = puts-same (sym (texts-more (other_rows (parts_of s.bytes.now)) turn.v)) (puts_then turn.invariant.puts other);
-    }
+    let turn = c.loop-source in
+    let it = turn.source-iterator in
+    let steps = c.in-Some-source.ensures.steps in
+    record { same = steps.4 ∙ turn.invariant.same; puts = next-puts s it.node steps.5 turn.invariant.puts (puts-same (none s it.node (sym steps.2 ∙ c.if-source-start.false ∙ c.in-Some.ensures.same.1)) (puts_none turn.res turn.next)) }
 
 pub returns : goal.returns
 returns c =
     let s = c.args.sheet.now in
     let p = parts_of s.bytes.now in
-    let all : c.loop-v.v ≡ node_count p = omega (arith, nodes-are s) in
-    let text = ap (λ (v : ℕ). node_rows p v ++ texts (other_rows p) c.loop-v.v) (start_is s) ∙ sym (text-is p c.loop-v.v all) in
-    (puts-same text (puts_then c.put-next.ensures c.loop-v.invariant.puts)).stored
+    let it = c.loop-source.source-iterator in
+    let all : it.node ≡ node_count p = c.in-None.ensures.steps.0 ∙ ap (λ (t : Sheet). t.nodes) c.loop-source.invariant.same ∙ nodes-are s in
+    let text = ap (λ (t : List ℕ). t ++ texts (other_rows p) it.node) (start-rows s c.in-Some.start c.in-Some.ensures.same) ∙ sym (text-is p it.node all) in
+    (puts-same text (puts_then c.put-next.ensures c.loop-source.invariant.puts)).stored

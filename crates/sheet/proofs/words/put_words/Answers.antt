@@ -1,9 +1,8 @@
-use mathlib.Core.Path.{◌≡◌, ap, ◌∙◌}
+use mathlib.Core.Path.{ap, ◌∙◌}
 use mathlib.Core.List.{List}
 use Prim.Native.Nat.{ℕ, ◌+◌, ◌*◌}
-use native.Mathlib.Omega.{arith}
-use lib.ListN.{length, take, get_or}
-use lib.Seq.{sets, take-length}
+use lib.ListN.{get_or}
+use lib.Seq.{sets}
 use borrow.Author.Rules.{rules}
 use Rattle.sheet.specs.Words.{bytes_of, bytes_of_all}
 use Rattle.sheet.proofs.Bytes.{sets_word}
@@ -19,9 +18,3 @@ loop-i-preserved c =
     let args = c.args in
     let ws = args.words.now in
     c.put_word.ensures ∙ ap (λ (l : List ℕ). sets l (args.at + 4 * turn.i) (bytes_of (get_or ws turn.i 0))) turn.invariant ∙ sets_word args.bytes.now args.at ws turn.i (search rules)
-
-pub returns : goal.returns
-returns c =
-    let ws = c.args.words.now in
-    let all : c.loop-i.i ≡ length ws = omega arith in
-    c.loop-i.invariant ∙ ap (λ (k : List ℕ). sets c.args.bytes.now c.args.at (bytes_of_all k)) (ap (λ (n : ℕ). take n ws) all ∙ take-length ws)

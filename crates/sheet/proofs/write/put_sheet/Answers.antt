@@ -6,6 +6,7 @@ use lib.ListN.{length}
 use lib.Seq.{sets}
 use Rattle.sheet.specs.Words.{bytes_of_all}
 use Rattle.sheet.specs.Sheet.{sheet_of}
+use Rattle.sheet.specs.Accepted.{trailer_fields}
 use Rattle.sheet.proofs.Writing.{sheet-stores}
 use Rattle.sheet.proofs.write.put_sheet.Goals as goal
 
@@ -20,7 +21,8 @@ returns c =
     let trailer : List ℕ = 0 ∷ 16 * t ∷ n ∷ t ∷ args.start ∷ [] in
     let first : 16 * t ≡ 4 * length xs = omega arith in
     let second : 16 * t + 12 * n ≡ 4 * length xs + 4 * length ys = omega arith in
-    c.put_words-3.ensures
+    let fields : c.words.result ≡ trailer = c.words.ensures ∙ ap trailer_fields c.of-trailer.ensures in
+    c.put_words-3.ensures ∙ ap (λ (w : List ℕ). sets c.put_words-2.new.bytes (16 * t + 12 * n) (bytes_of_all w)) fields
     ∙ ap (λ (m : List ℕ). sets m (16 * t + 12 * n) (bytes_of_all trailer))
     (c.put_words-2.ensures ∙ ap (λ (m : List ℕ). sets m (16 * t) (bytes_of_all ys)) c.put_words.ensures)
     ∙ (λ i. sets (sets (sets args.res.now 0 (bytes_of_all xs)) (first i) (bytes_of_all ys)) (second i) (bytes_of_all trailer))

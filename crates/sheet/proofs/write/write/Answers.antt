@@ -14,7 +14,7 @@ use Rattle.sheet.specs.Tests.{judged}
 use Rattle.sheet.specs.Answers.{parts}
 use Rattle.sheet.proofs.Refusals.{answer-some, refusal-told, number-positive}
 use Rattle.sheet.proofs.Passes.{first-known}
-use Rattle.sheet.proofs.Writing.{records, write-unfit, write-judged, refused}
+use Rattle.sheet.proofs.Writing.{write-unfit, write-judged, refused}
 use Rattle.sheet.proofs.Round.{Below, stored_back}
 use Rattle.sheet.proofs.write.write.Goals as goal
 use Rattle.sheet.proofs.write.write.Lts
@@ -52,48 +52,27 @@ passed c was =
     let k = judged_in c in
     number c room ∙ ap (λ (t : Bool). cond (not t) k (cond (ltb room (sheet_length p)) 21 0)) (eq-eqb k 0 (answer-some tt k tt (sym was ∙ c.judge.ensures)).0)
 
-pub returns-then-not-records_fit-clause-value : goal.returns-then-not-records_fit-clause-value
-returns-then-not-records_fit-clause-value c =
+-- the three clauses of a refusal
+pub returns-then-not-records_fit : goal.returns-then-not-records_fit
+returns-then-not-records_fit c =
     let p = parts c.args.links.now c.args.nodes.now c.args.start in
-    let old = c.args.res.now in
-    (refused p old Refusal.Layout (write-unfit p (length old) (sym c.records_fit.ensures ∙ c.if-not-records_fit.true))).0
+    let r = refused p c.args.res.now Refusal.Layout (write-unfit p (length c.args.res.now) (sym c.records_fit.ensures ∙ c.if-not-records_fit.true)) in
+    record { value = r.0; res_after = r.1.0; by_index = r.1.1 }
 
-pub returns-then-not-records_fit-clause-res_after : goal.returns-then-not-records_fit-clause-res_after
-returns-then-not-records_fit-clause-res_after c =
-    let p = parts c.args.links.now c.args.nodes.now c.args.start in
-    let old = c.args.res.now in
-    (refused p old Refusal.Layout (write-unfit p (length old) (sym c.records_fit.ensures ∙ c.if-not-records_fit.true))).1.0
-
-pub overflow_cast-t : goal.overflow_cast-t
-overflow_cast-t c = omega (arith, (records (parts c.args.links.now c.args.nodes.now c.args.start) (sym c.records_fit.ensures ∙ c.if-not-records_fit.false)).3)
-
-pub overflow_cast-n : goal.overflow_cast-n
-overflow_cast-n c = omega (arith, (records (parts c.args.links.now c.args.nodes.now c.args.start) (sym c.records_fit.ensures ∙ c.if-not-records_fit.false)).2)
-
-pub returns-in_err-judge-clause-value : goal.returns-in_err-judge-clause-value
-returns-in_err-judge-clause-value c =
+pub returns-in_err-judge : goal.returns-in_err-judge
+returns-in_err-judge c =
     let p = parts c.args.links.now c.args.nodes.now c.args.start in
     let e = c.in_err-judge.field-0.0 in
     let made : c.from_residual.result ≡ Err e = search rules in
-    made ∙ (refused p c.args.res.now e (told c.before.before.before.before e c.in_err-judge.was)).0
+    let r = refused p c.args.res.now e (told c.before.before.before.before e c.in_err-judge.was) in
+    record { value = made ∙ r.0; res_after = r.1.0; by_index = λ size z. r.1.1 size (sym made ∙ z) }
 
-pub returns-in_err-judge-clause-res_after : goal.returns-in_err-judge-clause-res_after
-returns-in_err-judge-clause-res_after c =
-    let p = parts c.args.links.now c.args.nodes.now c.args.start in
-    let e = c.in_err-judge.field-0.0 in
-    (refused p c.args.res.now e (told c.before.before.before.before e c.in_err-judge.was)).1.0
-
-pub returns-then-res-size-clause-value : goal.returns-then-res-size-clause-value
-returns-then-res-size-clause-value c =
+pub returns-then-res-size : goal.returns-then-res-size
+returns-then-res-size c =
     let p = parts c.args.links.now c.args.nodes.now c.args.start in
     let old = c.args.res.now in
-    (refused p old Refusal.Room (passed c.before.before.before.before c.in_ok-judge.was ∙ ap (λ (t : Bool). cond t 21 0) (lt-ltb (length old) (sheet_length p) c.if-res-size.true))).0
-
-pub returns-then-res-size-clause-res_after : goal.returns-then-res-size-clause-res_after
-returns-then-res-size-clause-res_after c =
-    let p = parts c.args.links.now c.args.nodes.now c.args.start in
-    let old = c.args.res.now in
-    (refused p old Refusal.Room (passed c.before.before.before.before c.in_ok-judge.was ∙ ap (λ (t : Bool). cond t 21 0) (lt-ltb (length old) (sheet_length p) c.if-res-size.true))).1.0
+    let r = refused p old Refusal.Room (passed c.before.before.before.before c.in_ok-judge.was ∙ ap (λ (t : Bool). cond t 21 0) (lt-ltb (length old) (sheet_length p) c.if-res-size.true)) in
+    record { value = r.0; res_after = r.1.0; by_index = r.1.1 }
 
 pub returns : goal.returns
 returns c =

@@ -1,29 +1,36 @@
-use mathlib.Core.Path.{ap, ◌∙◌}
+use mathlib.Core.Path.{sym, ap, ◌∙◌}
 use Prim.Native.Nat.{◌<◌}
 use native.Mathlib.Omega.{arith}
 use Rattle.sheet.specs.declared.tr.Trailer.{Trailer}
 use Rattle.sheet.specs.Records.{node_at}
 use Rattle.sheet.specs.Sheet.{stated_nodes}
+use Rattle.sheet.proofs.AcceptedSheet.{stated-some, stated-none}
 use Rattle.sheet_fields.specs.Fields.{node_words}
 use Rattle.sheet_fields.proofs.Counting.{nodes-stated}
 use Rattle.sheet_fields.proofs.Passed.{length-is, node-fields}
 use Rattle.sheet_fields.proofs.nodes.node_or_end.Goals as goal
 
-pub returns-then-sheet-lt-TRAILER-clause-node_of : goal.returns-then-sheet-lt-TRAILER-clause-node_of
-returns-then-sheet-lt-TRAILER-clause-node_of c = λ read. absurd (omega (arith, length-is c.args.sheet.now read))
+pub returns-in_err-t-clause-node_of : goal.returns-in_err-t-clause-node_of
+returns-in_err-t-clause-node_of c = λ read.
+    let bytes = c.args.sheet.now in
+    absurd (omega (arith, length-is bytes read, stated-none bytes (sym c.in_err-t.was ∙ c.stated_trailer.ensures)))
 
 pub returns-then-nodes-v-clause-node_of : goal.returns-then-nodes-v-clause-node_of
-returns-then-nodes-v-clause-node_of c = λ read. omega (arith, nodes-stated c.args.sheet.now, ap (λ (t : Trailer). t.nodes) c.trailer_of-t.ensures)
+returns-then-nodes-v-clause-node_of c = λ read.
+    let bytes = c.args.sheet.now in
+    let here = (stated-some bytes c.in_ok-t.t (sym c.in_ok-t.was ∙ c.stated_trailer.ensures)).1 in
+    omega (arith, nodes-stated bytes, ap (λ (t : Trailer). t.nodes) here)
 
 pub returns-then-sheet-links-clause-node_of : goal.returns-then-sheet-links-clause-node_of
 returns-then-sheet-links-clause-node_of c = λ read.
-    let nodes = ap (λ (t : Trailer). t.nodes) c.trailer_of-t.ensures in
-    let links = ap (λ (t : Trailer). t.links) c.trailer_of-t.ensures in
-    absurd (omega (arith, nodes, links, length-is c.args.sheet.now read))
+    let bytes = c.args.sheet.now in
+    let here = (stated-some bytes c.in_ok-t.t (sym c.in_ok-t.was ∙ c.stated_trailer.ensures)).1 in
+    absurd (omega (arith, ap (λ (t : Trailer). t.nodes) here, ap (λ (t : Trailer). t.links) here, length-is bytes read))
 
 pub returns-clause-node_of : goal.returns-clause-node_of
 returns-clause-node_of c = λ read.
     let bytes = c.args.sheet.now in
-    let among : c.args.v < stated_nodes bytes = omega (arith, ap (λ (t : Trailer). t.nodes) c.trailer_of-t.ensures) in
-    let is = c.node_at.ensures ∙ ap (λ (t : Trailer). node_at bytes t.links c.args.v) c.trailer_of-t.ensures in
+    let here = (stated-some bytes c.in_ok-t.t (sym c.in_ok-t.was ∙ c.stated_trailer.ensures)).1 in
+    let among : c.args.v < stated_nodes bytes = omega (arith, ap (λ (t : Trailer). t.nodes) here) in
+    let is = c.node_at.ensures ∙ ap (λ (t : Trailer). node_at bytes t.links c.args.v) here in
     (omega (arith, nodes-stated bytes, among), ap node_words is ∙ node-fields bytes read c.args.v among)

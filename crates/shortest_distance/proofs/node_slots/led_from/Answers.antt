@@ -21,6 +21,6 @@ loop-i-init c = refl
 
 pub loop-i-preserved : goal.loop-i-preserved
 loop-i-preserved c =
-    let args = c.args in
+    let source = c.args.source.now in
     let turn = c.loop-i in
-    c.max-top.ensures ∙ (λ j. max (turn.invariant j) (c.next.ensures.word j + 1)) ∙ raised _ _ ∙ sym (led-from-next args.sheet.now.bytes.now args.first turn.i args.height)
+    c.max-top.ensures ∙ (λ j. max (turn.invariant j) (c.next.ensures.word j + 1)) ∙ raised _ _ ∙ sym (led-from-next source.sheet.bytes.now source.first turn.i c.args.height)

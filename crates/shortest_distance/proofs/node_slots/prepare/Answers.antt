@@ -1,40 +1,31 @@
-use mathlib.Core.Path.{refl, sym, ap, ◌∙◌}
-use mathlib.Core.List.{List}
+use mathlib.Core.Path.{sym, ap, ◌∙◌}
 use Prim.Native.Nat.{ℕ, ◌+◌, ◌*◌}
-use native.Mathlib.Omega.{arith}
-use native.Mathlib.Numerals.{add-one}
 use lib.ListN.{set}
+use borrow.Author.Rules.{rules}
 use Rattle.std.specs.Prelude.{None}
-use Rattle.sheet.specs.Below.{sum_below}
 use Rattle.sheet.specs.Records.{first_link}
-use Rattle.machine.proofs.SheetFields.{next-first}
-use Rattle.machine.proofs.Machines.{first-within}
 use Rattle.distance.specs.Held.{with_distance}
 use Rattle.shortest_distance.specs.ParentWords.{parent_stored}
 use Rattle.shortest_distance.specs.NodeSlots.{prepared}
 use Rattle.shortest_distance.proofs.Areas.{prepared-next}
 use Rattle.shortest_distance.proofs.node_slots.prepare.Goals as goal
 
-pub loop-v-init : goal.loop-v-init
-unfolding sum_below prepared
-loop-v-init c = record { counted = refl; set-up = refl }
+pub loop-source-init : goal.loop-source-init
+unfolding prepared
+loop-source-init c = record { same = search rules; set-up = search rules }
 
--- the links of the nodes up to this one are among those of the sheet
-pub overflow_add-first : goal.overflow_add-first
-overflow_add-first c =
+pub loop-source-preserved : goal.loop-source-preserved
+loop-source-preserved c =
     let s = c.args.sheet.now in
-    let turn = c.loop-v in
-    omega (arith, s.few_links, turn.invariant.counted, c.count-first.ensures.word, first-within s.bytes.now s.links s.nodes s.start s.accepted s.stated turn.v (omega arith))
-
-pub loop-v-preserved : goal.loop-v-preserved
-loop-v-preserved c =
-    let turn = c.loop-v in
-    let s = c.args.sheet.now in
-    let bytes = s.bytes.now in
-    let at = 8 * turn.v in
-    let put = c.put_distance.ensures ∙ ap (λ (x : List ℕ). with_distance x at None) turn.invariant.set-up in
-    let stored = c.store_parent.ensures ∙ ap (λ (x : List ℕ). parent_stored x turn.v None) put in
+    let turn = c.loop-source in
+    let step = c.in-Some.ensures.steps in
+    let source = c.in-Some.source in
+    let sheet = step.1 ∙ turn.invariant.same in
+    let first = source.begins ∙ λ i. first_link (sheet i).bytes.now (sheet i).links (step.2 i) in
+    let put = c.put_distance.ensures ∙ λ i. with_distance (turn.invariant.set-up i) (8 * step.2 i) None in
+    let stored = c.store_parent.ensures ∙ λ i. parent_stored (put i) (step.2 i) None in
     record {
-      counted = omega (arith, turn.invariant.counted, c.count-first.ensures.word, next-first bytes s.links turn.v, ap (first_link bytes s.links) (add-one turn.v));
-      set-up = (λ i. set (stored i) (at + 4) (turn.invariant.counted i)) ∙ sym (prepared-next bytes s.links turn.v c.args.work.now);
+      same = step.4 ∙ turn.invariant.same;
+      set-up = (λ i. set (stored i) (8 * step.2 i + 4) (first i))
+          ∙ sym (ap (λ (v : ℕ). prepared s.bytes.now s.links v c.args.work.now) step.5 ∙ prepared-next s.bytes.now s.links turn.source-iterator.node c.args.work.now);
     }

@@ -1,10 +1,9 @@
 use mathlib.Core.Path.{◌≡◌}
-use Rattle.sheet.specs.Records.{first_link}
 use Rattle.shortest_distance.specs.NodeSlots.{prepared}
 use Rattle.shortest_distance.proofs.node_slots.prepare.Given as goal
 
-abbrev pub invariant-loop-v : goal.invariant-loop-v
-invariant-loop-v l = record {
-  counted : l.first ≡ first_link l.sheet.bytes.now l.sheet.links l.v;
-  set-up : l.work ≡ prepared l.sheet.bytes.now l.sheet.links l.v l.initial.work;
+abbrev pub invariant-loop-source : goal.invariant-loop-source
+invariant-loop-source l = record {
+  same : l.source-iterator.sheet ≡ l.sheet;
+  set-up : l.work ≡ prepared l.sheet.bytes.now l.sheet.links l.source-iterator.node l.initial.work;
 }

@@ -58,70 +58,70 @@ reached-by : (d : Distance) (b r : Bool) → reached_in d ≡ not b → b ≡ r 
 reached-by d b r e h = e ∙ ap not h
 
 pub overflow_add-allowed : goal.overflow_add-allowed
-overflow_add-allowed c = let f = few c.args.machine.now c.args.finals c.args.n (length c.args.part.now) c.requires.counted c.requires.le_n in omega (arith, f.few-finals, f.few-links, f.few-nodes, f.products, f.fits)
+overflow_add-allowed c = let f = few c.args.counted.now.machine c.args.counted.now.finals c.args.n (length c.args.part.now) c.args.counted.now.counted c.requires in omega (arith, f.few-finals, f.few-links, f.few-nodes, f.products, f.fits)
 
 pub overflow_mul-allowed : goal.overflow_mul-allowed
-overflow_mul-allowed c = let f = few c.args.machine.now c.args.finals c.args.n (length c.args.part.now) c.requires.counted c.requires.le_n in omega (arith, f.few-finals, f.few-links, f.few-nodes, f.products, f.fits)
+overflow_mul-allowed c = let f = few c.args.counted.now.machine c.args.counted.now.finals c.args.n (length c.args.part.now) c.args.counted.now.counted c.requires in omega (arith, f.few-finals, f.few-links, f.few-nodes, f.products, f.fits)
 
 pub overflow_add-allowed-3 : goal.overflow_add-allowed-3
-overflow_add-allowed-3 c = let f = few c.args.machine.now c.args.finals c.args.n (length c.args.part.now) c.requires.counted c.requires.le_n in omega (arith, f.few-finals, f.few-links, f.few-nodes, f.products, f.fits)
+overflow_add-allowed-3 c = let f = few c.args.counted.now.machine c.args.counted.now.finals c.args.n (length c.args.part.now) c.args.counted.now.counted c.requires in omega (arith, f.few-finals, f.few-links, f.few-nodes, f.products, f.fits)
 
 pub measure-requires : goal.measure-requires
-measure-requires c = let f = few c.args.machine.now c.args.finals c.args.n (length c.args.part.now) c.requires.counted c.requires.le_n in omega (arith, f.few-finals, f.few-links, f.few-nodes, f.products, f.fits)
+measure-requires c = let f = few c.args.counted.now.machine c.args.counted.now.finals c.args.n (length c.args.part.now) c.args.counted.now.counted c.requires in omega (arith, f.few-finals, f.few-links, f.few-nodes, f.products, f.fits)
 
-pub reverse-requires-clause-nodes_bound : goal.reverse-requires-clause-nodes_bound
-reverse-requires-clause-nodes_bound c =
-    let f = few c.args.machine.now c.args.finals c.args.n (length c.args.part.now) c.requires.counted c.requires.le_n in
+pub reverse-requires : goal.reverse-requires
+reverse-requires c =
+    let f = few c.args.counted.now.machine c.args.counted.now.finals c.args.n (length c.args.part.now) c.args.counted.now.counted c.requires in
     (omega arith, omega (arith, f.few-finals, f.few-links, f.few-nodes, f.products, f.fits, c.measure.auto.part))
 
 pub distance_at-requires : goal.distance_at-requires
 distance_at-requires c =
-    let f = few c.args.machine.now c.args.finals c.args.n (length c.args.part.now) c.requires.counted c.requires.le_n in
+    let f = few c.args.counted.now.machine c.args.counted.now.finals c.args.n (length c.args.part.now) c.args.counted.now.counted c.requires in
     omega (arith, f.few-finals, f.few-links, f.few-nodes, f.products, f.fits, c.reverse.auto.part, c.measure.auto.part)
 
 pub returns-then-is_none-clause-value : goal.returns-then-is_none-clause-value
 returns-then-is_none-clause-value c =
     let args = c.args in
-    let m = args.machine.now in
-    let h = c.requires.le_n in
-    let back = turned m args.finals args.n args.part.now c.measure.new.part c.reverse.new.part c.requires.counted h c.measure.ensures c.reverse.ensures in
-    let none = none-there m.sheet.bytes.now m.climbs (stated m) m.sheet.stated args.finals c.requires.counted args.n h.0 h.1 c.are_bytes.ensures c.measure.new.part c.reverse.new.part (omega (arith, h.2, c.measure.auto.part)) back
+    let m = args.counted.now.machine in
+    let h = c.requires in
+    let back = turned m args.counted.now.finals args.n args.part.now c.measure.new.part c.reverse.new.part c.args.counted.now.counted h c.measure.ensures c.reverse.ensures in
+    let none = none-there m.sheet.bytes.now m.climbs (stated m) m.sheet.stated args.counted.now.finals c.args.counted.now.counted args.n h.0 h.1 c.are_bytes.ensures c.measure.new.part c.reverse.new.part (omega (arith, h.2, c.measure.auto.part)) back
     (ap reached_in (sym c.distance_at.ensures) ∙ reached-by _ _ true c.is_none.ensures c.if-is_none.true) in
     c.put_none.ensures.value ∙ ap (λ r. listed_in r (length args.res.now)) (sym none)
 
 pub returns-then-is_none-clause-res_after : goal.returns-then-is_none-clause-res_after
 returns-then-is_none-clause-res_after c =
     let args = c.args in
-    let m = args.machine.now in
-    let h = c.requires.le_n in
-    let back = turned m args.finals args.n args.part.now c.measure.new.part c.reverse.new.part c.requires.counted h c.measure.ensures c.reverse.ensures in
-    let none = none-there m.sheet.bytes.now m.climbs (stated m) m.sheet.stated args.finals c.requires.counted args.n h.0 h.1 c.are_bytes.ensures c.measure.new.part c.reverse.new.part (omega (arith, h.2, c.measure.auto.part)) back
+    let m = args.counted.now.machine in
+    let h = c.requires in
+    let back = turned m args.counted.now.finals args.n args.part.now c.measure.new.part c.reverse.new.part c.args.counted.now.counted h c.measure.ensures c.reverse.ensures in
+    let none = none-there m.sheet.bytes.now m.climbs (stated m) m.sheet.stated args.counted.now.finals c.args.counted.now.counted args.n h.0 h.1 c.are_bytes.ensures c.measure.new.part c.reverse.new.part (omega (arith, h.2, c.measure.auto.part)) back
     (ap reached_in (sym c.distance_at.ensures) ∙ reached-by _ _ true c.is_none.ensures c.if-is_none.true) in
     c.put_none.ensures.res_after ∙ ap (λ r. listed_over r args.res.now) (sym none)
 
 pub overflow_add-p : goal.overflow_add-p
 overflow_add-p c =
     let args = c.args in
-    let m = args.machine.now in
-    let h = c.requires.le_n in
-    let back = turned m args.finals args.n args.part.now c.measure.new.part c.reverse.new.part c.requires.counted h c.measure.ensures c.reverse.ensures in
-    let start = start_is m.sheet.bytes.now m.climbs (stated m) m.sheet.stated args.finals c.requires.counted args.n h.0 h.1 c.are_bytes.ensures c.measure.new.part c.reverse.new.part (omega (arith, h.2, c.measure.auto.part)) back
+    let m = args.counted.now.machine in
+    let h = c.requires in
+    let back = turned m args.counted.now.finals args.n args.part.now c.measure.new.part c.reverse.new.part c.args.counted.now.counted h c.measure.ensures c.reverse.ensures in
+    let start = start_is m.sheet.bytes.now m.climbs (stated m) m.sheet.stated args.counted.now.finals c.args.counted.now.counted args.n h.0 h.1 c.are_bytes.ensures c.measure.new.part c.reverse.new.part (omega (arith, h.2, c.measure.auto.part)) back
     (ap reached_in (sym c.distance_at.ensures) ∙ reached-by _ _ false c.is_none.ensures c.if-is_none.false) in
     let p = parts_of m.sheet.bytes.now in
     omega (arith, start-inside p (passes m.sheet.bytes.now m.climbs) m.sheet.start start.0, (fields-own m.sheet.bytes.now m.climbs).few-nodes)
 
 pub overflow_add-sheet : goal.overflow_add-sheet
-overflow_add-sheet c = let f = few c.args.machine.now c.args.finals c.args.n (length c.args.part.now) c.requires.counted c.requires.le_n in omega (arith, f.few-finals, f.few-links, f.few-nodes, f.products, f.fits)
+overflow_add-sheet c = let f = few c.args.counted.now.machine c.args.counted.now.finals c.args.n (length c.args.part.now) c.args.counted.now.counted c.requires in omega (arith, f.few-finals, f.few-links, f.few-nodes, f.products, f.fits)
 
 pub n_shortest_path-c-requires : goal.n_shortest_path-c-requires
 n_shortest_path-c-requires c =
     let args = c.args in
-    let m = args.machine.now in
-    let h = c.requires.le_n in
-    let back = turned m args.finals args.n args.part.now c.measure.new.part c.reverse.new.part c.requires.counted h c.measure.ensures c.reverse.ensures in
+    let m = args.counted.now.machine in
+    let h = c.requires in
+    let back = turned m args.counted.now.finals args.n args.part.now c.measure.new.part c.reverse.new.part c.args.counted.now.counted h c.measure.ensures c.reverse.ensures in
     let there = ap reached_in (sym c.distance_at.ensures) ∙ reached-by _ _ false c.is_none.ensures c.if-is_none.false in (
-      begins m.sheet.bytes.now m.climbs (stated m) m.sheet.stated args.finals c.requires.counted args.n h.0 h.1 c.are_bytes.ensures c.measure.new.part c.reverse.new.part (omega (arith, h.2, c.measure.auto.part)) back there,
-      going m.sheet.bytes.now m.climbs (stated m) m.sheet.stated args.finals c.requires.counted args.n h.0 h.1 c.are_bytes.ensures c.measure.new.part c.reverse.new.part (omega (arith, h.2, c.measure.auto.part)) back there,
+      begins m.sheet.bytes.now m.climbs (stated m) m.sheet.stated args.counted.now.finals c.args.counted.now.counted args.n h.0 h.1 c.are_bytes.ensures c.measure.new.part c.reverse.new.part (omega (arith, h.2, c.measure.auto.part)) back there,
+      going m.sheet.bytes.now m.climbs (stated m) m.sheet.stated args.counted.now.finals c.args.counted.now.counted args.n h.0 h.1 c.are_bytes.ensures c.measure.new.part c.reverse.new.part (omega (arith, h.2, c.measure.auto.part)) back there,
     )
 
 -- the words that the search ends with
@@ -133,36 +133,36 @@ ended m finals n part =
 pub write_list-requires : goal.write_list-requires
 write_list-requires c =
     let args = c.args in
-    let m = args.machine.now in
-    let h = c.requires.le_n in
-    let back = turned m args.finals args.n args.part.now c.measure.new.part c.reverse.new.part c.requires.counted h c.measure.ensures c.reverse.ensures in
+    let m = args.counted.now.machine in
+    let h = c.requires in
+    let back = turned m args.counted.now.finals args.n args.part.now c.measure.new.part c.reverse.new.part c.args.counted.now.counted h c.measure.ensures c.reverse.ensures in
     let there = ap reached_in (sym c.distance_at.ensures) ∙ reached-by _ _ false c.is_none.ensures c.if-is_none.false in
     let made = c.n_shortest_path-c in
-    let whole : ◌≡◌ {A = Words} (record { part = made.new.part; counts = made.result }) (ended m args.finals args.n c.reverse.new.part) = λ i. record { part = made.ensures.part_after i; counts = made.ensures.value i } in
+    let whole : ◌≡◌ {A = Words} (record { part = made.new.part; counts = made.result }) (ended m args.counted.now.finals args.n c.reverse.new.part) = λ i. record { part = made.ensures.part_after i; counts = made.ensures.value i } in
     subst (λ (w : Words). Listable m.sheet.bytes.now m.sheet.links w.part w.counts.entries w.counts.listed) (sym whole)
-    (listed-done m.sheet.bytes.now m.climbs (stated m) m.sheet.stated args.finals c.requires.counted args.n h.0 h.1 c.are_bytes.ensures c.measure.new.part c.reverse.new.part (omega (arith, h.2, c.measure.auto.part)) back there)
+    (listed-done m.sheet.bytes.now m.climbs (stated m) m.sheet.stated args.counted.now.finals c.args.counted.now.counted args.n h.0 h.1 c.are_bytes.ensures c.measure.new.part c.reverse.new.part (omega (arith, h.2, c.measure.auto.part)) back there)
 
 pub returns-clause-value : goal.returns-clause-value
 returns-clause-value c =
     let args = c.args in
-    let m = args.machine.now in
-    let h = c.requires.le_n in
-    let back = turned m args.finals args.n args.part.now c.measure.new.part c.reverse.new.part c.requires.counted h c.measure.ensures c.reverse.ensures in
+    let m = args.counted.now.machine in
+    let h = c.requires in
+    let back = turned m args.counted.now.finals args.n args.part.now c.measure.new.part c.reverse.new.part c.args.counted.now.counted h c.measure.ensures c.reverse.ensures in
     let there = ap reached_in (sym c.distance_at.ensures) ∙ reached-by _ _ false c.is_none.ensures c.if-is_none.false in
     let made = c.n_shortest_path-c in
-    let whole : ◌≡◌ {A = Words} (record { part = made.new.part; counts = made.result }) (ended m args.finals args.n c.reverse.new.part) = λ i. record { part = made.ensures.part_after i; counts = made.ensures.value i } in
+    let whole : ◌≡◌ {A = Words} (record { part = made.new.part; counts = made.result }) (ended m args.counted.now.finals args.n c.reverse.new.part) = λ i. record { part = made.ensures.part_after i; counts = made.ensures.value i } in
     let long = length args.res.now in
     c.write_list.ensures.value ∙ ap (λ (w : Words). list_answer w.counts.listed (kept_count w.counts.entries w.counts.listed w.part) w.counts.taken long) whole
-    ∙ answers m.sheet.bytes.now m.climbs (stated m) m.sheet.stated args.finals c.requires.counted args.n h.0 h.1 c.are_bytes.ensures c.measure.new.part c.reverse.new.part (omega (arith, h.2, c.measure.auto.part)) back there long
+    ∙ answers m.sheet.bytes.now m.climbs (stated m) m.sheet.stated args.counted.now.finals c.args.counted.now.counted args.n h.0 h.1 c.are_bytes.ensures c.measure.new.part c.reverse.new.part (omega (arith, h.2, c.measure.auto.part)) back there long
 
 pub returns-clause-res_after : goal.returns-clause-res_after
 returns-clause-res_after c =
     let args = c.args in
-    let m = args.machine.now in
-    let h = c.requires.le_n in
-    let back = turned m args.finals args.n args.part.now c.measure.new.part c.reverse.new.part c.requires.counted h c.measure.ensures c.reverse.ensures in
+    let m = args.counted.now.machine in
+    let h = c.requires in
+    let back = turned m args.counted.now.finals args.n args.part.now c.measure.new.part c.reverse.new.part c.args.counted.now.counted h c.measure.ensures c.reverse.ensures in
     let there = ap reached_in (sym c.distance_at.ensures) ∙ reached-by _ _ false c.is_none.ensures c.if-is_none.false in
     let made = c.n_shortest_path-c in
-    let whole : ◌≡◌ {A = Words} (record { part = made.new.part; counts = made.result }) (ended m args.finals args.n c.reverse.new.part) = λ i. record { part = made.ensures.part_after i; counts = made.ensures.value i } in
+    let whole : ◌≡◌ {A = Words} (record { part = made.new.part; counts = made.result }) (ended m args.counted.now.finals args.n c.reverse.new.part) = λ i. record { part = made.ensures.part_after i; counts = made.ensures.value i } in
     c.write_list.ensures.res_after ∙ ap (λ (w : Words). list_after m.sheet.bytes.now m.sheet.links w.part w.counts.entries w.counts.listed args.res.now) whole
-    ∙ leaves m.sheet.bytes.now m.climbs (stated m) m.sheet.stated args.finals c.requires.counted args.n h.0 h.1 c.are_bytes.ensures c.measure.new.part c.reverse.new.part (omega (arith, h.2, c.measure.auto.part)) back there args.res.now
+    ∙ leaves m.sheet.bytes.now m.climbs (stated m) m.sheet.stated args.counted.now.finals c.args.counted.now.counted args.n h.0 h.1 c.are_bytes.ensures c.measure.new.part c.reverse.new.part (omega (arith, h.2, c.measure.auto.part)) back there args.res.now

@@ -1,9 +1,9 @@
-use mathlib.Core.Path.{sym}
-use Rattle.read_back.proofs.Follow.{ends-unmarked, ends-marked}
+use mathlib.Core.Path.{◌≡◌, ◌∙◌}
+use borrow.Author.Rules.{rules}
+use Rattle.read_back.proofs.Follow.{ends_by, ending-is}
 use Rattle.read_back.proofs.walk.Walk.at_final.Goals as goal
 
-pub returns-then-mark-eq0 : goal.returns-then-mark-eq0
-returns-then-mark-eq0 c = sym (ends-unmarked c.args.self.now c.mark.result c.mark.ensures.word c.if-mark-eq0.true)
-
 pub returns : goal.returns
-returns c = ends-marked c.args.self.now c.mark.result c.final_bits.result c.mark.ensures.word c.final_bits.ensures.word c.if-mark-eq0.false
+returns c =
+    let tested : c.is_some_and.result ≡ ends_by c.final_bits.result = search rules in
+    tested ∙ ending-is c.args.self.now c.final_bits.result c.final_bits.ensures.word

@@ -5,4 +5,4 @@ use Rattle.read_back.proofs.walk.Walk.begin.Goals as goal
 
 pub invariant_of-lowest : goal.invariant_of-lowest
 unfolding sum_below
-invariant_of-lowest c = record { inside = omega arith; first_is = refl; few = omega arith }
+invariant_of-lowest c = record { inside = omega arith; begins = refl }

@@ -1,40 +1,26 @@
-use mathlib.Core.Path.{refl, sym, ap, ◌∙◌}
+use mathlib.Core.Path.{sym, ap, ◌∙◌}
 use mathlib.Core.Option.{some}
 use Prim.Native.Nat.{ℕ, ◌+◌}
 use native.Mathlib.Omega.{arith}
 use Rattle.sheet.specs.Machine.{machine}
-use Rattle.read_back.specs.Walks.{goes_to}
-use Rattle.read_back.proofs.Follow.{part_end, leaves-here, on-by, goes-here, goes_none, goes-barred, goes-off, goes-on}
+use Rattle.read_back.proofs.Follow.{leaves-here, on-by, goes-here, goes_none, goes-barred, goes-off, goes-on}
 use Rattle.read_back.proofs.walk.Walk.goes_on.Goals as goal
 
 pub returns-then-l-self : goal.returns-then-l-self
 returns-then-l-self c =
     let w = c.args.self.now in
-    ap (goes_to (machine w.machine.sheet.bytes.now) w.at w.count) c.in-Some.is ∙ goes-off (machine w.machine.sheet.bytes.now) w.at w.count c.in-Some.l (goes_none w c.in-Some.l (λ a b. omega (arith, a, c.if-l-self.true)))
-
-pub overflow_add-self : goal.overflow_add-self
-overflow_add-self c = omega (arith, part_end c.args.self.now, c.count.ensures.word)
+    goes-off (machine w.at.sheet.bytes.now) w.at.node w.count c.in-Some.l _ c.in-Some.is (goes_none w c.in-Some.l (λ a b. omega (arith, a, c.if-l-self.true)))
 
 pub returns-then-self-count : goal.returns-then-self-count
 returns-then-self-count c =
     let w = c.args.self.now in
-    ap (goes_to (machine w.machine.sheet.bytes.now) w.at w.count) c.in-Some.is ∙ goes-off (machine w.machine.sheet.bytes.now) w.at w.count c.in-Some.l (goes_none w c.in-Some.l (λ a b. omega (arith, b, c.count.ensures.word, c.if-self-count.true)))
-
-pub link_bits-requires : goal.link_bits-requires
-link_bits-requires c =
-    let w = c.args.self.now in
-    (on-by w c.in-Some.l (leaves-here w c.in-Some.l c.if-l-self.false (omega (arith, c.count.ensures.word, c.if-self-count.false)))).link-in
+    goes-off (machine w.at.sheet.bytes.now) w.at.node w.count c.in-Some.l _ c.in-Some.is (goes_none w c.in-Some.l (λ a b. omega (arith, b, c.count.ensures.word, c.if-self-count.true)))
 
 pub returns-then-link_bits-eq-BARRED : goal.returns-then-link_bits-eq-BARRED
 returns-then-link_bits-eq-BARRED c =
     let w = c.args.self.now in
-    ap (goes_to (machine w.machine.sheet.bytes.now) w.at w.count) c.in-Some.is ∙ goes-off (machine w.machine.sheet.bytes.now) w.at w.count c.in-Some.l
+    goes-off (machine w.at.sheet.bytes.now) w.at.node w.count c.in-Some.l _ c.in-Some.is
     (goes-barred w c.in-Some.l c.if-l-self.false (omega (arith, c.count.ensures.word, c.if-self-count.false)) (sym c.link_bits.ensures.word ∙ c.if-link_bits-eq-BARRED.true))
-
-pub next-requires : goal.next-requires
-next-requires c =
-    let w = c.args.self.now in
-    (on-by w c.in-Some.l (leaves-here w c.in-Some.l c.if-l-self.false (omega (arith, c.count.ensures.word, c.if-self-count.false)))).link-in
 
 pub moved-requires : goal.moved-requires
 moved-requires c =
@@ -48,7 +34,7 @@ returns c =
     let w = c.args.self.now in
     let on = on-by w c.in-Some.l (leaves-here w c.in-Some.l c.if-l-self.false (omega (arith, c.count.ensures.word, c.if-self-count.false))) in (
       c.moved.ensures.0,
-      ap (goes_to (machine w.machine.sheet.bytes.now) w.at w.count) c.in-Some.is ∙ goes-on (machine w.machine.sheet.bytes.now) w.at w.count c.in-Some.l
+      goes-on (machine w.at.sheet.bytes.now) w.at.node w.count c.in-Some.l _ c.in-Some.is
           (goes-here w c.in-Some.l c.if-l-self.false (omega (arith, c.count.ensures.word, c.if-self-count.false)) (λ z. c.if-link_bits-eq-BARRED.false (c.link_bits.ensures.word ∙ z)))
           ∙ ap (λ (v : ℕ). some (w.count + 1, v)) (sym (c.next.ensures.word ∙ on.next-is)) ∙ c.moved.ensures.1,
     )

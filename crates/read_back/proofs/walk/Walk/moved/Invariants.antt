@@ -3,4 +3,4 @@ use Rattle.sheet.specs.Records.{first_link}
 use Rattle.read_back.proofs.walk.Walk.moved.Given as goal
 
 abbrev pub invariant-loop-v : goal.invariant-loop-v
-invariant-loop-v l = l.first ≡ first_link l.self.machine.sheet.bytes.now l.self.machine.sheet.links l.v
+invariant-loop-v l = l.first ≡ first_link l.self.at.sheet.bytes.now l.self.at.sheet.links l.v

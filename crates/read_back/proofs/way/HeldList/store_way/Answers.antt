@@ -1,9 +1,9 @@
-use mathlib.Core.Path.{◌≡◌, refl, sym, ap, ◌∙◌, subst}
-use mathlib.Core.Option.{Option, some}
-use mathlib.Core.List.{List, ◌++◌}
+use mathlib.Core.Path.{◌≡◌, sym, ap, ◌∙◌, subst}
+use mathlib.Core.Option.{some}
+use mathlib.Core.List.{◌++◌}
 use Prim.Native.Nat.{ℕ}
 use native.Mathlib.Omega.{arith}
-use Rattle.std.specs.Prelude.{Option as Maybe, Some, None}
+use Rattle.std.specs.Prelude.{Option as Maybe}
 use lib.ListN.{length, length-append}
 use lib.Seq.{sets}
 use Rattle.read_back.specs.Way.{next_at, told_by, number_told, number_at, only_link, last_state}
@@ -11,15 +11,6 @@ use Rattle.read_back.specs.Answers.{run_in}
 use Rattle.read_back.specs.Walks.{way_in}
 use Rattle.read_back.proofs.Ways.{way-goes, way-over, stored-all}
 use Rattle.read_back.proofs.way.HeldList.store_way.Goals as goal
-
-pub loop-q-init : goal.loop-q-init
-loop-q-init c =
-    let e = c.in-Some.ensures in record {
-      long = refl;
-      there = e ∙ c.requires.way ∙ ap (λ (o : Option (List ℕ)). some (run_in o)) (sym e);
-      left = omega (arith, ap (λ (o : Option (List ℕ)). length (run_in o)) e);
-      stored = ap (λ (o : Option (List ℕ)). sets c.args.run.now 0 (run_in o)) e;
-    }
 
 pub number-requires : goal.number-requires
 number-requires c =

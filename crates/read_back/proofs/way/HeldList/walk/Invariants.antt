@@ -5,10 +5,10 @@ use Rattle.read_back.proofs.way.HeldList.walk.Given as goal
 
 abbrev pub invariant-loop-q : goal.invariant-loop-q
 invariant-loop-q l =
-    let m = machine l.begun.machine.sheet.bytes.now in
+    let m = machine l.begun.at.sheet.bytes.now in
     record {
-      sheet : l.w.machine.sheet.bytes.now ≡ l.begun.machine.sheet.bytes.now;
-      rest : outcome m l.w.at l.w.count (way_in l.self l.q) ≡ outcome m l.begun.at l.begun.count (way_to l.self l.k);
+      sheet : l.w.at.sheet.bytes.now ≡ l.begun.at.sheet.bytes.now;
+      rest : outcome m l.w.at.node l.w.count (way_in l.self l.q) ≡ outcome m l.begun.at.node l.begun.count (way_to l.self l.k);
     }
 
 abbrev pub decreases-loop-q : goal.decreases-loop-q

@@ -10,7 +10,7 @@ use Rattle.reversed_machine.proofs.Passing.{cleared-next, machine-fields}
 use Rattle.reversed_machine.proofs.reverse.Layout.clear_heads.Goals as goal
 
 pub overflow_add-q-end : goal.overflow_add-q-end
-overflow_add-q-end c = omega (arith, (machine-fields c.args.self.now.machine).few-nodes)
+overflow_add-q-end c = omega (arith, (machine-fields c.args.self.now.counted.machine).few-nodes)
 
 pub loop-q-init : goal.loop-q-init
 unfolding heads_cleared
@@ -18,7 +18,7 @@ loop-q-init c = search rules
 
 pub loop-q-preserved : goal.loop-q-preserved
 loop-q-preserved c =
-    let turn = c.loop-q in
     let heads = c.args.self.now.heads in
+    let turn = c.loop-q in
     let at = heads + 8 * turn.q in
     ap (λ (l : List ℕ). set (set l (at + 2) nothing) (at + 3) 0) turn.invariant ∙ sym (cleared-next heads turn.q c.args.part.now)

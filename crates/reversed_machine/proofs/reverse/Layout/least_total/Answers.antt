@@ -1,11 +1,9 @@
-use mathlib.Core.Path.{sym, ap, ◌∙◌}
-use lib.Ieee.{binary32, of_bits}
+use mathlib.Core.Path.{sym, ◌∙◌}
 use borrow.Author.Rules.{rules}
-use Rattle.distance.specs.Held.{weight_in}
 use Rattle.reversed_machine.specs.ReverseWords.{least_total}
 use Rattle.reversed_machine.proofs.Passing.{total-plain, total-final}
 use Rattle.reversed_machine.proofs.reverse.Layout.least_total.Goals as goal
-use Rattle.reversed_machine.proofs.reverse.Layout.least_total.Goals.{then-mark-ne0, else-mark-ne0}
+use Rattle.reversed_machine.proofs.reverse.Layout.least_total.Goals.{in-Some, in_default}
 
 pub loop-v-init : goal.loop-v-init
 unfolding least_total
@@ -14,12 +12,11 @@ loop-v-init c = c.zero-least.ensures 0 (search rules)
 pub loop-v-preserved : goal.loop-v-preserved
 loop-v-preserved c =
     let turn = c.loop-v in
-    let self = c.args.self.now in
-    let sheet = self.machine.sheet in
-    let bytes = sheet.bytes.now in
-    let area = c.args.part.now in
-    let read = c.mark.ensures.word in
-    elim c.if-mark-ne0.branch [
-      | then-mark-ne0 w ↦ w.least-is ∙ total-final bytes self.heads sheet.links turn.v area turn.least _ _ _ _ turn.invariant (λ e. w.if-mark-ne0.true (read ∙ e)) (w.as_weight.ensures ∙ ap weight_in w.distance_at-d.ensures) (w.from_bits-weight.ensures ∙ ap (of_bits binary32) w.final_bits.ensures.word) w.times.ensures.same w.plus-least.ensures.same
-      | else-mark-ne0 w ↦ w.least-is ∙ total-plain bytes self.heads sheet.links turn.v area turn.least turn.invariant (sym read ∙ w.if-mark-ne0.false)
+    let at = c.args.self.now in
+    let part = c.args.part.now in
+    let sheet = at.counted.machine.sheet in
+    let read = sym c.final_bits.ensures.word in
+    elim c.match-final_bits.branch [
+      | in-Some w ↦ w.least-is ∙ total-final sheet.bytes.now at.heads sheet.links turn.v part turn.least _ _ _ _ turn.invariant (read ∙ w.in-Some.is) w.distance_at-d.ensures w.total.ensures w.plus-least.ensures.same
+      | in_default w ↦ w.least-is ∙ total-plain sheet.bytes.now at.heads sheet.links turn.v part turn.least turn.invariant (read ∙ w.in_default.is)
     ]

@@ -6,9 +6,9 @@ use Rattle.reversed_machine.proofs.reverse.Layout.reverse_finals.Given as goal
 
 abbrev pub invariant-loop-v : goal.invariant-loop-v
 invariant-loop-v l =
-    let self = l.self in
-    let sheet = self.machine.sheet in
+    let at = l.self in
+    let s = l.sheet in
     record {
-      number : l.k ≡ sheet.links + final_count sheet.bytes.now sheet.links l.v;
-      as_all : finals_reversed sheet.bytes.now self.heads self.chains sheet.links l.v l.part ≡ finals_reversed sheet.bytes.now self.heads self.chains sheet.links sheet.nodes l.initial.part;
+      number : l.k ≡ s.links + final_count s.bytes.now s.links l.v;
+      as_all : finals_reversed s.bytes.now at.heads at.chains s.links l.v l.part ≡ finals_reversed s.bytes.now at.heads at.chains s.links s.nodes l.initial.part;
     }

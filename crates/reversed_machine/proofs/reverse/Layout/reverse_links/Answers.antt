@@ -15,35 +15,40 @@ among m v first count h b e f =
     let s = m.sheet in
     (omega (arith, first_below s.bytes.now s.links v h), omega (arith, sum_mono (count_at s.bytes.now s.links) s.nodes v b, (machine-fields m).counted))
 
-pub loop-v-init : goal.loop-v-init
-loop-v-init c = record { before = sym (machine-fields c.args.self.now.machine).counted; as_all = refl }
+pub loop-node-init : goal.loop-node-init
+loop-node-init c = record { before = sym (machine-fields c.args.self.now.counted.machine).counted; as_all = refl }
 
 pub overflow_sub-first : goal.overflow_sub-first
-overflow_sub-first c = omega (arith, among c.args.self.now.machine c.loop-v.v c.loop-v.first c.count-count.result (omega arith) (omega arith) c.loop-v.invariant.before c.count-count.ensures.word)
+overflow_sub-first c =
+    let turn = c.loop-node in
+    omega (arith, among c.args.self.now.counted.machine turn.node turn.first c.count-first.result (omega arith) (omega arith) turn.invariant.before c.count-first.ensures.word)
 
-pub reverse_node-requires-clause-among : goal.reverse_node-requires-clause-among
-reverse_node-requires-clause-among c =
-    let few = among c.args.self.now.machine c.loop-v.v c.loop-v.first c.count-count.result (omega arith) (omega arith) c.loop-v.invariant.before c.count-count.ensures.word in
-    (omega (arith, few), omega arith)
+pub invariant_of-reverse_node : goal.invariant_of-reverse_node
+invariant_of-reverse_node c =
+    let turn = c.loop-node in record {
+      inside = omega arith;
+      begins = omega (arith, among c.args.self.now.counted.machine turn.node turn.first c.count-first.result (omega arith) (omega arith) turn.invariant.before c.count-first.ensures.word);
+    }
 
-pub loop-v-preserved : goal.loop-v-preserved
-loop-v-preserved c =
-    let turn = c.loop-v in
-    let self = c.args.self.now in
-    let sheet = self.machine.sheet in
+pub loop-node-preserved : goal.loop-node-preserved
+loop-node-preserved c =
+    let turn = c.loop-node in
+    let at = c.args.self.now in
+    let sheet = at.counted.machine.sheet in
     let bytes = sheet.bytes.now in
-    let read = c.count-count in
-    let some : 0 < turn.v = omega arith in
-    let few = among self.machine turn.v turn.first read.result some (omega arith) turn.invariant.before read.ensures.word in record {
-      before = omega (arith, few);
-      as_all = nodes-again bytes self.heads self.chains turn.part _ _ sheet.links turn.v read.result some read.ensures.word (c.reverse_node.ensures ∙ ap (λ (n : ℕ). links_put bytes self.heads self.chains (turn.v - 1) (n - read.result) read.result turn.part) turn.invariant.before) turn.invariant.as_all;
+    let source = turn.node - 1 in
+    let some : 0 < turn.node = omega arith in
+    let begins : turn.first - c.count-first.result ≡ first_link bytes sheet.links source = omega (arith, among at.counted.machine turn.node turn.first c.count-first.result some (omega arith) turn.invariant.before c.count-first.ensures.word) in
+    let put = c.reverse_node.ensures ∙ λ i. links_put bytes at.heads at.chains source (begins i) (count_at bytes sheet.links source) turn.part in record {
+      before = begins;
+      as_all = nodes-again bytes at.heads at.chains turn.part _ _ sheet.links turn.node some put turn.invariant.as_all;
     }
 
 pub returns : goal.returns
 unfolding links_reversed
 returns c =
-    let self = c.args.self.now in
-    let sheet = self.machine.sheet in
-    let turn = c.loop-v in
-    let none : 0 ≡ turn.v = omega arith in
-    ap (λ (n : ℕ). links_reversed sheet.bytes.now self.heads self.chains sheet.links n turn.part) none ∙ turn.invariant.as_all
+    let at = c.args.self.now in
+    let sheet = at.counted.machine.sheet in
+    let turn = c.loop-node in
+    let none : 0 ≡ turn.node = omega arith in
+    ap (λ (n : ℕ). links_reversed sheet.bytes.now at.heads at.chains sheet.links n turn.part) none ∙ turn.invariant.as_all

@@ -1,3 +1,10 @@
+use mathlib.Core.Path.{ap}
+use mathlib.Core.List.{List}
+use Prim.Native.Nat.{ℕ, ◌+◌, ◌*◌}
+use lib.Seq.{sets}
+use Rattle.sheet.specs.Words.{bytes_of_all}
+use Rattle.sheet.specs.Accepted.{trailer_fields}
+use mathlib.Core.Path.{◌∙◌}
 use native.Mathlib.Omega.{arith}
 use Rattle.sheet.specs.Accepted.{trailer_in}
 use Rattle.machine.proofs.SheetFields.{fields-for}
@@ -10,11 +17,12 @@ pub returns : goal.returns
 returns c =
     let self = c.args.self.now in
     let sheet = self.machine.sheet in
-    way-stored sheet.bytes.now (final_at sheet.bytes.now sheet.links self.end) (way_back self.work.now self.end self.end) c.args.res.now c.args.count c.final_bits-bits.result _ _ _ _
-    c.requires.counted.0 c.final_bits-bits.ensures.word c.put_links.ensures c.put_states.ensures c.put_words.ensures c.put_numbers.ensures
+    way-stored sheet.bytes.now (final_at sheet.bytes.now sheet.links self.end) (way_back self.work.now self.end self.end) c.args.res.now c.args.count c.unwrap_or-bits.result _ _ _ _
+    c.requires.counted.0 (c.unwrap_or-bits.ensures ∙ c.final_bits.ensures.bits) c.put_links.ensures c.put_states.ensures
+    (c.put_words.ensures ∙ ap (λ (w : List ℕ). sets c.put_states.new.res (16 * c.args.count + 12 * c.args.count + 12) (bytes_of_all w)) (c.words.ensures ∙ ap trailer_fields c.of-trailer.ensures)) c.put_numbers.ensures
 
-pub overflow_mul-trailer : goal.overflow_mul-trailer
-overflow_mul-trailer c =
+pub of-trailer-requires : goal.of-trailer-requires
+of-trailer-requires c =
     let self = c.args.self.now in
     let s = self.machine.sheet in
     omega (arith, c.requires.counted, self.inside, (fields-for s.bytes.now self.machine.climbs (trailer_in s.links s.nodes s.start) s.stated).few-nodes)

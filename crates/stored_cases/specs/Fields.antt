@@ -1,0 +1,13 @@
+-- The lines of stored cases, and the fields of a line, with a space between. Definitions only.
+use Rattle.std.specs.Prelude.{List, [], ℕ, ◌==◌, unwrap_or, Bool}
+use Rattle.std.specs.List.{slice_split, slice_get}
+
+abbrev pub is_end : ℕ → Bool
+is_end c = c == 10
+
+abbrev pub is_space : ℕ → Bool
+is_space c = c == 32
+
+-- the field behind so many spaces, nothing where there are fewer
+unfoldable pub field_of : List ℕ → ℕ → List ℕ
+field_of line spaces = unwrap_or (slice_get (slice_split is_space line) spaces) []
