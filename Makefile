@@ -83,6 +83,7 @@ check:
 	cd cli && YELDMUR_LIB_DIR=$(lib_dir) $(CARGO) test --offline --locked
 	tools/test_python
 	tools/test_readback
+	tools/test_products
 	tools/test_package
 
 clean:

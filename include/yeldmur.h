@@ -1,17 +1,20 @@
-/* Yeldmur: sheets read and written, text rows turned into sheets and back, distances, and lists of the
- * cheapest readings, with every promise proved. Link with libyeldmur.a, which `tools/library` writes.
+/* Yeldmur: sheets read and written, text rows turned into sheets and back, distances, lists of the
+ * cheapest readings, and the sheet of what two sheets both allow, with every promise proved. Link with
+ * libyeldmur.a, which `tools/library` writes.
  *
  * A slice is a pointer and a count of its elements, and not of bytes. No pointer is NULL, also where
  * the count is 0, as that of the work area may be for n = 0: malloc(0) may give NULL, so that a caller
  * asks for one element more, or hands over any other address that is aligned. A pointer to 32-bit or
- * 64-bit numbers is aligned for them, and no two of a call's areas and numbers overlap. The calls keep
- * nothing, and take no memory but the areas and up to YELDMUR_STACK bytes of stack.
+ * 64-bit numbers is aligned for them, and no two of a call's areas and numbers overlap; slices that are
+ * only read may, as where both sheets of yeldmur_two_probes are the same. The calls keep nothing, and take
+ * no memory but the areas and up to YELDMUR_STACK bytes of stack, yeldmur_two_probes up to
+ * YELDMUR_TWO_PROBES_STACK.
  *
  * The proofs are about rounding to nearest; what follows of other modes is tested, not proved. Weights
  * are summed in single precision, and every sum is exact, or infinite over what is barred. So an answer is
  * the same in every rounding mode of fenv.h, but for the sign of a distance of 0 in which weights cancel:
- * it is negative zero where the caller rounds downward. No weight or sum is denormal, so that flushing
- * these to zero changes nothing. The calls leave the floating-point environment as it is, and raise no flag.
+ * it is negative zero where the caller rounds downward. No weight or sum is denormal, so that flushing these
+ * to zero changes nothing. The calls leave the floating-point environment as it is, and raise no flag.
  *
  * Each call returns 0 or the number of a refusal. A refusal leaves the numbers behind `size`,
  * `values`, `states`, `links`, `taken`, `slots`, `bytes` and those of the calls that read back as they were. In 1 to 20 no area changes.
@@ -52,6 +55,13 @@ enum {
     YELDMUR_ROWS = 8,
     /* a sheet that has no rows */
     YELDMUR_NO_ROWS = 9,
+    /* of two sheets, a link of either, reached or not, whose input label is 0 or is not its output label */
+    YELDMUR_LABELS = 10,
+    /* what two sheets both allow has more than YELDMUR_NODE_LIMIT nodes or YELDMUR_LINK_LIMIT links */
+    YELDMUR_PRODUCT = 11,
+    /* the weights of two links with one label, or of two final nodes, have a finite sum off the grid: more than
+     * YELDMUR_WEIGHT_LIMIT sixty-fourths either way */
+    YELDMUR_SUM = 12,
     /* work area shorter than needed, in slots of eight 32-bit words: none for n = 0; N for distances
      * and for n = 1; otherwise N + T + 2 x F + 2 + n x (T + 1) */
     YELDMUR_WORK = 20,
@@ -81,6 +91,14 @@ enum {
  * 8 KB of final nodes, by which a second final row is found, where rows are read; in a search the queue's
  * record of 2 KB and a copy. */
 #define YELDMUR_STACK 10240u
+
+/* The same for yeldmur_two_probes. Most of it are 384 KB of keys: of the links of either sheet, by which those
+ * of one label are found, and of the links of the answer. */
+#define YELDMUR_TWO_PROBES_STACK 401408u
+
+/* The bytes of the longest sheet that yeldmur_two_probes writes: that of as many nodes and links as the limits
+ * allow. In a result area of so many bytes it refuses nothing with 21. */
+#define YELDMUR_TWO_PROBES_BYTES 286740u
 
 /* The start of a sheet that has none, and the word of a link that repeats no input link. */
 #define YELDMUR_NONE 0xffffffffu
@@ -147,6 +165,21 @@ uint32_t yeldmur_shortest_path(const uint8_t *sheet, size_t sheet_bytes, uint32_
                                uint32_t *work, size_t work_words,
                                uint8_t *result, size_t result_bytes,
                                uint32_t *states, uint32_t *links, uint32_t *taken);
+
+/* Writes the sheet of what two sheets both allow, as two probes in one oven give two machines of the same bake:
+ * tests 1 to 6 of the first sheet, 1 to 6 of the second, then 10, 11, 12 and 21. Its node for node i of the
+ * first and j of the second is i x N + j, by the second's N. It has a link for each link of the first and each
+ * of the second that has the same label: with that label, from the node for their sources to the node for their
+ * next nodes, of the sum of their weights. A node's links are listed by the first's link number, then the
+ * second's. A node is final if both are, and its final weight is the sum of theirs. What is added to
+ * YELDMUR_BARRED is barred. The start is the node for both starts, or YELDMUR_NONE where either sheet has none.
+ * The answer's readings are the pairs of a reading of each sheet with the same labels, each pair once, and cost
+ * their sum; it passes tests 1 to 6 itself. `size` becomes its bytes, 16 a link, 12 a node and 20. There is no
+ * work area. Enough are 16 x the lesser of YELDMUR_LINK_LIMIT and the product of the two T, 12 x the lesser of
+ * YELDMUR_NODE_LIMIT and the product of the two N, and 20: YELDMUR_TWO_PROBES_BYTES at the most. */
+uint32_t yeldmur_two_probes(const uint8_t *first, size_t first_bytes,
+                            const uint8_t *second, size_t second_bytes,
+                            uint8_t *result, size_t result_bytes, uint64_t *size);
 
 /* How many readings the result of yeldmur_shortest_path for n holds, `states` and `links` being the counts
  * that it told: tests 7, then 30. A result is no answer where it is shorter than these counts say, or has

@@ -7,10 +7,19 @@ use std::time::{Duration, Instant};
 pub type Run<'a> = Box<dyn FnMut(usize) -> Duration + 'a>;
 
 /// A call under the clock. What it leaves is dropped when the clock has stopped.
-pub fn timed<'a, T>(mut call: impl FnMut(usize) -> T + 'a) -> Run<'a> {
+pub fn timed<'a, T>(call: impl FnMut(usize) -> T + 'a) -> Run<'a> {
+    timed_on(|machine| machine, call)
+}
+
+/// The same, on what is made of the number before the clock starts.
+pub fn timed_on<'a, S, T>(
+    mut made: impl FnMut(usize) -> S + 'a,
+    mut call: impl FnMut(S) -> T + 'a,
+) -> Run<'a> {
     Box::new(move |machine| {
+        let made = made(machine);
         let begun = Instant::now();
-        let left = black_box(call(machine));
+        let left = black_box(call(made));
         let time = begun.elapsed();
         drop(left);
         time
@@ -40,4 +49,39 @@ pub fn rounds(runs: &mut [Run], machines: usize, time: Duration) -> Vec<f64> {
 fn mean(times: &[Duration]) -> f64 {
     let sum: Duration = times.iter().sum();
     sum.as_secs_f64() * 1e6 / times.len() as f64
+}
+
+/// Least times in microseconds, one for each contender; none for those that are not there, which stand last.
+#[derive(Clone)]
+pub struct Times(Vec<Option<f64>>);
+
+impl Times {
+    pub fn of(mut runs: Vec<Run>, contenders: usize, machines: usize, time: Duration) -> Self {
+        let least = rounds(&mut runs, machines, time);
+        let mut times: Vec<Option<f64>> = least.into_iter().map(Some).collect();
+        times.resize(contenders, None);
+        Self(times)
+    }
+
+    pub fn lesser(&self, other: &Self) -> Self {
+        let pairs = self.0.iter().zip(&other.0);
+        Self(
+            pairs
+                .map(|(a, b)| a.zip(*b).map(|(a, b)| a.min(b)))
+                .collect(),
+        )
+    }
+
+    /// The times as cells of a table.
+    pub fn cells(&self) -> String {
+        let cell = |time: &Option<f64>| time.map_or("-".to_string(), |time| format!("{time:.1}"));
+        let cells: Vec<String> = self.0.iter().map(cell).collect();
+        cells.join(" | ")
+    }
+
+    /// How many times as long as the other one contender takes, as a cell.
+    pub fn ratio(&self, one: usize, other: usize) -> String {
+        let pair = self.0[one].zip(self.0[other]);
+        pair.map_or("-".to_string(), |(a, b)| format!("{:.2}", a / b))
+    }
 }

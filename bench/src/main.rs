@@ -6,6 +6,7 @@ mod contest;
 #[cfg(openfst)]
 mod openfst;
 mod port;
+mod products;
 mod rows;
 mod rust;
 mod sheets;
@@ -19,6 +20,7 @@ use port::Port;
 const USAGE: &str = "usage:
   bench MILLISECONDS               prints the tables; each part of a row takes about twice so long
   bench rows MILLISECONDS          prints those of text rows
+  bench products MILLISECONDS      prints that of two sheets
   bench builds MILLISECONDS PREVIOUS LIBRARY
                                    prints a table of two static libraries, called in turn
   bench repeat MACHINE CALL TIMES  makes one call of the library again and again, for a profile: a
@@ -62,6 +64,10 @@ fn run(arguments: &[&str]) -> Option<()> {
                 &sheets::written(),
                 Duration::from_millis(time.parse().ok()?),
             );
+            Some(())
+        }
+        ["products", time] => {
+            products::print(&sheets::pairs(), Duration::from_millis(time.parse().ok()?));
             Some(())
         }
         ["builds", time, previous, library] => {

@@ -60,6 +60,33 @@ uint32_t openfst_readings(const Machine *list) {
   return list->Start() < 0 ? 0 : list->NumArcs(list->Start());
 }
 
+// A copy that shares nothing.
+Machine *openfst_copy(const Machine *machine) {
+  return new Machine(static_cast<const fst::Fst<fst::StdArc> &>(*machine));
+}
+
+// Sorts the links of each state by output label or by input label.
+void openfst_sort(Machine *machine, bool by_output) {
+  if (by_output) {
+    fst::ArcSort(machine, fst::OLabelCompare<fst::StdArc>());
+  } else {
+    fst::ArcSort(machine, fst::ILabelCompare<fst::StdArc>());
+  }
+}
+
+// What two machines both allow, of the states that the start reaches; of those on ways to a final state alone if connected.
+Machine *openfst_compose(const Machine *first, const Machine *second, bool connected) {
+  auto *both = new Machine;
+  fst::Compose(*first, *second, both, fst::ComposeOptions(connected));
+  return both;
+}
+
+uint32_t openfst_links(const Machine *machine) {
+  uint32_t links = 0;
+  for (int s = 0; s < machine->NumStates(); ++s) links += machine->NumArcs(s);
+  return links;
+}
+
 bool openfst_equal(const Machine *one, const Machine *other) { return fst::Equal(*one, *other, 0.0f); }
 
 // What fstcompile does with --keep_state_numbering, as far as the machine.

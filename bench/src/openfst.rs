@@ -15,6 +15,10 @@ extern "C" {
     fn openfst_distances(made: *const Made) -> u32;
     fn openfst_list(made: *const Made, n: i32) -> *mut Made;
     fn openfst_readings(made: *const Made) -> u32;
+    fn openfst_copy(made: *const Made) -> *mut Made;
+    fn openfst_sort(made: *mut Made, by_output: bool);
+    fn openfst_compose(first: *const Made, second: *const Made, connected: bool) -> *mut Made;
+    fn openfst_links(made: *const Made) -> u32;
     fn openfst_equal(one: *const Made, other: *const Made) -> bool;
     fn openfst_compile(text: *const u8, count: usize) -> *mut Made;
     fn openfst_print(made: *const Made) -> *mut String;
@@ -70,6 +74,31 @@ impl OpenFst {
     /// The bytes of its file.
     pub fn written(&self) -> Bytes {
         unsafe { Bytes(openfst_write(self.0)) }
+    }
+
+    /// A copy that shares nothing.
+    pub fn copied(&self) -> Self {
+        unsafe { Self(openfst_copy(self.0)) }
+    }
+
+    /// Sorts the links of each state by output label, as a first machine to be composed has them.
+    pub fn sort_as_first(&mut self) {
+        unsafe { openfst_sort(self.0, true) }
+    }
+
+    /// The same by input label, for a second.
+    pub fn sort_as_second(&mut self) {
+        unsafe { openfst_sort(self.0, false) }
+    }
+
+    /// What two machines both allow: the states that the start reaches; of those on ways to a final state alone if connected.
+    pub fn composed(&self, second: &Self, connected: bool) -> Self {
+        unsafe { Self(openfst_compose(self.0, second.0, connected)) }
+    }
+
+    /// How many links there are.
+    pub fn links(&self) -> usize {
+        unsafe { openfst_links(self.0) as usize }
     }
 
     /// Whether both have the same states, links and weights.

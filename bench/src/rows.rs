@@ -9,7 +9,7 @@ use std::time::Duration;
 use oracle::bytes;
 use yeldmur::{raw, Sheet};
 
-use crate::clock::{rounds, timed, Run};
+use crate::clock::{timed, Run, Times};
 #[cfg(openfst)]
 use crate::openfst::OpenFst;
 use crate::sheets::Kind;
@@ -19,22 +19,6 @@ const FILTER: &str = concat!(
     env!("CARGO_MANIFEST_DIR"),
     "/../bindings/rust/target/release/examples/rows"
 );
-
-/// Least times in microseconds: the library in a result that is kept and in one made anew; OpenFst between text and machine, and between
-/// text and the bytes of its file. None where OpenFst is not there.
-#[derive(Clone)]
-struct Times(Vec<Option<f64>>);
-
-impl Times {
-    fn lesser(&self, other: &Self) -> Self {
-        let pairs = self.0.iter().zip(&other.0);
-        Self(
-            pairs
-                .map(|(a, b)| a.zip(*b).map(|(a, b)| a.min(b)))
-                .collect(),
-        )
-    }
-}
 
 /// Machines as text rows, as sheets, and as OpenFst has them.
 struct Ready {
@@ -210,14 +194,9 @@ struct Row {
     command: Times,
 }
 
-fn times(mut runs: Vec<Run>, contenders: usize, machines: usize, time: Duration) -> Times {
-    let mut least: Vec<Option<f64>> = rounds(&mut runs, machines, time)
-        .into_iter()
-        .map(Some)
-        .collect();
-    least.resize(contenders, None);
-    Times(least)
-}
+/// How many times there are in memory: the library in a result that is kept and in one made anew; OpenFst between text and machine, and
+/// between text and the bytes of its file.
+const IN_MEMORY: usize = 4;
 
 fn rows(kind: &Kind, time: Duration) -> [Row; 2] {
     let ready = Ready::new(kind);
@@ -229,18 +208,18 @@ fn rows(kind: &Kind, time: Duration) -> [Row; 2] {
         way: "rows to sheet",
         from: text,
         to: sheet,
-        one: times(ready.to_sheet(), 4, 1, time),
-        ten: times(ready.to_sheet(), 4, ten, time),
-        command: times(commands(&folder.0, &TO_SHEET), 2, ten, time),
+        one: Times::of(ready.to_sheet(), IN_MEMORY, 1, time),
+        ten: Times::of(ready.to_sheet(), IN_MEMORY, ten, time),
+        command: Times::of(commands(&folder.0, &TO_SHEET), 2, ten, time),
     };
     let to_rows = Row {
         kind: kind.name,
         way: "sheet to rows",
         from: sheet,
         to: text,
-        one: times(ready.to_rows(), 4, 1, time),
-        ten: times(ready.to_rows(), 4, ten, time),
-        command: times(commands(&folder.0, &TO_ROWS), 2, ten, time),
+        one: Times::of(ready.to_rows(), IN_MEMORY, 1, time),
+        ten: Times::of(ready.to_rows(), IN_MEMORY, ten, time),
+        command: Times::of(commands(&folder.0, &TO_ROWS), 2, ten, time),
     };
     [to_sheet, to_rows]
 }
@@ -254,20 +233,6 @@ fn measured(kinds: &[Kind], time: Duration) -> Vec<Row> {
         row.command = row.command.lesser(&again.command);
     }
     first
-}
-
-fn cell(time: Option<f64>) -> String {
-    time.map_or("-".to_string(), |time| format!("{time:.1}"))
-}
-
-fn ratio(times: &Times, one: usize, other: usize) -> String {
-    let pair = times.0[one].zip(times.0[other]);
-    pair.map_or("-".to_string(), |(a, b)| format!("{:.2}", a / b))
-}
-
-fn cells(times: &Times) -> String {
-    let cells: Vec<String> = times.0.iter().map(|time| cell(*time)).collect();
-    cells.join(" | ")
 }
 
 /// Prints the table of text rows, and that of whole commands.
@@ -289,9 +254,9 @@ pub fn print(kinds: &[Kind], time: Duration) {
         for times in [&row.one, &row.ten] {
             print!(
                 " {} | {} | {} |",
-                cells(times),
-                ratio(times, 0, 2),
-                ratio(times, 0, 3)
+                times.cells(),
+                times.ratio(0, 2),
+                times.ratio(0, 3)
             );
         }
         println!();
@@ -305,8 +270,8 @@ pub fn print(kinds: &[Kind], time: Duration) {
             "| {} | {} | {} | {} |",
             row.kind,
             row.way,
-            cells(times),
-            ratio(times, 0, 1)
+            times.cells(),
+            times.ratio(0, 1)
         );
     }
 }

@@ -19,7 +19,13 @@ impl Kind {
     }
 }
 
-/// How many machines of a kind are called in turn.
+/// Pairs of machines of one kind, drawn alike.
+pub struct Pairs {
+    pub name: &'static str,
+    pub pairs: Vec<[Machine; 2]>,
+}
+
+/// How many machines of a kind, or pairs, are called in turn.
 const TEN: u64 = 10;
 
 /// How far a link reaches that is called short.
@@ -135,5 +141,101 @@ pub fn written() -> Vec<Kind> {
         kind("40 nodes, 100 links", TEN, |s| {
             tangle(s, 40, 100, SHORT, &any)
         }),
+    ]
+}
+
+/// Keeps the seeds of labels apart from those of machines.
+const LABELS: u64 = 1 << 32;
+
+/// As many labels as there may be links: the first, and each so many above the one before it.
+fn labels(first: u32, step: u32) -> Vec<u32> {
+    (0..LINKS as u32)
+        .map(|place| first + step * place)
+        .collect()
+}
+
+fn shuffled(seed: u64, labels: &[u32]) -> Vec<u32> {
+    let mut labels = labels.to_vec();
+    Random::new(seed ^ LABELS).shuffle(&mut labels);
+    labels
+}
+
+/// Of a chain and other links, as `tangle` draws them, with these labels in the order of the links. No two weights sum up past the limit.
+fn labelled(seed: u64, nodes: usize, labels: &[u32]) -> Machine {
+    let mut machine = tangle(seed, nodes, labels.len(), nodes, &any(UNITS / 2));
+    for (link, label) in machine.links_mut().zip(labels) {
+        (link.input, link.output) = (*label, *label);
+    }
+    machine
+}
+
+/// The same with few labels: those of the chain come round and round, so that two such machines have a reading in common, if both have as
+/// many nodes; the others are drawn.
+fn alike(seed: u64, nodes: usize, links: usize, labels: usize) -> Machine {
+    let mut random = Random::new(seed ^ LABELS);
+    let mut machine = labelled(seed, nodes, &vec![1; links]);
+    for (v, node) in machine.nodes.iter_mut().enumerate() {
+        for (place, link) in node.links.iter_mut().enumerate() {
+            let label = match place {
+                0 => v % labels,
+                _ => random.below(labels),
+            };
+            (link.input, link.output) = (label as u32 + 1, label as u32 + 1);
+        }
+    }
+    machine
+}
+
+fn final_everywhere(mut machine: Machine) -> Machine {
+    for node in &mut machine.nodes {
+        node.end = Some(0.0);
+    }
+    machine
+}
+
+/// Pairs of the machines for the seeds 1 and 2, 3 and 4 and so on.
+fn pairs_of(
+    name: &'static str,
+    first: impl Fn(u64) -> Machine,
+    second: impl Fn(u64) -> Machine,
+) -> Pairs {
+    Pairs {
+        name,
+        pairs: (1..=TEN)
+            .map(|s| [first(2 * s - 1), second(2 * s)])
+            .collect(),
+    }
+}
+
+fn alike_pairs(name: &'static str, made: impl Fn(u64) -> Machine) -> Pairs {
+    pairs_of(name, &made, &made)
+}
+
+/// Pairs of machines whose links have one label each, for what both allow.
+pub fn pairs() -> Vec<Pairs> {
+    let (odd, even, all) = (labels(1, 2), labels(2, 2), labels(1, 1));
+    let mixed = |s, nodes, labels: &[u32]| labelled(s, nodes, &shuffled(s, labels));
+    vec![
+        pairs_of(
+            "apart, in order",
+            |s| labelled(s, 2, &odd),
+            |s| labelled(s, 2, &even),
+        ),
+        pairs_of(
+            "apart, shuffled",
+            |s| mixed(s, 2, &odd),
+            |s| mixed(s, 2, &even),
+        ),
+        alike_pairs("one to one, in order", |s| labelled(s, 2, &all)),
+        alike_pairs("one to one, shuffled", |s| mixed(s, 2, &all)),
+        alike_pairs("45 nodes, one to one, shuffled", |s| mixed(s, 45, &all)),
+        alike_pairs("one label", |s| labelled(s, 2, &[1; 128])),
+        alike_pairs("45 nodes, 10 labels", |s| alike(s, 45, 120, 10)),
+        pairs_of(
+            "2 x 1,024 nodes, 16 labels",
+            |s| labelled(s, 2, &all[..16]),
+            |s| final_everywhere(alike(s, NODES / 2, LINKS, 16)),
+        ),
+        alike_pairs("4 nodes, 3 labels", |s| alike(s, 4, 6, 3)),
     ]
 }

@@ -33,16 +33,21 @@ pub enum Command {
     Best,
     /// The distances of the nodes.
     Distances,
+    /// The sheet of what two machines both allow.
+    Both,
     /// A picture.
     Draw,
     /// What a refusal means, and where the fault is.
     Check,
 }
 
-use Command::{Best, Check, Compile, Distances, Draw, List, Print};
+use Command::{Best, Both, Check, Compile, Distances, Draw, List, Print};
 
 /// The commands, in the order of the help.
-pub const COMMANDS: [Command; 7] = [Compile, Print, List, Best, Distances, Draw, Check];
+pub const COMMANDS: [Command; 8] = [Compile, Print, List, Best, Distances, Both, Draw, Check];
+
+// Those that answer each input by itself.
+const EACH: &[Command] = &[Compile, Print, List, Best, Distances, Draw, Check];
 
 impl Command {
     /// Its name.
@@ -53,6 +58,7 @@ impl Command {
             List => "list",
             Best => "best",
             Distances => "distances",
+            Both => "both",
             Draw => "draw",
             Check => "check",
         }
@@ -95,7 +101,7 @@ pub struct Flag {
 }
 
 /// Every option.
-pub const FLAGS: [Flag; 8] = [
+pub const FLAGS: [Flag; 9] = [
     Flag {
         key: Key::Count,
         short: Some('n'),
@@ -133,15 +139,23 @@ pub const FLAGS: [Flag; 8] = [
         short: Some('o'),
         long: "output",
         value: Some("PLACE"),
-        commands: &COMMANDS,
+        commands: EACH,
         help: "write to this file, to - (standard output), or into this folder",
+    },
+    Flag {
+        key: Key::Output,
+        short: Some('o'),
+        long: "output",
+        value: Some("PLACE"),
+        commands: &[Both],
+        help: "write to this file, or to - (standard output)",
     },
     Flag {
         key: Key::Jobs,
         short: Some('j'),
         long: "jobs",
         value: Some("JOBS"),
-        commands: &COMMANDS,
+        commands: EACH,
         help: "work on so many inputs at once; answers stay in their order",
     },
     Flag {
@@ -184,7 +198,7 @@ impl Picture {
     }
 }
 
-/// What is asked of each input.
+/// What is asked of each input, or of two together.
 #[derive(Debug, PartialEq, Eq)]
 pub struct Options {
     /// The command.
@@ -218,7 +232,16 @@ impl Options {
 
     /// Whether the answer is bytes that are no text.
     pub fn in_bytes(&self) -> bool {
-        self.command == Compile || (self.command == Draw && self.picture == Picture::Png)
+        let sheet = matches!(self.command, Compile | Both);
+        sheet || (self.command == Draw && self.picture == Picture::Png)
+    }
+
+    /// How many answers there are: one to each input, or one to two together.
+    pub fn answers(&self) -> usize {
+        match self.command {
+            Both => 1,
+            _ => self.inputs.len(),
+        }
     }
 
     /// Whether two answers in one file would be no answer: joined sheets, rows and pictures are others.
@@ -256,11 +279,14 @@ impl Options {
         Ok(())
     }
 
-    // Without inputs it is standard input, which can be read but once.
+    // Without inputs it is standard input, which can be read but once. Of two together both are named.
     fn with_inputs(mut self, inputs: Vec<Source>) -> Result<Options, String> {
         let standard = inputs.iter().filter(|source| **source == Source::Standard);
         if standard.count() > 1 {
             return Err("standard input is named twice".to_string());
+        }
+        if self.command == Both && inputs.len() != 2 {
+            return Err("both takes two inputs, FIRST and SECOND".to_string());
         }
         self.inputs = inputs;
         if self.inputs.is_empty() {
@@ -434,6 +460,9 @@ mod tests {
             [file("a"), Source::Standard, file("-n"), file("--json")]
         );
         assert!(parsed("best - -").is_err());
+        let two = options("both -o x - -- -b");
+        assert_eq!(two.inputs, [Source::Standard, file("-b")]);
+        assert_eq!((two.answers(), options("best a b").answers()), (1, 2));
     }
 
     #[test]
@@ -466,6 +495,12 @@ mod tests {
             "check -j 0",
             "check --jobs many",
             "print -V",
+            "both",
+            "both a",
+            "both a b c",
+            "both - -",
+            "both -j 2 a b",
+            "both --json a b",
         ] {
             assert!(parsed(line).is_err(), "{line}");
         }

@@ -13,7 +13,7 @@ struct Words {
     text: &'static str,
 }
 
-const WORDS: [Words; 7] = [
+const WORDS: [Words; 8] = [
     Words {
         command: Command::Compile,
         line: "turn text rows into a sheet",
@@ -51,6 +51,16 @@ const WORDS: [Words; 7] = [
             "Finds for each node the least cost of a way from the start to it, as a decimal and\n\
                in units of 1/64, or that it is unreached; up to the highest node that is reached\n\
                or that a link, barred or not, leads to from a reached one.",
+    },
+    Words {
+        command: Command::Both,
+        line: "write the sheet of what two machines both allow",
+        usage: "[-o PLACE] FIRST SECOND",
+        text: "Writes the sheet of what two machines both allow, such as those of two probes in one\n\
+               oven. Its readings are the pairs of a reading of each with the same labels, and cost\n\
+               their sum. Its node for i and j is i times the second's number of nodes, plus j. No\n\
+               label may be 0 or differ between input and output. Bytes of a sheet are not written\n\
+               to a terminal unless -o - says so.",
     },
     Words {
         command: Command::Draw,
@@ -113,6 +123,11 @@ Each FILE holds text rows or a sheet; which, the command sees by itself. Without
 with -, it is standard input.
 ";
 
+const TWO_INPUTS: &str = "\
+FIRST and SECOND each hold text rows or a sheet; which, the command sees by itself. One of
+them may be -, which is standard input.
+";
+
 fn json_fields(command: Command) -> Option<&'static str> {
     match command {
         Command::List | Command::Best => Some(JSON_LIST),
@@ -153,7 +168,11 @@ fn help_of_all() -> String {
 fn help_of(words: &Words) -> String {
     let (command, usage, text) = (words.command, words.usage, words.text);
     let name = command.name();
-    let mut help = format!("usage: yeldmur {name} {usage}\n\n{text}\n\n{INPUTS}\noptions:\n");
+    let inputs = match command {
+        Command::Both => TWO_INPUTS,
+        _ => INPUTS,
+    };
+    let mut help = format!("usage: yeldmur {name} {usage}\n\n{text}\n\n{inputs}\noptions:\n");
     let flags = FLAGS.iter().filter(|flag| flag.commands.contains(&command));
     help.extend(flags.map(line_of));
     if let Some(fields) = json_fields(command) {

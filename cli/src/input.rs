@@ -86,6 +86,13 @@ impl Input {
         }
         self.sheet()
     }
+
+    /// The sheet where a search accepts it. Refusals 5 and 6, too.
+    pub fn accepted(&self) -> Result<Sheet, Refusal> {
+        let sheet = self.sheet_to_search()?;
+        raw::areas(sheet.bytes(), 0)?;
+        Ok(sheet)
+    }
 }
 
 #[cfg(test)]

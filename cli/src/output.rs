@@ -7,7 +7,7 @@ use std::fs::{self, File};
 use std::io::{self, Write};
 use std::path::{Path, PathBuf};
 
-use crate::args::Options;
+use crate::args::{Command, Options};
 use crate::input::Source;
 
 pub(crate) enum Destination {
@@ -31,6 +31,12 @@ impl Destination {
             .clone()
             .filter(|path| path.as_os_str() != "-");
         if let Some(path) = named.clone().filter(|path| path.is_dir()) {
+            if options.command == Command::Both {
+                let path = path.display();
+                return Err(format!(
+                    "{path} is a folder, and the one sheet needs a file"
+                ));
+            }
             let ending = options.ending();
             files_differ(&options.inputs, ending)?;
             return Ok(Destination::Folder { path, ending });

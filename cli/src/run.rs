@@ -1,4 +1,4 @@
-//! A run of the command: its arguments, then the answer to each input, in their order.
+//! A run of the command: its arguments, then the answer to each input, in their order, or to two together.
 #![forbid(unsafe_code)]
 
 use std::ffi::OsString;
@@ -69,14 +69,14 @@ fn answer_all(options: &Options) -> Status {
     let mut run = Run {
         options,
         destination,
-        progress: Progress::of(options.inputs.len()),
+        progress: Progress::of(options.answers()),
         status: Status::Done,
     };
     in_order(
-        options.inputs.len(),
+        options.answers(),
         options.jobs,
         Areas::new,
-        |areas, place| commands::answer(options, areas, &options.inputs[place]),
+        |areas, place| commands::answer(options, areas, place),
         |event| run.take(event),
     );
     run.progress.clear();
@@ -109,7 +109,7 @@ impl Run<'_> {
     fn deliver(&mut self, source: &Source, outcome: Outcome) -> ControlFlow<()> {
         self.status = outcome.status.max(self.status);
         if let Some(message) = &outcome.message {
-            complain(&format!("{source}: {message}"));
+            complain(message);
         }
         if outcome.output.is_empty() {
             return ControlFlow::Continue(());

@@ -6,26 +6,27 @@ mod common;
 use std::collections::BTreeMap;
 
 use common::{bytes, chain, Random, A};
-use yeldmur::{raw, Refusal, Sheet};
-use yeldmur_cli::diagnose::{fault, form, Form, Place, Tests};
+use yeldmur::{raw, two_probes, Refusal, Sheet};
+use yeldmur_cli::diagnose::{fault, fault_of_both, form, Form, Place, Tests};
 
 const NONE: u32 = 0xFFFF_FFFF;
 
 // What the library says of rows. Rows of a sheet that is too long to make are too large for a search.
-fn library_of_rows(text: &[u8]) -> Option<u32> {
-    let told = || -> Result<(), Refusal> {
+fn library_of_rows(text: &[u8], tests: Tests) -> Option<u32> {
+    let told = || -> Result<Option<u32>, Refusal> {
         if raw::rows_sheet_bytes(text)? > 1_000_000 {
             return Err(Refusal::Limits);
         }
-        raw::areas(Sheet::from_rows(text)?.bytes(), 0)?;
-        Ok(())
+        Ok(library_of_sheet(Sheet::from_rows(text)?.bytes(), tests))
     };
-    told().err().map(Refusal::number)
+    told().unwrap_or_else(|refusal| Some(refusal.number()))
 }
 
 fn library_of_sheet(sheet: &[u8], tests: Tests) -> Option<u32> {
     let refused = match tests {
         Tests::Search => raw::areas(sheet, 0).err(),
+        // beside a sheet without nodes there is nothing else to refuse
+        Tests::Labels => raw::two_probes(sheet, &bytes(&[0, 0, 0, 0, NONE]), &mut [0; 20]).err(),
         Tests::Rows => raw::sheet_rows_bytes(sheet).err(),
     };
     refused.map(Refusal::number)
@@ -119,18 +120,22 @@ fn damaged_rows(random: &mut Random) -> Vec<u8> {
 
 #[test]
 fn damaged_texts() {
-    let (mut random, mut tally) = (Random(1), Tally::default());
+    let mut random = Random(1);
+    let (mut search, mut labels) = (Tally::default(), Tally::default());
     for _ in 0..60_000 {
         let text = damaged_rows(&mut random);
-        tally.add(Form::Rows, &text, Tests::Search, library_of_rows(&text));
+        for (tests, tally) in [(Tests::Search, &mut search), (Tests::Labels, &mut labels)] {
+            tally.add(Form::Rows, &text, tests, library_of_rows(&text, tests));
+        }
     }
-    tally.holds(&[1, 4, 5, 6, 8]);
+    search.holds(&[1, 4, 5, 6, 8]);
+    labels.holds(&[1, 4, 5, 6, 8, 10]);
 }
 
 // Each byte of the rows of Sheet A taken out, doubled, and changed to each other byte.
 #[test]
 fn every_byte_of_a_text() {
-    let mut tally = Tally::default();
+    let (mut search, mut labels) = (Tally::default(), Tally::default());
     for at in 0..A.len() {
         let mut texts: Vec<Vec<u8>> = (0..=255)
             .map(|byte| [&A.as_bytes()[..at], &[byte], &A.as_bytes()[at + 1..]].concat())
@@ -139,10 +144,13 @@ fn every_byte_of_a_text() {
         texts.push([&A[..=at], &A[at..]].concat().into());
         texts.push(A[..at].into());
         for text in texts {
-            tally.add(Form::Rows, &text, Tests::Search, library_of_rows(&text));
+            for (tests, tally) in [(Tests::Search, &mut search), (Tests::Labels, &mut labels)] {
+                tally.add(Form::Rows, &text, tests, library_of_rows(&text, tests));
+            }
         }
     }
-    tally.holds(&[4, 6, 8]);
+    search.holds(&[4, 6, 8]);
+    labels.holds(&[4, 6, 8, 10]);
 }
 
 // Sheets of several kinds: Sheet A, one whose start is bare, one without start, one whose last node is bare, two at the limits and two beyond.
@@ -198,33 +206,94 @@ fn damaged_sheet(random: &mut Random, sheet: &[u8]) -> Vec<u8> {
 #[test]
 fn damaged_sheets() {
     let (mut random, sheets) = (Random(2), sheets());
-    let (mut search, mut rows) = (Tally::default(), Tally::default());
+    let [mut search, mut labels, mut rows] = [0; 3].map(|_| Tally::default());
     for round in 0..60_000 {
         // the large ones less often
         let kind = if round % 40 == 0 { sheets.len() } else { 6 };
         let sheet = random.one_of(&sheets[..kind]);
         let damaged = damaged_sheet(&mut random, &sheet);
-        for (tests, tally) in [(Tests::Search, &mut search), (Tests::Rows, &mut rows)] {
+        for (tests, tally) in [
+            (Tests::Search, &mut search),
+            (Tests::Labels, &mut labels),
+            (Tests::Rows, &mut rows),
+        ] {
             let library = library_of_sheet(&damaged, tests);
             tally.add(Form::Sheet, &damaged, tests, library);
         }
     }
     search.holds(&[1, 2, 3, 4, 5, 6]);
+    labels.holds(&[1, 2, 3, 4, 5, 6, 10]);
     rows.holds(&[1, 2, 3, 4, 9]);
+}
+
+// Two machines with few labels, of which 0 is one now and then, and weights that often add up to more than there may be; at times so wide, or
+// of so many nodes, that they are too large together.
+fn one_of_two(random: &mut Random) -> Sheet {
+    let weight =
+        |random: &mut Random| random.one_of(&["0", "64", "-64", "64.5", "128", "Infinity"]);
+    let mut text = String::from("0 1 7 7\n");
+    for _ in 0..random.below(4) {
+        let (source, label) = (random.below(3), 1 + random.below(3));
+        let olabel = if random.below(24) == 0 {
+            9 * random.below(2)
+        } else {
+            label
+        };
+        let ilabel = if random.below(24) == 0 { 0 } else { label };
+        let next = source + 1 + random.below(3);
+        text += &format!("{source} {next} {ilabel} {olabel} {}\n", weight(random));
+    }
+    let wide = if random.below(4) == 0 { 127 } else { 0 };
+    text += &"0 1 7 7 0\n".repeat(wide + random.below(3));
+    let high = if random.below(4) == 0 { 44 } else { 4 };
+    text += &format!("{} {}\n", high + random.below(3), weight(random));
+    Sheet::from_rows(text.as_bytes()).unwrap()
+}
+
+// 10 by each sheet's place, 11 and 12 by that of both.
+#[test]
+fn drawn_pairs() {
+    let (mut random, mut counts) = (Random(4), BTreeMap::new());
+    for _ in 0..4_000 {
+        let [first, second] = [0, 1].map(|_| one_of_two(&mut random));
+        let library = two_probes(&first, &second).err().map(Refusal::number);
+        let each = [&first, &second].map(|sheet| {
+            let text = sheet.to_rows().unwrap();
+            let of_rows = fault(Form::Rows, &text, Tests::Labels).map(|fault| fault.number);
+            let found = fault(Form::Sheet, sheet.bytes(), Tests::Labels);
+            assert_eq!(found.as_ref().map(|fault| fault.number), of_rows);
+            assert!(found.as_ref().is_none_or(|fault| within(
+                Form::Sheet,
+                sheet.bytes(),
+                fault.place
+            )));
+            found
+        });
+        let [one, other] = each;
+        let found = one.or(other).or_else(|| fault_of_both(&first, &second));
+        assert_eq!(found.map(|fault| fault.number), library);
+        *counts.entry(library).or_insert(0) += 1;
+    }
+    let seen: Vec<_> = counts.keys().copied().collect();
+    assert_eq!(seen, [None, Some(10), Some(11), Some(12)]);
+    assert!(counts.values().all(|&count| count >= 100), "{counts:?}");
 }
 
 // Each bit of Sheet A flipped, and each length.
 #[test]
 fn every_bit_of_a_sheet() {
     let a = Sheet::from_rows(A.as_bytes()).unwrap().into_bytes();
-    let mut tally = Tally::default();
+    let (mut search, mut labels) = (Tally::default(), Tally::default());
     for at in 0..8 * a.len() {
         let mut damaged = a.clone();
         damaged[at / 8] ^= 1 << (at % 8);
-        let library = library_of_sheet(&damaged, Tests::Search);
-        tally.add(Form::Sheet, &damaged, Tests::Search, library);
+        for (tests, tally) in [(Tests::Search, &mut search), (Tests::Labels, &mut labels)] {
+            let library = library_of_sheet(&damaged, tests);
+            tally.add(Form::Sheet, &damaged, tests, library);
+        }
     }
-    tally.holds(&[1, 2, 3, 4, 6]);
+    search.holds(&[1, 2, 3, 4, 6]);
+    labels.holds(&[1, 2, 3, 4, 6, 10]);
     for length in 0..a.len() {
         let found = fault(Form::Sheet, &a[..length], Tests::Search).unwrap();
         assert_eq!(found.number, 1);

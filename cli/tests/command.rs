@@ -106,6 +106,18 @@ fn bad_usage() {
             "yeldmur: standard input is named twice\n",
         ),
         (
+            &["both", "a"],
+            "yeldmur: both takes two inputs, FIRST and SECOND\n",
+        ),
+        (
+            &["both", "-", "-"],
+            "yeldmur: standard input is named twice\n",
+        ),
+        (
+            &["both", "-o", "/", "a", "b"],
+            "yeldmur: / is a folder, and the one sheet needs a file\n",
+        ),
+        (
             &["compile", "a", "b"],
             "yeldmur: several inputs need a folder for their answers: name one with -o\n",
         ),
@@ -117,6 +129,102 @@ fn bad_usage() {
         let ran = run(arguments, A);
         assert_eq!((ran.status, ran.text(), ran.err.as_str()), (2, "", said));
     }
+}
+
+// Sheet A with itself, laid out by hand: 16 nodes, and five links whose weights are twice those of Sheet A.
+fn a_with_itself() -> Vec<u8> {
+    #[rustfmt::skip]
+    let links = [
+        1, 1, 0x4000_0000, 5, 2, 2, 0x3F80_0000, 10, 3, 3, 0x3F00_0000, 15, 5, 5, 0, 10, 4, 4, 0x3FC0_0000, 15,
+    ];
+    let nodes = (0..16).flat_map(|node| match node {
+        0 | 5 => [2, 0, 0],
+        10 => [1, 0, 0],
+        15 => [0, 1, 0x3F80_0000],
+        _ => [0, 0, 0],
+    });
+    let words: Vec<u32> = links.into_iter().chain(nodes).collect();
+    bytes(&[&words[..], &[0, 80, 16, 5, 0]].concat())
+}
+
+#[test]
+fn what_both_allow() {
+    let folder = Folder::new("what_both_allow");
+    let (rows, sheet) = (folder.file("a", A), folder.file("a.sheet", sheet_a()));
+    let whole = a_with_itself();
+    for (first, second) in [
+        (&rows, &rows),
+        (&rows, &sheet),
+        (&sheet, &rows),
+        (&sheet, &sheet),
+    ] {
+        assert_eq!(run(&["both", first, second], "").ok().out, whole);
+    }
+    assert_eq!(run(&["both", "-", &sheet], A).ok().out, whole);
+    assert_eq!(run(&["both", &rows, "-"], sheet_a()).ok().out, whole);
+    let output = folder.path("both.sheet");
+    run(&["both", "-o", &output, "--", &rows, &sheet], "").ok();
+    assert_eq!(folder.read("both.sheet"), whole);
+    let listed = run(&["list", &output], "").ok();
+    assert!(listed.text().starts_with("3 readings, "));
+    // an input may be its own output
+    run(&["both", "-o", &sheet, &sheet, &rows], "").ok();
+    assert_eq!(folder.read("a.sheet"), whole);
+}
+
+// The order matters: the node for i and j is i times the second's nodes, plus j.
+#[test]
+fn the_first_and_the_second() {
+    let folder = Folder::new("the_first_and_the_second");
+    let two = folder.file("two", "0 1 7 7 0.5\n1\n");
+    let three = folder.file("three", "1 2 7 7\n2\n");
+    let printed = |first: &str, second: &str| {
+        let both = run(&["both", first, second], "").ok().out;
+        run(&["print"], both).ok().text().to_string()
+    };
+    assert_eq!(printed(&two, &three), "1\t5\t7\t7\t0.5\n5\n");
+    assert_eq!(printed(&three, &two), "2\t5\t7\t7\t0.5\n5\n");
+}
+
+#[test]
+fn no_answer_for_two() {
+    let folder = Folder::new("no_answer_for_two");
+    let output = folder.file("out", "as it was");
+    let (good, bad) = (folder.file("good", A), folder.file("bad", "0 1 1 1 0.3\n"));
+    let missing = folder.path("missing");
+    // what cannot be read counts before what is refused, on either side
+    for files in [[&bad, &missing], [&missing, &bad], [&good, &missing]] {
+        let ran = run(&["both", "-o", &output, files[0], files[1]], "");
+        assert_eq!((ran.status, ran.text()), (2, ""));
+        let said = format!("yeldmur: {missing}: cannot be read: ");
+        assert!(ran.err.starts_with(&said) && ran.err.lines().count() == 1);
+    }
+    let ran = run(&["both", "-o", &output, &good, &bad], "");
+    assert_eq!(ran.status, 1);
+    assert!(ran.err.starts_with(&format!("yeldmur: {bad}: refused 4: ")));
+    let ran = run(&["both", "-o", &output, "-", &good], "0 1 0 0\n");
+    assert_eq!((ran.status, ran.err.as_str()), (1, "yeldmur: standard input: refused 10: a label that is 0 or differs between input and output: row 1, column 5: the input label is 0\n"));
+    assert_eq!(folder.read("out"), b"as it was");
+    let full = run(&["both", "-o", "/dev/full", &good, &good], "");
+    assert_eq!(full.status, 2);
+    assert!(full
+        .err
+        .starts_with("yeldmur: /dev/full: cannot be written: "));
+    let closed = with_closed_pipe(&["both", &good, "-"], A.as_bytes());
+    assert_eq!((closed.status, closed.err.as_str()), (0, ""));
+}
+
+// As large as it may be: 2,048 nodes, and 16,384 links.
+#[test]
+fn the_largest_of_two() {
+    let folder = Folder::new("the_largest_of_two");
+    let wide = folder.file("wide", "0 1 7 7\n".repeat(128) + "1023\n");
+    let two = folder.file("two", "0 1 7 7 0.5\n".repeat(128) + "1\n");
+    let both = run(&["both", &wide, &two], "").ok().out;
+    assert_eq!(both.len(), 286_740);
+    let checked = run(&["check"], both).ok();
+    let verdict = "standard input: accepted: sheet, 2048 nodes, 16384 links, 1 final, start 0\n";
+    assert_eq!(checked.text(), verdict);
 }
 
 #[test]
@@ -406,6 +514,11 @@ fn damaged_inputs() {
         assert!(ran.text().lines().all(is_json));
         assert!(!ran.text().contains("report") && !ran.err.contains("report"));
     }
+    for files in files.chunks(2) {
+        let ran = run(&["both", files[0], files[1]], "");
+        assert!(ran.status == 0 || (ran.status == 1 && ran.err.contains(": refused ")));
+        assert!(!ran.err.contains("report"), "{}", ran.err);
+    }
     for command in ["compile", "print", "draw"] {
         let place = folder.path("");
         let ran = run(&[&[command, "-o", &place], files.as_slice()].concat(), "");
@@ -501,6 +614,9 @@ fn a_terminal() {
     };
     assert_eq!(status, 2);
     assert!(shown.contains("name a file with -o, or say -o -"));
+    let (status, shown) = on_a_terminal(&format!("both {a} {a}")).unwrap();
+    assert_eq!(status, 2);
+    assert!(shown.contains("no text for a terminal"));
     let (status, shown) = on_a_terminal(&format!("compile -o - {a}")).unwrap();
     assert_eq!(status, 0);
     assert!(shown.contains('\0'));

@@ -3,6 +3,7 @@
 
 mod common;
 
+use std::collections::HashMap;
 use std::env;
 use std::fs;
 use std::path::Path;
@@ -14,6 +15,10 @@ const MIXED: &str = "1 2 7 8 -0.5\n1 2 7 7 -0.5\n2 4 8 8 1\n2 3 0 0 0.25\n3 4 9 
 
 // A barred link beside another, one on the way, a barred final node, and a node that is not even led to from a reached one.
 const BARRED: &str = "0 1 1 1 5\n0 1 2 2 Infinity\n1 2 3 3 Infinity\n1 1\n2 3 4 4\n2 Infinity\n3\n";
+
+// Two machines with labels and readings in common and others of their own. A link that one bars is barred in both.
+const LEFT: &str = "0 1 1 1 1\n0 1 2 2 0.5\n1 2 3 3 0.25\n1 2 4 4 Infinity\n1 2 5 5\n2 0.5\n";
+const RIGHT: &str = "0 1 2 2 -0.25\n0 2 1 1\n1 2 3 3 1\n0 1 2 2\n1 2 4 4\n1\n2 1\n";
 
 #[track_caller]
 fn held(name: &str, printed: &str) {
@@ -70,6 +75,48 @@ fn rows() {
 }
 
 #[test]
+fn both() {
+    let folder = Folder::new("both");
+    let files = [folder.file("left", LEFT), folder.file("right", RIGHT)];
+    let both = run(&["both", &files[0], &files[1]], "").ok().out;
+    for (name, command) in [("both_print.txt", "print"), ("both_list.txt", "list")] {
+        held(name, run(&[command], &both).ok().text());
+    }
+}
+
+// Pairs for each refusal: what is said, in their order.
+#[test]
+fn both_refused() {
+    let folder = Folder::new("both_refused");
+    let inputs: HashMap<_, _> = refused().into_iter().chain(labelled()).collect();
+    let mut said = String::new();
+    for (first, second) in [
+        ("01-short", "a"),
+        ("a", "02-start"),
+        ("06-climb", "01-length"),
+        ("04-row-weight", "08-empty"),
+        ("a", "08-field"),
+        ("05-nodes-far", "08-empty"),
+        ("10-zero", "06-climb-row"),
+        ("10-zero", "a"),
+        ("a", "10-differs"),
+        ("10-zero-sheet", "10-differs"),
+        ("a", "10-differs-sheet"),
+        ("10-dear", "10-dear"),
+        ("11-nodes", "11-nodes"),
+        ("11-links", "11-links"),
+        ("12-link", "12-link"),
+        ("a", "12-final"),
+    ] {
+        let files = [first, second].map(|name| folder.file(name, &inputs[name]));
+        let ran = run(&["both", &files[0], &files[1]], "");
+        assert_eq!((ran.status, ran.out.len()), (1, 0), "{first} {second}");
+        said += &ran.err;
+    }
+    held("both_refused.txt", &said.replace(&folder.path(""), ""));
+}
+
+#[test]
 fn pictures() {
     on("draw_a.txt", &["draw"], A);
     on("draw_a_list.txt", &["draw", "-n", "2"], A);
@@ -88,6 +135,7 @@ fn help() {
         "list",
         "best",
         "distances",
+        "both",
         "draw",
         "check",
     ] {
@@ -134,6 +182,25 @@ fn refused() -> Vec<(&'static str, Vec<u8>)> {
         ("08-weight", text("0 1 1 1 1e3\n")),
         ("08-infinity", text("0 1 1 1 Infinity\n1 infinity\n")),
         ("08-byte-order-mark", text("\u{feff}0\n")),
+    ]
+}
+
+// Inputs that a search takes, and that are refused beside another.
+fn labelled() -> Vec<(&'static str, Vec<u8>)> {
+    let text = |text: &str| text.as_bytes().to_vec();
+    let sheet = |rows: &str| run(&["compile"], rows).ok().out;
+    let (zero, differs) = ("1\n0 1  0 0 0.5\n", "0 1 1 1\n1 2 7 8\n2\n");
+    vec![
+        ("a", text(A)),
+        ("10-zero", text(zero)),
+        ("10-zero-sheet", sheet(zero)),
+        ("10-differs", text(differs)),
+        ("10-differs-sheet", sheet(differs)),
+        ("10-dear", text("0 45 7 8 128\n45 100\n")),
+        ("11-nodes", text("0 45 7 7 128\n45 100\n")),
+        ("11-links", text(&"0 1 7 7 128\n".repeat(129))),
+        ("12-link", text("1 2 8 8\n0 1 7 7 -64.015625\n")),
+        ("12-final", text("2 127.515625\n")),
     ]
 }
 

@@ -1,6 +1,7 @@
 /* Calls the library in every rounding mode, with denormal numbers kept and flushed to zero: each answer must be the one of the default
  * environment, cell by cell, and its costs those worked out here, also as the library reads them back. The one difference is a distance of 0 in which weights cancel: rounding
- * downward it is negative zero. All arithmetic of this program is in integers, so that no compiler can assume a mode for it. */
+ * downward it is negative zero. Such a sum of what two sheets both allow is positive zero in every mode. All arithmetic of this program is in integers, so that no
+ * compiler can assume a mode for it. */
 #include <fenv.h>
 #include <stdio.h>
 #include <stdlib.h>
@@ -277,6 +278,71 @@ static void compare_barred(uint32_t count, int32_t least) {
     compare_drawn("barred");
 }
 
+/* A chain of one label a link, and another with the same labels: what both allow has a link for each, of the sum of the two weights. */
+enum { BOTH_NODES = 33, BOTH_LINKS = (BOTH_NODES - 1) * WIDEST };
+static uint8_t one[BOTH_LINKS * 16 + BOTH_NODES * 12 + 20];
+static int32_t one_weight[BOTH_LINKS + 1];
+
+static void keep_one(void) {
+    memcpy(one, sheet, size);
+    memcpy(one_weight, weight, sizeof *weight * links);
+    one_weight[links] = final_weight;
+}
+
+/* The sum for link l, or for the final nodes where l is their count. */
+static int32_t sum_for(uint32_t l) {
+    int32_t other = l == links ? final_weight : weight[l];
+    return one_weight[l] == BARRED || other == BARRED ? BARRED : one_weight[l] + other;
+}
+
+static uint32_t number_due(void) {
+    for (uint32_t l = 0; l <= links; l++) {
+        int32_t sum = sum_for(l);
+        if (sum != BARRED && (sum > UNITS || sum < -UNITS)) return YELDMUR_SUM;
+    }
+    return YELDMUR_DONE;
+}
+
+static void check_both(const uint8_t *result, uint64_t told) {
+    uint64_t most = 16 * links + 12 * nodes * nodes + 20;
+    if (told != most || word(result + most - 8) != links) fail("another machine of what both allow");
+    for (uint32_t l = 0; l < links; l++) if (word(result + 16 * l + 8) != bits_of(sum_for(l))) fail("another sum");
+    if (word(result + most - 24) != bits_of(sum_for(links))) fail("another final sum");
+}
+
+static void compare_both(const char *kind) {
+    static uint8_t result[16 * BOTH_LINKS + 12 * BOTH_NODES * BOTH_NODES + 20];
+    uint32_t done = 0;
+    for (uint32_t m = 0; m < 8; m++) {
+        uint64_t told = 0;
+        enter(MODES[m / 2].mode, m % 2 ? FLUSHED : 0);
+        uint32_t number = yeldmur_two_probes(one, size, sheet, size, result, sizeof result, &told);
+        leave(MODES[m / 2].mode, m % 2 ? FLUSHED : 0);
+        if (number != number_due()) fail("another number for two sheets");
+        if (number == 0) check_both(result, told);
+        done += number == 0;
+    }
+    printf("both %s, %u nodes, %u links: answered in %u of 8\n", kind, nodes, links, done);
+}
+
+static void draw_two(const char *kind, int32_t least, int32_t other, uint32_t spread, int barred) {
+    draw_chain(BOTH_NODES, WIDEST, least, spread, 0);
+    if (barred) bar_links();
+    keep_one();
+    draw_chain(BOTH_NODES, WIDEST, other, spread, 0);
+    compare_both(kind);
+}
+
+static void compare_two(void) {
+    draw_two("dear", UNITS / 2 - 1, UNITS / 2 - 1, 2, 0);
+    draw_two("cheap", -UNITS / 2, -UNITS / 2, 2, 0);
+    draw_two("mixed", 1, -UNITS, UNITS, 0);
+    draw_two("zero", 0, 0, 1, 0);
+    draw_two("barred", UNITS, -1, 1, 1);
+    draw_two("off the grid", UNITS / 2, UNITS / 2, 2, 0);
+    draw_two("cancelled", UNITS, -UNITS, 1, 0);
+}
+
 /* A denormal weight is off the grid, also where it would be flushed to zero. */
 static void compare_denormal(void) {
     static const uint32_t BITS[] = {1, 0x7fffff, 0x80000001, 0x807fffff, 0x80000000};
@@ -312,5 +378,6 @@ int main(void) {
     compare_barred(33, -UNITS);
     compare_barred(NODES, UNITS - 1);
     compare_denormal();
+    compare_two();
     return 0;
 }

@@ -14,6 +14,10 @@ static uint8_t sheet[16 * LINKS + 12 * NODES + 20], *result;
 static uint32_t n, *work, values, states, links, taken, run_area[NODES];
 static uint64_t size, slots, bytes;
 
+/* Two sheets of which one answer is made, and the answer. */
+static struct { uint8_t bytes[sizeof sheet]; uint64_t size; } probes[2];
+static uint8_t allowed[YELDMUR_TWO_PROBES_BYTES];
+
 /* The most that rows of this sheet can take: 56 bytes a link, 23 a final node. */
 static uint8_t text[56 * LINKS + 23];
 static uint64_t text_bytes;
@@ -64,6 +68,11 @@ static void read_list(void) {
     if (yeldmur_reading(sheet, size, n, result, bytes, states, links, readings - 1, run_area, NODES, &count, &cost, &end)) exit(1);
 }
 
+static void two_probes(void) {
+    uint64_t told;
+    if (yeldmur_two_probes(probes[0].bytes, probes[0].size, probes[1].bytes, probes[1].size, allowed, sizeof allowed, &told)) exit(1);
+}
+
 static void fields(void) {
     uint32_t a, b, c, d;
     if (yeldmur_sheet_counts(sheet, size, &a, &b, &c, &d)) exit(1);
@@ -100,10 +109,35 @@ static void make_links(uint32_t dear) {
     }
 }
 
+/* A sheet for what two allow: so many links from each node but the last to that one, of labels from 1 to the most, in turn or drawn. */
+static void make_probe(uint32_t which, uint32_t nodes, uint32_t width, uint32_t labels, int in_turn) {
+    static uint32_t state = 1;
+    for (uint32_t l = 0; l < width * (nodes - 1); l++) {
+        state = state * 1664525u + 1013904223u;
+        uint32_t label = 1 + (in_turn ? l : state >> 12) % labels, fields[] = {label, label, 0, nodes - 1};
+        memcpy(link_words + 4 * l, fields, sizeof fields);
+    }
+    for (uint32_t v = 0; v < nodes; v++) {
+        uint32_t fields[] = {v + 1 == nodes ? 0 : width, 0, 0};
+        memcpy(node_words + 3 * v, fields, sizeof fields);
+    }
+    uint32_t links_words = 4 * width * (nodes - 1);
+    if (yeldmur_write_sheet(link_words, links_words, node_words, 3 * nodes, 0, probes[which].bytes, sizeof probes[which].bytes, &probes[which].size)) exit(1);
+}
+
+/* As many pairs of links as may be, or nearly: of one label, or of many in disorder, one link of each label in the first. */
+static void make_probes(uint32_t round) {
+    static const uint32_t LABELS[] = {1, 16, 256, 4096};
+    uint32_t labels = LABELS[round];
+    make_probe(0, 2, labels == 1 ? 128 : labels, labels, 1);
+    if (labels == 1) make_probe(1, 2, 128, labels, 1);
+    else make_probe(1, NODES / 2, 2 * WIDTH, labels, 0);
+}
+
 static const struct { void (*call)(void); const char *name; } CALLS[] = {
     {write_sheet, "writing"}, {read_sheet, "reading"}, {to_rows, "sheet to rows"}, {to_sheet, "rows to sheet"},
     {areas, "areas"}, {distances, "distances"}, {read_distance, "distances read back"}, {list, "lists"}, {read_list, "lists read back"},
-    {fields, "fields of a sheet"}};
+    {fields, "fields of a sheet"}, {two_probes, "what two sheets allow"}};
 
 enum { COUNT = sizeof CALLS / sizeof *CALLS };
 
@@ -111,6 +145,7 @@ int main(void) {
     size_t most[COUNT] = {0}, plain = written(nothing);
     for (uint32_t round = 0; round < 4; round++) {
         n = round % 2 ? 64 : 1;
+        make_probes(round);
         make_links(round / 2);
         write_sheet();
         areas();
@@ -123,8 +158,10 @@ int main(void) {
         free(work), free(result);
     }
     for (uint32_t i = 0; i < COUNT; i++) {
+        int two = CALLS[i].call == two_probes;
+        const char *within = most[i] <= (two ? YELDMUR_TWO_PROBES_STACK : YELDMUR_STACK) ? "within" : "beyond";
         fprintf(stderr, "%s: %zu bytes of stack\n", CALLS[i].name, most[i]);
-        printf("%s: %s YELDMUR_STACK\n", CALLS[i].name, most[i] <= YELDMUR_STACK ? "within" : "beyond");
+        printf("%s: %s %s\n", CALLS[i].name, within, two ? "YELDMUR_TWO_PROBES_STACK" : "YELDMUR_STACK");
     }
     return 0;
 }

@@ -1,4 +1,5 @@
-"""Distances and lists of the cheapest readings of a machine, over Yeldmur's shared library.
+"""Distances and lists of the cheapest readings of a machine, and the machine of what two both allow, over Yeldmur's
+shared library.
 
 A *sheet* is a machine of nodes and links, as bytes. A *reading* is a run of links from its start to a final node;
 its cost is the sum of its weights and the final weight, and is finite: no reading goes over a link or ends at a node
@@ -20,11 +21,15 @@ Python's numbers, is plain Python with tests.
 >>> [(reading.cost, [link.ilabel for link in reading.links]) for reading in list_readings(sheet, 2)]
 [(112, [1, 3]), (112, [2, 4])]
 
+Two sheets of the same bake give the sheet of what both allow, by `two_probes`: its readings are the pairs of readings
+with the same labels, and cost their sum.
+
 `Areas` keeps the memory for calls in a loop. `raw` has the library's calls themselves, in areas that the caller
 lends.
 """
 from . import raw
 from .limits import LINK_LIMIT, LIST_LIMIT, NODE_LIMIT, WEIGHT_LIMIT
+from .probes import two_probes
 from .refusal import Refusal
 from .search import Areas, List, Reading, best, distances, list_readings
 from .sheet import Link, Sheet
@@ -47,4 +52,5 @@ __all__ = [
     "distances",
     "list_readings",
     "raw",
+    "two_probes",
 ]

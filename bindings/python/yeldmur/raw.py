@@ -156,6 +156,15 @@ def shortest_path(sheet: Readable, n: int, work: WordArea, result: ByteArea) -> 
     return Listed(states.value, links.value, taken.value)
 
 
+def two_probes(first: Readable, second: Readable, result: ByteArea) -> int:
+    """Writes the sheet of what two sheets both allow and tells its bytes: tests 1 to 6 of the first sheet, 1 to 6
+    of the second, then 10, 11, 12 and 21. It takes some 390 KB of stack."""
+    size = c_uint64()
+    areas = (first, len(first), second, len(second), result, len(result))
+    library.yeldmur_two_probes(*areas, byref(size))
+    return size.value
+
+
 def readings(result: Readable, n: int, states: int, links: int) -> int:
     """How many readings the result of a list for n holds: tests 7, then 30."""
     count = c_uint32()

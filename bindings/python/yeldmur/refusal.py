@@ -12,6 +12,9 @@ _WORDS = {
     7: "n above 64",
     8: "a text without rows, a row that cannot be read or a second final row for a node",
     9: "a sheet that has no rows",
+    10: "a label that is 0 or differs between input and output",
+    11: "a product above 2,048 nodes or 16,384 links",
+    12: "a finite sum off the grid",
     20: "work area shorter than needed",
     21: "result area shorter than this very answer",
     30: "a result that is no answer",
@@ -23,7 +26,8 @@ class Refusal(Exception):
     """Why a call was refused: a number, here by name, and what it means in words.
 
     Tests go by number over the whole sheet, so that a sheet with more than one fault gets the lowest;
-    8 alone, of a text, is tested before all others. N is the count of a sheet's nodes, T that of its links.
+    8 alone, of a text, is tested before all others. Of two sheets all of the first's tests come before those of
+    the second, and 10 to 12 after both. N is the count of a sheet's nodes, T that of its links.
 
     >>> from yeldmur import Refusal, Sheet
     >>> try:
@@ -42,6 +46,9 @@ class Refusal(Exception):
     COUNT = 7
     ROWS = 8
     NO_ROWS = 9
+    LABELS = 10
+    PRODUCT = 11
+    SUM = 12
     WORK = 20
     RESULT = 21
     NO_ANSWER = 30

@@ -1,4 +1,4 @@
-//! The sixteen functions of the static library. All that is `unsafe` in this crate stands here: each slice goes over as
+//! The seventeen functions of the static library. All that is `unsafe` in this crate stands here: each slice goes over as
 //! its pointer and its length, each number to be told as a pointer. The functions have no requirements; that they stay inside the
 //! slices is proved, and so is every value that they leave there. A function returns 0 or the number of the refusal,
 //! and with a refusal the numbers to be told keep their values.
@@ -71,6 +71,15 @@ extern "C" {
     ) -> u32;
     fn yeldmur_rows_sheet_bytes(text: *const u8, text_bytes: usize, bytes: *mut u64) -> u32;
     fn yeldmur_sheet_rows_bytes(sheet: *const u8, sheet_bytes: usize, bytes: *mut u64) -> u32;
+    fn yeldmur_two_probes(
+        first: *const u8,
+        first_bytes: usize,
+        second: *const u8,
+        second_bytes: usize,
+        result: *mut u8,
+        result_bytes: usize,
+        size: *mut u64,
+    ) -> u32;
     fn yeldmur_readings(
         result: *const u8,
         result_bytes: usize,
@@ -271,6 +280,23 @@ pub fn sheet_rows_bytes(sheet: &[u8], bytes: &mut u64) -> u32 {
     // SAFETY: the pointer and the length are of one slice, lent for the call, that is only read; `bytes`,
     // which is written to, is lent mutably, so that it overlaps nothing.
     unsafe { yeldmur_sheet_rows_bytes(sheet.as_ptr(), sheet.len(), bytes) }
+}
+
+/// Writes the sheet of what two sheets both allow: tests 1 to 6 of the first, 1 to 6 of the second, then 10, 11, 12 and 21.
+pub fn two_probes(first: &[u8], second: &[u8], result: &mut [u8], size: &mut u64) -> u32 {
+    // SAFETY: each pointer and length are of one slice, lent for the call; the two that are written to, `result` and
+    // `size`, are lent mutably, so that they overlap nothing. The two sheets are only read, and may be one.
+    unsafe {
+        yeldmur_two_probes(
+            first.as_ptr(),
+            first.len(),
+            second.as_ptr(),
+            second.len(),
+            result.as_mut_ptr(),
+            result.len(),
+            size,
+        )
+    }
 }
 
 /// How many readings the result of a list for n holds, by the states and links that its call told: tests 7, then 30.

@@ -165,6 +165,14 @@ pub fn shortest_path(
     })
 }
 
+/// Writes the sheet of what two sheets both allow, as [`two_probes`](crate::two_probes) has it, and tells its length: tests 1 to 6 of
+/// the first sheet, 1 to 6 of the second, then 10, 11, 12 and 21. It takes some 390 KB of stack.
+pub fn two_probes(first: &[u8], second: &[u8], result: &mut [u8]) -> Result<usize, Refusal> {
+    let mut size = 0;
+    told(ffi::two_probes(first, second, result, &mut size))?;
+    Ok(size as usize)
+}
+
 /// How many readings the result of [`shortest_path`] for n holds: tests 7, then 30 where the result is shorter than the counts told
 /// say, or has more than n readings. What follows the answer's bytes is not looked at.
 pub fn readings(result: &[u8], n: u32, listed: Listed) -> Result<u32, Refusal> {

@@ -5,8 +5,9 @@ use std::error::Error;
 use std::fmt;
 
 /// Why a call was refused. Tests go by number over the whole sheet, so that a sheet with more than one
-/// fault gets the lowest number; 8 alone, of a text, is tested before all others. N is the number of nodes
-/// of a sheet, T that of its links.
+/// fault gets the lowest number; 8 alone, of a text, is tested before all others. Of two sheets all of the
+/// first's tests come before those of the second, and 10 to 12 after both. N is the number of nodes of a
+/// sheet, T that of its links.
 #[derive(Clone, Copy, Debug, PartialEq, Eq, Hash)]
 #[non_exhaustive]
 pub enum Refusal {
@@ -31,6 +32,13 @@ pub enum Refusal {
     /// 9: a sheet that has no rows. A sheet has rows if its start is present and has a link or a mark, and its
     /// last node has a link, a mark or a link to it.
     NoRows,
+    /// 10: of two sheets, a link of either, reached or not, whose input label is 0 or is not its output label.
+    Labels,
+    /// 11: what two sheets both allow has more than 2,048 nodes or 16,384 links.
+    Product,
+    /// 12: the weights of two links with one label, or of two final nodes, have a finite sum off the grid, more than 128
+    /// either way.
+    Sum,
     /// 20: work area shorter than needed.
     WorkArea,
     /// 21: result area shorter than this very answer.
@@ -41,7 +49,7 @@ pub enum Refusal {
     Absent,
 }
 
-const ALL: [Refusal; 13] = [
+const ALL: [Refusal; 16] = [
     Refusal::Layout,
     Refusal::Start,
     Refusal::Next,
@@ -51,6 +59,9 @@ const ALL: [Refusal; 13] = [
     Refusal::Count,
     Refusal::Rows,
     Refusal::NoRows,
+    Refusal::Labels,
+    Refusal::Product,
+    Refusal::Sum,
     Refusal::WorkArea,
     Refusal::ResultArea,
     Refusal::NoAnswer,
@@ -70,6 +81,9 @@ impl Refusal {
             Refusal::Count => 7,
             Refusal::Rows => 8,
             Refusal::NoRows => 9,
+            Refusal::Labels => 10,
+            Refusal::Product => 11,
+            Refusal::Sum => 12,
             Refusal::WorkArea => 20,
             Refusal::ResultArea => 21,
             Refusal::NoAnswer => 30,
@@ -99,6 +113,9 @@ impl Refusal {
                 "a text without rows, a row that cannot be read or a second final row for a node"
             }
             Refusal::NoRows => "a sheet that has no rows",
+            Refusal::Labels => "a label that is 0 or differs between input and output",
+            Refusal::Product => "a product above 2,048 nodes or 16,384 links",
+            Refusal::Sum => "a finite sum off the grid",
             Refusal::WorkArea => "work area shorter than needed",
             Refusal::ResultArea => "result area shorter than this very answer",
             Refusal::NoAnswer => "a result that is no answer",

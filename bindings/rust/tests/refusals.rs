@@ -137,7 +137,7 @@ fn raw_calls_change_nothing() {
 fn numbers_and_words() {
     for number in 0..100 {
         let refusal = Refusal::from_number(number);
-        let known = matches!(number, 1..=9 | 20 | 21 | 30 | 31);
+        let known = matches!(number, 1..=12 | 20 | 21 | 30 | 31);
         assert_eq!(refusal.is_some(), known);
         assert_eq!(refusal.map(Refusal::number), known.then_some(number));
     }
@@ -145,6 +145,18 @@ fn numbers_and_words() {
     assert_eq!(
         climb.to_string(),
         "refused 6: a link that does not lead to a higher node"
+    );
+    assert_eq!(
+        Refusal::Labels.to_string(),
+        "refused 10: a label that is 0 or differs between input and output"
+    );
+    assert_eq!(
+        Refusal::Product.to_string(),
+        "refused 11: a product above 2,048 nodes or 16,384 links"
+    );
+    assert_eq!(
+        Refusal::Sum.to_string(),
+        "refused 12: a finite sum off the grid"
     );
     assert_eq!(
         Refusal::NoAnswer.to_string(),

@@ -10,17 +10,10 @@ use crate::diagnose::{fault, Fault, Place, Tests};
 use crate::input::{Input, Source};
 use crate::json::Object;
 
-// What the library says: a sheet that a search accepts, or the refusal.
-fn accepted(input: &Input) -> Result<Sheet, Refusal> {
-    let sheet = input.sheet_to_search()?;
-    raw::areas(sheet.bytes(), 0)?;
-    Ok(sheet)
-}
-
 /// The library's verdict beside the place that is found apart from it.
 pub(super) fn outcome(options: &Options, source: &Source, input: &Input) -> Outcome {
     let found = fault(input.form, &input.bytes, Tests::Search);
-    compared(options, source, input, accepted(input), found)
+    compared(options, source, input, input.accepted(), found)
 }
 
 // Where the two differ it is said, and nothing else.

@@ -1,12 +1,15 @@
-//! The answer to one input, by command.
+//! The answer to one input, or to two together, by command.
 #![forbid(unsafe_code)]
 
+mod both;
 mod check;
 mod distances;
 mod list;
 mod picture;
 mod refused;
 mod table;
+
+use std::fmt::Display;
 
 use yeldmur::{Areas, Refusal};
 
@@ -30,7 +33,7 @@ pub enum Status {
 pub struct Outcome {
     /// What is written where answers go.
     pub output: Vec<u8>,
-    /// What is said on standard error, without the input's name.
+    /// What is said on standard error.
     pub message: Option<String>,
     /// What it means for the exit status.
     pub status: Status,
@@ -52,6 +55,12 @@ impl Outcome {
             status: Status::Failed,
         }
     }
+
+    // With what it is about before its message.
+    fn about(mut self, what: impl Display) -> Outcome {
+        self.message = self.message.map(|message| format!("{what}: {message}"));
+        self
+    }
 }
 
 // Why there is no answer.
@@ -66,17 +75,26 @@ impl From<Refusal> for Trouble {
     }
 }
 
-/// The answer to an input. A program gets a line for one that cannot be read, too.
-pub fn answer(options: &Options, areas: &mut Areas, source: &Source) -> Outcome {
-    let mut outcome = match source.read() {
-        Ok(bytes) => answer_to(options, areas, source, &Input::new(bytes)),
-        Err(error) => Outcome::failed(format!("cannot be read: {error}")),
+/// The answer at a place: to the input there, or to two together. A program gets a line for an input that cannot be read, too.
+pub fn answer(options: &Options, areas: &mut Areas, place: usize) -> Outcome {
+    if options.command == Command::Both {
+        return both::outcome(options);
+    }
+    let source = &options.inputs[place];
+    let mut outcome = match read(source) {
+        Ok(input) => answer_to(options, areas, source, &input),
+        Err(unread) => unread,
     };
     if options.json && outcome.output.is_empty() {
         let error = outcome.message.as_deref().unwrap_or_default();
         outcome.output = line(document(source).text("error", error));
     }
-    outcome
+    outcome.about(source)
+}
+
+fn read(source: &Source) -> Result<Input, Outcome> {
+    let unread = |error| Outcome::failed(format!("cannot be read: {error}"));
+    source.read().map(Input::new).map_err(unread)
 }
 
 fn answer_to(options: &Options, areas: &mut Areas, source: &Source, input: &Input) -> Outcome {

@@ -15,16 +15,21 @@ pub(super) fn outcome(
     refusal: Refusal,
 ) -> Outcome {
     let place = place(input, refusal);
-    let document = document(source)
-        .value("refused", refusal.number())
-        .text("meaning", refusal.words())
-        .text("place", &place);
+    let mut outcome = refused(refusal, &place);
+    if options.json {
+        let document = document(source)
+            .value("refused", refusal.number())
+            .text("meaning", refusal.words())
+            .text("place", &place);
+        outcome.output = line(document);
+    }
+    outcome
+}
+
+/// The message alone, with the place in words.
+pub(super) fn refused(refusal: Refusal, place: &str) -> Outcome {
     Outcome {
-        output: if options.json {
-            line(document)
-        } else {
-            Vec::new()
-        },
+        output: Vec::new(),
         message: Some(format!("{}: {place}", said(refusal))),
         status: Status::Refused,
     }
@@ -40,18 +45,20 @@ pub(super) fn said(refusal: Refusal) -> String {
     format!("refused {}: {words}", refusal.number())
 }
 
-// The fault behind a refusal, where it is found with the same number.
-fn found(input: &Input, refusal: Refusal) -> Option<Fault> {
-    let tests = match refusal {
-        Refusal::NoRows => Tests::Rows,
-        _ => Tests::Search,
-    };
-    fault(input.form, &input.bytes, tests).filter(|fault| fault.number == refusal.number())
-}
-
 /// Where the fault behind a refusal is, in words.
 pub(super) fn place(input: &Input, refusal: Refusal) -> String {
-    match (found(input, refusal), refusal) {
+    let tests = match refusal {
+        Refusal::NoRows => Tests::Rows,
+        Refusal::Labels => Tests::Labels,
+        _ => Tests::Search,
+    };
+    worded(fault(input.form, &input.bytes, tests), refusal)
+}
+
+/// A fault in words, where it is found with the number of the refusal.
+pub(super) fn worded(found: Option<Fault>, refusal: Refusal) -> String {
+    let same = found.filter(|fault| fault.number == refusal.number());
+    match (same, refusal) {
         (Some(fault), _) => fault.to_string(),
         (None, Refusal::ResultArea) => "there is no memory for the sheet".to_string(),
         (None, _) => "the place was not found; please report this".to_string(),

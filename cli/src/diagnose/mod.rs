@@ -3,6 +3,7 @@
 //! It reads no result, and nothing that is answered comes from here; the rest of the command reads no bytes at all.
 #![forbid(unsafe_code)]
 
+mod both;
 mod form;
 mod rows;
 mod sheet;
@@ -10,13 +11,17 @@ mod weight;
 
 use std::fmt;
 
+pub use both::fault as fault_of_both;
 pub use form::{form, Form};
 
-/// Which tests are made, of a sheet: 1 to 4, then those of a search or that of rows. Of rows: 8, 1 and 4, then those of a search.
+/// Which tests are made, of a sheet: 1 to 4, then those of a search, with or without that of labels, or that of rows. Of rows: 8, 1 and 4,
+/// then the same.
 #[derive(Clone, Copy, Debug, PartialEq, Eq)]
 pub enum Tests {
     /// 5 and 6.
     Search,
+    /// 5, 6 and 10, of a sheet that is one of two.
+    Labels,
     /// 9.
     Rows,
 }

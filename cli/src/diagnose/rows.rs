@@ -15,9 +15,9 @@ struct Field<'a> {
     text: &'a [u8],
 }
 
-// A field that is read as a node.
+// A field that is read as a whole number: a node or a label.
 #[derive(Clone, Copy)]
-struct Node {
+struct Whole {
     column: usize,
     number: u32,
 }
@@ -26,14 +26,15 @@ struct Node {
 struct Row<'a> {
     row: usize,
     // the source or the final node
-    node: Node,
-    // of a link
-    next: Option<Node>,
+    node: Whole,
+    // of a link: where it leads, and its two labels
+    next: Option<Whole>,
+    labels: Option<[Whole; 2]>,
     weight: Option<(Field<'a>, Written<'a>)>,
 }
 
 impl Row<'_> {
-    fn nodes(&self) -> impl Iterator<Item = Node> {
+    fn nodes(&self) -> impl Iterator<Item = Whole> {
         [Some(self.node), self.next].into_iter().flatten()
     }
 
@@ -52,6 +53,9 @@ pub(super) fn fault(text: &[u8], tests: Tests) -> Option<Fault> {
     let read = number_too_high(&rows).or_else(|| off_the_grid(&rows));
     read.or_else(|| match tests {
         Tests::Search => limits(&rows).or_else(|| climb(&rows)),
+        Tests::Labels => limits(&rows)
+            .or_else(|| climb(&rows))
+            .or_else(|| labels(&rows)),
         // rows that can be read give a sheet that has rows
         Tests::Rows => None,
     })
@@ -88,6 +92,7 @@ fn read_row(row: usize, line: &[u8]) -> Result<Row<'_>, Fault> {
         row,
         node: numbers[0],
         next: numbers.get(1).copied(),
+        labels: numbers.get(2..4).map(|labels| [labels[0], labels[1]]),
         weight,
     })
 }
@@ -130,7 +135,7 @@ fn fields(line: &[u8]) -> Vec<Field<'_>> {
     fields
 }
 
-fn number(field: &Field) -> Result<Node, Wrong> {
+fn number(field: &Field) -> Result<Whole, Wrong> {
     let column = field.column;
     if field.text.starts_with("\u{feff}".as_bytes()) {
         return Err((column, "a byte order mark, which no row has".to_string()));
@@ -143,7 +148,7 @@ fn number(field: &Field) -> Result<Node, Wrong> {
     });
     let high = || format!("{} is above 4294967295", shown(field.text));
     let number = value.ok_or_else(|| (column, high()))?;
-    Ok(Node { column, number })
+    Ok(Whole { column, number })
 }
 
 fn written(field: Field) -> Result<(Field, Written), Wrong> {
@@ -210,13 +215,31 @@ fn climb(rows: &[Row]) -> Option<Fault> {
     })
 }
 
+fn labels(rows: &[Row]) -> Option<Fault> {
+    rows.iter().find_map(|row| {
+        let [ilabel, olabel] = row.labels?;
+        if ilabel.number == 0 {
+            return Some(row.fault(10, ilabel.column, "the input label is 0"));
+        }
+        let why = format!(
+            "input label {}, output label {}",
+            ilabel.number, olabel.number
+        );
+        (ilabel.number != olabel.number).then(|| row.fault(10, olabel.column, why))
+    })
+}
+
 #[cfg(test)]
 mod tests {
     use super::*;
 
-    fn found(text: &str) -> String {
-        let fault = fault(text.as_bytes(), Tests::Search);
+    fn found_by(text: &str, tests: Tests) -> String {
+        let fault = fault(text.as_bytes(), tests);
         fault.map_or("none".to_string(), |f| format!("{} {f}", f.number))
+    }
+
+    fn found(text: &str) -> String {
+        found_by(text, Tests::Search)
     }
 
     #[track_caller]
@@ -224,6 +247,32 @@ mod tests {
         for (text, said) in cases {
             assert_eq!(found(text), said, "{text:?}");
         }
+    }
+
+    #[test]
+    fn labels_of_two_kinds() {
+        for (text, said) in [
+            ("0 1 7 7\n1\n", "none"),
+            (
+                "0 1 7 7\n1  2 0 0\n",
+                "10 row 2, column 6: the input label is 0",
+            ),
+            (
+                "1\n0 1 7 8 0.5\n",
+                "10 row 2, column 7: input label 7, output label 8",
+            ),
+            (
+                "0 1 7 0\n",
+                "10 row 1, column 7: input label 7, output label 0",
+            ),
+            (
+                "0 1 7 8\n1 1 0 0\n",
+                "6 row 2, column 3: leads from node 1 to node 1",
+            ),
+        ] {
+            assert_eq!(found_by(text, Tests::Labels), said, "{text:?}");
+        }
+        assert_eq!(found("0 1 7 8\n"), "none");
     }
 
     #[test]

@@ -17,6 +17,8 @@ struct Fields<'a> {
 // A link's fields, with the node that it leaves.
 struct Link {
     source: u32,
+    ilabel: u32,
+    olabel: u32,
     weight: u32,
     next: u32,
 }
@@ -79,6 +81,8 @@ impl<'a> Fields<'a> {
             let at = 16 * number as usize;
             let link = Link {
                 source,
+                ilabel: self.word(at),
+                olabel: self.word(at + 4),
                 weight: self.word(at + 8),
                 next: self.word(at + 12),
             };
@@ -108,6 +112,9 @@ pub(super) fn fault(bytes: &[u8], tests: Tests) -> Option<Fault> {
         .or_else(|| final_weights(sheet));
     read.or_else(|| match tests {
         Tests::Search => limits(sheet).or_else(|| climb(sheet)),
+        Tests::Labels => limits(sheet)
+            .or_else(|| climb(sheet))
+            .or_else(|| labels(sheet)),
         Tests::Rows => bare_start(sheet).or_else(|| bare_last(sheet)),
     })
 }
@@ -214,6 +221,20 @@ fn climb(sheet: &Fields) -> Option<Fault> {
         .find(|(_, link)| link.next <= link.source)?;
     let why = format!("leads from node {} to node {}", link.source, link.next);
     Some(Fault::new(6, Place::Link(number), why))
+}
+
+fn labels(sheet: &Fields) -> Option<Fault> {
+    sheet.each_link().find_map(|(number, link)| {
+        let (ilabel, olabel) = (link.ilabel, link.olabel);
+        let why = if ilabel == 0 {
+            "its input label is 0".to_string()
+        } else if ilabel != olabel {
+            format!("its input label is {ilabel}, its output label {olabel}")
+        } else {
+            return None;
+        };
+        Some(Fault::new(10, Place::Link(number), why))
+    })
 }
 
 fn bare_start(sheet: &Fields) -> Option<Fault> {

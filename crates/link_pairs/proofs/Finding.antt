@@ -2,46 +2,36 @@
 use mathlib.Core.Path.{◌≡◌, refl, sym, ap, ◌∙◌, subst}
 use mathlib.Core.Bool.{Bool, true, false, cond}
 use mathlib.Core.List.Memᴰ
-use mathlib.Core.List.{List, [], ◌∷◌, ◌++◌, map, flat_map}
+use mathlib.Core.List.{List, [], ◌∷◌, ◌++◌, map, map-id}
 use Prim.Native.Nat.{ℕ, zero, suc, ◌+◌, ◌*◌, ◌≤◌, ◌<◌}
 use native.Mathlib.Omega.{arith}
 use lib.Dec.{eqb}
-use lib.ListN.{length}
+use lib.ListN.{length, take, length-map}
+use lib.Seq.{take-length}
 use borrow.Author.Tests.{eqb-true, eq-eqb}
 use Rattle.tropical_weight.specs.Limits.{node_limit, link_limit}
 use Rattle.sheet.specs.Below.{list_below}
 use Rattle.sheet.specs.Machine.{Machine}
 use Rattle.sheet.proofs.Apart.{both}
-use Rattle.sheet.proofs.Below.{flat-snoc}
-use Rattle.machine.specs.Readings.{link}
+use Rattle.machine.specs.Readings.{link, keep}
 use Rattle.machine.specs.Climbs.{Climbs}
 use Rattle.machine.specs.Demand.{◌∈◌, NoDup}
-use Rattle.machine.proofs.Lists.{Perm, mem-eq, map-mem, mem-map, below-mem, mem_below, map-append, nodup_append, perm-mem, perm-sym, keep-mem, mem-keep}
-use Rattle.sorted_keys.specs.Sorted.{Climbing}
-use Rattle.sorted_keys.proofs.Orders.{climbing-one, climbing-append}
+use Rattle.machine.proofs.Lists.{Perm, thru, perm-eq, mem-eq, map-mem, mem-map, below-mem, mem_below, map-append, nodup_append, nodup-map-in, nodup-length, perm-mem, perm-sym, perm-nodup, keep-mem, mem-keep, keep-nodup}
+use Rattle.sorted_keys.specs.Sorted.{Sorted, Climbing}
+use Rattle.sorted_keys.proofs.Orders.{climbing-one, climbing-append, sorted-is}
 use Rattle.product.specs.Joins.{join_below}
 use Rattle.product.specs.Product.{Pair, nodes, source_for, meet, pair_if, pairs}
 use Rattle.product.specs.Keys.{link_key, key_label, key_node, key_link, link_keys, pair_key, pair_keys}
-use Rattle.product.proofs.Joins.{join-mem, mem-join}
-use Rattle.product.proofs.Pairs.{pairs-meet, meet-pairs, of_node, of-link, in_one, first-inside, second-inside}
+use Rattle.product.proofs.Joins.{flat-below, join-same, join-mem, mem-join, join-nodup-below}
+use Rattle.product.proofs.Pairs.{pairs-meet, pairs-once, meet-pairs, of_node, of-link, in_one, first-inside, second-inside}
 use Rattle.link_pairs.specs.Found.{partners, pair_of, pairs_of, found}
 use Rattle.link_pairs.proofs.LinkKeys.{key_at}
 
 -- ---- lists below a bound, joined
-flat-below : (g : ℕ → List ℕ) (n : ℕ) (f : ℕ → ℕ) → flat_map g (list_below n f) ≡ join_below n (λ i. g (f i))
-unfolding list_below join_below flat_map
-flat-below g zero f = refl
-flat-below g (suc n) f = flat-snoc g (list_below n f) (f n) ∙ ap (λ (l : List ℕ). l ++ g (f n)) (flat-below g n f)
-
 map-join : (g : Pair → ℕ) (n : ℕ) (f : ℕ → List Pair) → map g (join_below n f) ≡ join_below n (λ i. map g (f i))
 unfolding join_below
 map-join g zero f = refl
 map-join g (suc n) f = map-append g (join_below n f) (f n) ∙ ap (λ (l : List ℕ). l ++ map g (f n)) (map-join g n f)
-
-join-same : (n : ℕ) (f g : ℕ → List ℕ) → ((i : ℕ) → f i ≡ g i) → join_below n f ≡ join_below n g
-unfolding join_below
-join-same zero f g e = refl
-join-same (suc n) f g e = λ i. join-same n f g e i ++ e n i
 
 join-climbs : (n : ℕ) (f : ℕ → List ℕ) → ((i : ℕ) → i < n → Climbing (f i)) → ((i j x y : ℕ) → i < j → j < n → x ∈ f i → y ∈ f j → x < y) → Climbing (join_below n f)
 unfolding join_below
@@ -116,6 +106,20 @@ module _ (a b : Machine) (c : Climbs a) (d : Climbs b) (few-first : nodes a ≤ 
       (λ i j x y e f p q. let r = in-keys v i p in let s = in-keys v j q in omega (arith, r.1, r.2, s.2)))
       (λ i j x y e f p q. let r = in-nodes i p in let s = in-nodes j q in omega (arith, r.2, r.3, r.4, s.4)))
 
+  -- none of them is there twice, nor is one of the second's links
+  keys-once : NoDup (pair_keys a b)
+  unfolding pair_keys
+  keys-once = nodup-map-in (key_of a b) (pairs a b) (λ p q m n e.
+      let r = pairs-meet a b m in
+      let s = pairs-meet a b n in
+      let same-first : p.first ≡ q.first = omega (arith, e, r.in-first, r.in-second, s.in-first, s.in-second) in
+      let same-second : p.second ≡ q.second = omega (arith, e, r.in-first, r.in-second, s.in-first, s.in-second) in
+      λ i. record { first = same-first i; second = same-second i }) (pairs-once a b)
+
+  seconds-once : NoDup (link_keys b)
+  unfolding link_keys
+  seconds-once = nodup-below (key_at b) (length b.links) (λ i j h o e. omega (arith, e, h, o))
+
   -- ---- what is found, by any order of the second's keys
   module _ (seconds : List ℕ) (same : Perm seconds (link_keys b)) where
     abbrev of-key : ℕ → List ℕ
@@ -162,14 +166,14 @@ module _ (a b : Machine) (c : Climbs a) (d : Climbs b) (few-first : nodes a ≤ 
         let s = in-partners l h r.1 in
         (s.0, s.1, r.2 ∙ ap (pair_of (nodes b) (key_at a l)) s.2 ∙ made l s.0 h s.1, s.3)
 
-    pub found-pairs : (x : ℕ) → x ∈ found (nodes b) seconds (link_keys a) → x ∈ pair_keys a b
+    found-pairs : (x : ℕ) → x ∈ found (nodes b) seconds (link_keys a) → x ∈ pair_keys a b
     unfolding pair_keys
     found-pairs x m =
         let r = mem-join (length a.links) of-key (subst (λ (l : List ℕ). x ∈ l) found-joined m) in
         let s = in-found r.0 r.1 r.2 in
         mem-eq (sym s.2) (map-mem (key_of a b) (meet-pairs a b c d (record { first = r.0; second = s.0 }) (record { in-first = r.1; in-second = s.1; same-label = s.3 })))
 
-    pub pairs-found : (x : ℕ) → x ∈ pair_keys a b → x ∈ found (nodes b) seconds (link_keys a)
+    pairs-found : (x : ℕ) → x ∈ pair_keys a b → x ∈ found (nodes b) seconds (link_keys a)
     unfolding pair_keys
     pairs-found x m =
         let r = mem-map (key_of a b) (pairs a b) m in
@@ -179,3 +183,38 @@ module _ (a b : Machine) (c : Climbs a) (d : Climbs b) (few-first : nodes a ≤ 
         (join-mem (length a.links) of-key p.first s.in-first
         (mem-eq (made p.first p.second s.in-first s.in-second ∙ sym r.2)
         (map-mem (pair_of (nodes b) (key_at a p.first)) (of-partner p.first p.second s.in-first s.in-second s.same-label))))
+
+    -- none of it twice
+    partners-once : (key : ℕ) → NoDup (partners key seconds)
+    unfolding partners
+    partners-once key =
+        let p : ℕ → Bool = λ k. eqb (key_label k) (key_label key) in
+        subst NoDup (map-id (keep p seconds)) (keep-nodup (λ k. k) p seconds (subst NoDup (sym (map-id seconds)) (perm-nodup (perm-sym same) seconds-once)))
+
+    of-key-once : (l : ℕ) → l < length a.links → NoDup (of-key l)
+    of-key-once l h = nodup-map-in (pair_of (nodes b) (key_at a l)) (partners (key_at a l) seconds) (λ x y m n e.
+        let r = in-partners l h m in
+        let s = in-partners l h n in
+        let z : pair_key (source_for a b l r.0) l r.0 ≡ pair_key (source_for a b l s.0) l s.0 = sym (made l r.0 h r.1) ∙ ap (pair_of (nodes b) (key_at a l)) (sym r.2) ∙ e ∙ ap (pair_of (nodes b) (key_at a l)) s.2 ∙ made l s.0 h s.1 in
+        let k : r.0 ≡ s.0 = omega (arith, z, r.1, s.1) in
+        r.2 ∙ ap (key_at b) k ∙ sym s.2) (partners-once (key_at a l))
+
+    found-once : NoDup (found (nodes b) seconds (link_keys a))
+    found-once = subst NoDup (sym found-joined) (join-nodup-below (length a.links) of-key of-key-once (λ i j x h o p q.
+        let r = in-found i h p in
+        let s = in-found j o q in
+        omega (arith, sym r.2 ∙ s.2, r.1, s.1, h, o)))
+
+    -- so there are as many
+    pub found-length : length (found (nodes b) seconds (link_keys a)) ≡ length (pairs a b)
+    unfolding pair_keys
+    found-length =
+        let l = found (nodes b) seconds (link_keys a) in
+        omega (arith, nodup-length l (pair_keys a b) found-once found-pairs, nodup-length (pair_keys a b) l keys-once pairs-found, length-map (pairs a b) (key_of a b))
+
+    -- and sorted they are the product's, in whatever order they were found
+    pub found-sorted : (before after : List ℕ) → Perm before (found (nodes b) seconds (link_keys a)) → Sorted (length before) before after → take (length before) after ≡ pair_keys a b
+    found-sorted before after p s =
+        let all : Perm (take (length before) before) (found (nodes b) seconds (link_keys a)) = thru (perm-eq (take-length before)) p in
+        sorted-is (length before) before after (pair_keys a b) s (omega arith) (perm-nodup (perm-sym all) found-once) pair-keys-climb
+        (λ x m. perm-mem (perm-sym all) (pairs-found x m)) (λ x m. found-pairs x (perm-mem all m))

@@ -3,3 +3,4 @@ pub mod LinkKeys
 pub mod Partners
 pub mod Placing
 pub mod Finding
+pub mod Sorting

@@ -1,4 +1,4 @@
--- What is put into an area that may be too short: nothing, one key more, a list more. Assumes nothing.
+-- What is put into an area that may be too short: a list, a list more behind it, the pairs of more links. Assumes nothing.
 use mathlib.Core.Path.{◌≡◌, refl, sym, ap, ◌∙◌, subst}
 use mathlib.Core.List.{List, [], ◌∷◌, ◌++◌, flat_map, append_assoc, append-nil}
 use Prim.Native.Nat.{ℕ, zero, suc, ◌+◌, ◌-◌, ◌≤◌, ◌<◌}

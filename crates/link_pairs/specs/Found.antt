@@ -1,5 +1,6 @@
--- Mirrors the code: the keys of a node's links, the pairs of links with the same label as they are found, and what a list that may be too long for its area
--- leaves there. A reader need not believe it: laws tie it to the pairs of the product (proofs/Finding). Definitions only.
+-- Mirrors the code: the keys of a node's links, the pairs of links with the same label as they are found, what a list that may be too long for its area leaves
+-- there, and what is said of the pairs in the end. A reader need not believe it: laws tie it to the pairs of the product (proofs/Finding, proofs/Sorting).
+-- Definitions only.
 use Rattle.std.specs.Prelude.{◌≡◌, ℕ, ◌+◌, ◌*◌, ◌≤◌, ◌<◌, eqb, length, take, Option, MatchOption}
 use mathlib.Core.List.{List, flat_map, map}
 use Rattle.std.proofs.lemmas.List.Edits.{sets}
@@ -12,9 +13,13 @@ use Rattle.machine.specs.Readings.{keep}
 use Rattle.product.specs.Product.{pairs}
 use Rattle.product.specs.Keys.{link_key, key_label, key_node, key_link, pair_key, pair_keys}
 
--- the keys of the links of node v of a sheet with so many links, where they begin at number `first`
+-- the key of link i of node v, whose links begin at number `first`
+abbrev pub node_key : List ℕ → ℕ → ℕ → ℕ → ℕ
+node_key bytes v first i = link_key (word bytes (16 * (first + i))) v (first + i)
+
+-- the keys of the links of node v of a sheet with so many links
 abbrev pub node_keys : List ℕ → ℕ → ℕ → ℕ → List ℕ
-node_keys bytes links v first = list_below (count_at bytes links v) (λ i. link_key (word bytes (16 * (first + i))) v (first + i))
+node_keys bytes links v first = list_below (count_at bytes links v) (node_key bytes v first)
 
 -- the keys of the links with the label of `key`
 unfoldable pub partners : ℕ → List ℕ → List ℕ

@@ -1,14 +1,24 @@
 // The keys of a machine's links.
-ghost use Rattle.std.specs.Prelude.{◌≡◌, ◌≤◌, length};
+ghost use Rattle.std.specs.Prelude.{◌≡◌, ◌+◌, ◌≤◌, ◌<◌, length};
 ghost use Rattle.std.proofs.lemmas.List.Edits.{sets};
 ghost use Rattle.tropical_weight.specs.Limits.{node_limit, link_limit};
 ghost use Rattle.sheet.specs.Machine.{machine as machine_at};
 ghost use Rattle.product.specs.Keys.{link_keys};
-ghost use Rattle.link_pairs.specs.Found.{node_keys};
+ghost use Rattle.link_pairs.specs.Found.{node_key, node_keys};
 
 use machine::climbing::Machine;
 use product::keys::link_key;
 use sheet::source::{Source, Sources};
+
+// The key of link i of a node.
+fn key_of(source: &Source, i: u32) -> u64
+    requires within { source.now.first + i < source.now.sheet.links }
+    requires few { (source.now.sheet.nodes ≤ node_limit) × (source.now.sheet.links ≤ link_limit) }
+    ensures { result ≡ node_key source.now.sheet.bytes.now source.now.node source.now.first i }
+{
+    let l = source.first + i;
+    link_key(source.sheet.link(l).ilabel, source.node, l)
+}
 
 // Stores the keys of a node's links.
 fn put_node_keys(source: &Source, keys: &mut [u64])
@@ -17,8 +27,7 @@ fn put_node_keys(source: &Source, keys: &mut [u64])
     ensures { keys.new ≡ sets keys.old source.now.first (node_keys source.now.sheet.bytes.now source.now.sheet.links source.now.node source.now.first) }
 {
     for i in 0..source.count() {
-        let l = source.first + i;
-        keys[l as usize] = link_key(source.sheet.link(l).ilabel, source.node, l);
+        keys[(source.first + i) as usize] = key_of(source, i);
     }
 }
 

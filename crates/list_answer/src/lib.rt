@@ -41,7 +41,7 @@ pub fn put_none(res: &mut [u8]) -> Result<Listed, Refusal>
     if res.len() < TRAILER {
         return Err(Refusal::Room);
     }
-    put_words(res, 0, &Trailer::of(0, 0, NO_START).words());
+    Trailer::of(0, 0, NO_START).put(res, 0);
     Ok(Listed {
         nodes: 0,
         links: 0,

@@ -12,11 +12,11 @@ use lib.ListN.{length, replicate, length-append, length-replicate, replicate-app
 use lib.Seq.{sets}
 use borrow.Author.Tests.{eq-eqb, ne_eqb}
 use Rattle.sheet.specs.Words.{bytes_of, bytes_of_all}
-use Rattle.sheet.proofs.Bytes.{length-bytes_of_all, bytes_of_all-one}
+use Rattle.sheet.proofs.Bytes.{length-bytes_of_all, bytes_of_all-one, stored_next}
 use Rattle.slots.specs.Slots.{nothing}
 use Rattle.slots.proofs.Numbers.{number-none, number-some}
 use Rattle.list_answer.specs.ListAnswer.{link_to, state_words}
-use Rattle.list_answer.proofs.Stores.{stored_next, length-states}
+use Rattle.list_answer.proofs.Stores.{length-states}
 use Rattle.std.specs.Prelude.{Option, None, Some}
 use Rattle.search_slots.specs.Slots.{from_word, input_word, listed_word, state_word}
 use Rattle.list_machine.specs.TrimWords.{mark_of, mark_count, start_words, node_of, input_of, blank_bits, words_by, entry_words, stated_words, link_words, repeat_words, input_words, links_part, nodes_part, words_part, list_words, list_length, head_words, trailer_words}

@@ -15,15 +15,11 @@ ghost use Rattle.list_machine.specs.TrimWords.{Linked, Listable, list_length};
 use list_answer::Listed;
 use search_slots::{FROM, INPUT, LISTED, STATE};
 use sheet::refusal::Refusal;
-use sheet::tr::{TRAILER, Trailer};
+use sheet::tr::{LINK, NODE, TRAILER, Trailer};
 use sheet::words::{put_word, put_words, word};
 use slots::{NOTHING, SLOT, number_in};
 
-// The bytes of a link, of a node and of a word.
-const LINK: usize = 16;
-
-const NODE: usize = 12;
-
+// The bytes of a word.
 const WORD: usize = 4;
 
 // No entry has a mark: its word is 0. A number and no Option: the part is words of a lent area, and the same
@@ -296,7 +292,7 @@ fn put_states(listed: usize, kept: usize, res: &mut [u8], at: usize)
     let trailer = Trailer::of(links as u32, (2 + kept) as u32, 0);
     put_words(res, at, &heads);
     list_answer::put_states(kept, res, at + 2 * NODE);
-    put_words(res, at + 2 * NODE + NODE * kept, &trailer.words());
+    trailer.put(res, at + 2 * NODE + NODE * kept);
 }
 
 // Numbers the entries on a way as states, and writes their machine where the result has room. The

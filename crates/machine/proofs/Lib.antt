@@ -18,3 +18,4 @@ pub mod SheetFields
 pub mod Bench
 pub mod FinalCount
 pub mod Machines
+pub mod Values

@@ -1,7 +1,7 @@
 -- A machine as a sheet: which machines have a sheet that is accepted, and which one is refused for its nodes. Read from its sheet a machine is the same.
 -- The other way round, from a sheet to its machine, is Accepted. Assumes nothing.
 use mathlib.Core.Path.{◌≡◌, refl, sym, ap, ◌∙◌, subst}
-use mathlib.Core.Bool.{Bool, true, false, not, ◌&&◌, ◌||◌, cond, or-true}
+use mathlib.Core.Bool.{true, not, ◌&&◌, ◌||◌, cond, or-true}
 use mathlib.Core.Option.{Option, none, some}
 use Prim.Native.Nat.{ℕ, ◌*◌, ◌^◌, ◌≤◌, ◌<◌}
 use native.Mathlib.Omega.{arith}
@@ -12,8 +12,9 @@ use Rattle.tropical_weight.specs.Limits.{unit, weight_limit, sum_limit, node_lim
 use Rattle.tropical_weight.specs.Tropical.{Tropical, fin, inf, Within}
 use Rattle.tropical_weight.proofs.Sums.{within-mono}
 use Rattle.tropical_weight.proofs.Grid.{grid_bits-means}
-use Rattle.sheet.specs.Sheet.{no_start, link_count, node_count, next, mark, final_bits, well_marked, nodes_fit, start_fits, nexts_fit, barred_bits, on_grid_bits, weight_fits, weights_fit, sheet_of, verdict, parts_of, read_number}
+use Rattle.sheet.specs.Sheet.{no_start, link_count, node_count, next, mark, final_bits, well_marked, nodes_fit, start_fits, nexts_fit, barred_bits, weight_fits, weights_fit, sheet_of, verdict, parts_of, read_number}
 use Rattle.sheet.specs.Machine.{Link, Machine, machine_of, sources_below, bits_of, start_field, parts_for}
+use Rattle.sheet.proofs.Apart.{or_left, or_right}
 use Rattle.sheet.proofs.Below.{all_below-of}
 use Rattle.sheet.proofs.Encoding.{bits-inf, LinkFits, Writable, AllHeld, Held, bits-lt, links-are, nodes-are, start_is, link_bits-is, next-is, mark-some, mark-none, final_bits-some, final_bits-none, counts-are, source_of, records-fit, number_is, fields_back, machine-read}
 use Rattle.machine.specs.Readings.{no_link, link, final}
@@ -32,6 +33,11 @@ pub record Readable (m : Machine) : Type 0 where
   pub starts : (v : ℕ) → m.start ≡ some v → v < length m.finals
   pub few-nodes : length m.finals < 2 ^ 32
   pub few-links : 16 * length m.links < 2 ^ 32
+
+-- the field of a weight within the limit passes test 4
+pub weight-fits : (w : Tropical) → Within weight_limit w → weight_fits (bits_of w) ≡ true
+weight-fits (fin k) s = or_right _ _ ((grid_bits-means unit (omega arith) weight_limit (omega arith) (bits_of (fin k)) (bits-lt (fin k))).1 (k, s, refl))
+weight-fits inf s = or_left _ _ (eq-eqb (bits_of inf) barred_bits bits-inf)
 
 module _ (m : Machine) (a : Readable m) where
   -- ---- its fields are words, and give its weights back
@@ -89,14 +95,6 @@ module _ (m : Machine) (a : Readable m) where
   nexts-fit : nexts_fit (parts_for m) ≡ true
   unfolding nexts_fit
   nexts-fit = all_below-of (link_count (parts_for m)) _ (λ l h. lt-ltb (next (parts_for m) l) (node_count (parts_for m)) (omega (arith, next-is m l no_link (in-links l h), a.next-in l (in-links l h), nodes-are m)))
-
-  weight-fits : (w : Tropical) → Within weight_limit w → weight_fits (bits_of w) ≡ true
-  weight-fits (fin k) s = go (eqb (bits_of (fin k)) barred_bits) ((grid_bits-means unit (omega arith) weight_limit (omega arith) (bits_of (fin k)) (bits-lt (fin k))).1 (k, s, refl))
-    where
-      go : (t : Bool) → on_grid_bits (bits_of (fin k)) ≡ true → t || on_grid_bits (bits_of (fin k)) ≡ true
-      go true e = refl
-      go false e = e
-  weight-fits inf s = ap (λ (t : Bool). t || on_grid_bits (bits_of inf)) (eq-eqb (bits_of inf) barred_bits bits-inf)
 
   final-fits : (v : ℕ) → v < length m.finals → eqb (mark (parts_for m) v) 0 || weight_fits (final_bits (parts_for m) v) ≡ true
   final-fits v h = go (final m v) refl

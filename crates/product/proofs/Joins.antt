@@ -1,16 +1,27 @@
 -- Lists below a bound, joined: members, repeats, order. Assumes nothing.
-use mathlib.Core.Path.{◌≡◌, refl, sym, ap, subst}
+use mathlib.Core.Path.{◌≡◌, refl, sym, ap, ◌∙◌, subst}
 use mathlib.Core.Logic.{◌⊎◌, inl, inr}
 use mathlib.Core.List.Memᴰ
-use mathlib.Core.List.{List, [], ◌∷◌, ◌++◌}
+use mathlib.Core.List.{List, [], ◌∷◌, ◌++◌, flat_map}
 use Prim.Native.Nat.{ℕ, zero, suc, ◌≤◌, ◌<◌}
 use native.Mathlib.Decide.{ℕ_discrete}
 use native.Mathlib.Omega.{arith}
 use lib.ListN.{length, get_or, length-append}
-use Rattle.sheet.proofs.Below.{split_at, get_d_past}
+use Rattle.sheet.specs.Below.{list_below}
+use Rattle.sheet.proofs.Below.{split_at, get_d_past, flat-snoc}
 use Rattle.machine.specs.Demand.{◌∈◌, NoDup}
 use Rattle.machine.proofs.Lists.{mem-eq, get_or-mem, nodup_append}
 use Rattle.product.specs.Joins.{join_below}
+
+pub flat-below : {A B : Type 0} (g : A → List B) (n : ℕ) (f : ℕ → A) → flat_map g (list_below n f) ≡ join_below n (λ i. g (f i))
+unfolding list_below join_below flat_map
+flat-below g zero f = refl
+flat-below {B = B} g (suc n) f = flat-snoc g (list_below n f) (f n) ∙ ap (λ (l : List B). l ++ g (f n)) (flat-below g n f)
+
+pub join-same : {A : Type 0} (n : ℕ) (f g : ℕ → List A) → ((i : ℕ) → f i ≡ g i) → join_below n f ≡ join_below n g
+unfolding join_below
+join-same zero f g e = refl
+join-same (suc n) f g e = λ i. join-same n f g e i ++ e n i
 
 pub join-mem : {A : Type 0} (n : ℕ) (f : ℕ → List A) (i : ℕ) {x : A} → i < n → x ∈ f i → x ∈ join_below n f
 unfolding join_below
@@ -30,10 +41,16 @@ mem-join {A} (suc n) f {x} m = go (Memᴰ.append_cases (join_below n f) m) (λ q
     go (inl q) ih = let r = ih q in (r.0, omega (arith, r.1), r.2)
     go (inr q) ih = (n, omega arith, q)
 
-pub join-nodup : {A : Type 0} (n : ℕ) (f : ℕ → List A) → ((i : ℕ) → NoDup (f i)) → ((i j : ℕ) (x : A) → x ∈ f i → x ∈ f j → i ≡ j) → NoDup (join_below n f)
+-- none twice, where no list below the bound has one twice, nor do two share one
+pub join-nodup-below : {A : Type 0} (n : ℕ) (f : ℕ → List A) → ((i : ℕ) → i < n → NoDup (f i)) → ((i j : ℕ) (x : A) → i < n → j < n → x ∈ f i → x ∈ f j → i ≡ j) → NoDup (join_below n f)
 unfolding join_below
-join-nodup zero f o a = tt
-join-nodup (suc n) f o a = nodup_append (join_below n f) (f n) (join-nodup n f o a) (o n) (λ x p q. let r = mem-join n f p in let e = a r.0 n x r.2 q in omega (arith, e, r.1))
+join-nodup-below zero f o a = tt
+join-nodup-below (suc n) f o a =
+    nodup_append (join_below n f) (f n) (join-nodup-below n f (λ i h. o i (omega arith)) (λ i j x h k. a i j x (omega arith) (omega arith))) (o n (omega arith))
+    (λ x p q. let r = mem-join n f p in let e = a r.0 n x (omega (arith, r.1)) (omega arith) r.2 q in omega (arith, e, r.1))
+
+pub join-nodup : {A : Type 0} (n : ℕ) (f : ℕ → List A) → ((i : ℕ) → NoDup (f i)) → ((i j : ℕ) (x : A) → x ∈ f i → x ∈ f j → i ≡ j) → NoDup (join_below n f)
+join-nodup n f o a = join-nodup-below n f (λ i h. o i) (λ i j x h k. a i j x)
 
 -- a number that tells the list of a member rises along the whole
 pub join-sorted : {A : Type 0} (key : A → ℕ) (d : A) (n : ℕ) (f : ℕ → List A) → ((i : ℕ) (x : A) → x ∈ f i → key x ≡ i)

@@ -1,5 +1,9 @@
 pub mod Joins
 pub mod Nodes
 pub mod Pairs
+pub mod PairCount
 pub mod Fields
 pub mod Halves
+pub mod Numbers
+pub mod Refused
+pub mod Sheets

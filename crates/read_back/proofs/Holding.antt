@@ -9,16 +9,13 @@ use native.Mathlib.Omega.{arith}
 use lib.IntN.{ℤ}
 use lib.ListN.{length, take}
 use lib.Seq.{sets, length-sets}
-use native.Mathlib.Decide.{ℕ_discrete}
-use borrow.Author.Tests.{eq-eqb, ne_eqb, lt-ltb}
+use borrow.Author.Tests.{lt-ltb}
 use Rattle.tropical_weight.specs.Tropical.{fin}
-use Rattle.sheet.specs.declared.tr.Trailer.{Trailer}
 use Rattle.sheet.specs.Accepted.{start_in}
-use Rattle.sheet.specs.Sheet.{no_start, parts_of, trailer_field}
-use Rattle.sheet.specs.Machine.{Machine, machine, machine_of}
+use Rattle.sheet.specs.Machine.{Machine, machine}
 use Rattle.machine.specs.declared.climbing.Machine.{Machine as Climbing}
 use Rattle.machine.specs.Readings.{IsReading, reading_of, reading_cost}
-use Rattle.machine.proofs.Accepted.{passes, start-inside}
+use Rattle.machine.proofs.Values.{start-none, start-some}
 use Rattle.read_back.specs.declared.walk.Walk.{Walk}
 use Rattle.read_back.specs.Follows.{follows, ends_at, ends_from, reads_to, run_by, if_reading}
 use Rattle.read_back.specs.Walks.{ended_by, outcome, Comes, Follows, Walked}
@@ -64,27 +61,13 @@ module _ (c : Climbing) where
   abbrev sheet : List ℕ
   sheet = c.sheet.bytes.now
 
-  start-at : c.sheet.start ≡ trailer_field sheet 4
-  start-at = ap (λ (t : Trailer). t.start) c.sheet.stated
-
-  start-some : (c.sheet.start ≡ no_start → ⊥) → (machine sheet).start ≡ some c.sheet.start
-  unfolding machine_of parts_of
-  start-some d = ap (λ (b : Bool). cond b none (some (trailer_field sheet 4))) (ne_eqb (trailer_field sheet 4) no_start (λ z. d (start-at ∙ z))) ∙ ap some (sym start-at)
-
   -- the machine starts there, where it is a node
   pub starts-there : (s : ℕ) → (s ≡ c.sheet.start) × (s < c.sheet.nodes) → (machine sheet).start ≡ some s
-  starts-there s h = start-some (λ z. omega (arith, z, h.0, h.1, (fields_in c).few-nodes)) ∙ ap some (sym h.0)
+  starts-there s h = start-some c s (ap (λ (b : Bool). cond b (Some c.sheet.start) None) (lt-ltb c.sheet.start c.sheet.nodes (omega (arith, h.0, h.1))) ∙ ap Some (sym h.0))
 
   -- and else it has no start
   pub starts-not : ◌≡◌ {A = Maybe ℕ} None (start_in c.sheet.nodes c.sheet.start) → (machine sheet).start ≡ none
-  unfolding machine_of parts_of
-  starts-not e = elim (ℕ_discrete c.sheet.start no_start) [
-    | yes z ↦ ap (λ (b : Bool). cond b none (some (trailer_field sheet 4))) (eq-eqb (trailer_field sheet 4) no_start (sym start-at ∙ z))
-    | no d ↦
-        let below : c.sheet.start < c.sheet.nodes = omega (arith, start-inside (parts_of sheet) (passes sheet c.climbs) c.sheet.start (start-some d), (fields_in c).nodes-are) in
-        let there : ◌≡◌ {A = Maybe ℕ} None (Some c.sheet.start) = e ∙ ap (λ (b : Bool). cond b (Some c.sheet.start) None) (lt-ltb c.sheet.start c.sheet.nodes below) in
-        absurd (cc)
-  ]
+  starts-not e = start-none c (sym e)
 
 -- what a walk from there on along a way comes to
 pub walked-by : (sheet : List ℕ) (s : ℕ) → (machine sheet).start ≡ some s → (begun : Walk) → Comes sheet (some (0, s)) (Some begun) → (way : Option (List ℕ)) (r : Maybe Walk)

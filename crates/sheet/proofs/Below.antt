@@ -1,7 +1,7 @@
 -- Tests, sums and lists over the numbers below a bound. Assumes nothing.
 use mathlib.Core.Path.{◌≡◌, refl, sym, ap, ◌∙◌, subst}
 use mathlib.Core.Logic.{◌⊎◌, inl, inr}
-use mathlib.Core.Bool.{Bool, true, false, not, ◌&&◌}
+use mathlib.Core.Bool.{Bool, true, false, true≢false, not, ◌&&◌}
 use mathlib.Core.List.{List, [], ◌∷◌, ◌++◌, flat_map, append_assoc, append-nil}
 use Prim.Native.Nat.{ℕ, zero, suc, ◌+◌, ◌-◌, ◌*◌, ◌≤◌, ◌<◌}
 use native.Mathlib.Nat.{le_of_eq, eq-or-lt_of_le, mul-zero, mul-add}
@@ -12,6 +12,7 @@ use lib.ListN.{length, get_or, length-append, get_or-append}
 use lib.Seq.{get_or-append-add}
 use lib.Ieee.Bits.{is_true}
 use lib.Ieee.Fits.{and_l, and_r}
+use Rattle.std.proofs.lemmas.Bool.{and_cases}
 use Rattle.sheet.specs.Below.{all_below, sum_below, list_below}
 
 -- ---- tests and sums that agree below the bound
@@ -39,6 +40,12 @@ all_below-of (suc n) p h = λ j. all_below-of n p (λ i k. h i (omega arith)) j 
 pub all_below-more : (i : ℕ) (p : ℕ → Bool) → all_below i p ≡ true → p i ≡ true → all_below (i + 1) p ≡ true
 unfolding all_below
 all_below-more i p e h = ap (λ (k : ℕ). all_below k p) (add-one i) ∙ λ j. e j && h j
+
+-- where a test over the numbers below a bound fails, it fails at one of them
+pub all_below-finds : (n : ℕ) (p : ℕ → Bool) → all_below n p ≡ false → (i : ℕ) × (i < n) × (p i ≡ false)
+unfolding all_below
+all_below-finds zero p e = absurd (true≢false e)
+all_below-finds (suc n) p e = elim (and_cases (all_below n p) (p n) e) [ inl q ↦ (let r = all_below-finds n p q in (r.0, omega (arith, r.1), r.2)) | inr q ↦ (n, omega arith, q) ]
 
 pub all_below-fails : (n : ℕ) (p : ℕ → Bool) (i : ℕ) → i < n → p i ≡ false → all_below n p ≡ false
 all_below-fails n p i h e = go (all_below n p) refl

@@ -48,3 +48,14 @@ put_mid-sets l xs at n e h =
     ∙ ap (λ (r : List ℕ). take at l ++ (xs ++ r)) (drop-drop (length xs) at l)
     ∙ sym (append_assoc (take at l) xs (drop (at + length xs) l))
     ∙ sym (sets-eq xs l at h)
+
+-- ---- words stored behind others
+pub sets-words : (l : List ℕ) (at : ℕ) (xs ys : List ℕ) (k : ℕ) → k ≡ at + 4 * length xs → sets (sets l at (bytes_of_all xs)) k (bytes_of_all ys) ≡ sets l at (bytes_of_all (xs ++ ys))
+sets-words l at xs ys k e =
+    ap (λ (j : ℕ). sets (sets l at (bytes_of_all xs)) j (bytes_of_all ys)) (e ∙ ap (λ (j : ℕ). at + j) (sym (length-bytes_of_all xs)))
+    ∙ sym (sets-append l at (bytes_of_all xs) (bytes_of_all ys))
+    ∙ ap (sets l at) (sym (bytes_of_all-append xs ys))
+
+-- by what a call stores after others
+pub stored_next : (l m n : List ℕ) (at : ℕ) (xs ys : List ℕ) (k : ℕ) → m ≡ sets l at (bytes_of_all xs) → n ≡ sets m k (bytes_of_all ys) → k ≡ at + 4 * length xs → n ≡ sets l at (bytes_of_all (xs ++ ys))
+stored_next l m n at xs ys k e f h = f ∙ ap (λ (j : List ℕ). sets j k (bytes_of_all ys)) e ∙ sets-words l at xs ys k h

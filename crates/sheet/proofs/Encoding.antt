@@ -29,7 +29,7 @@ use Rattle.sheet.proofs.Round.{Below, parts-back, number-back}
 use Rattle.sheet.proofs.Sources.{length-sources, source_is}
 
 -- ---- the fields of links and nodes by number
-length-links : (ks : List Link) → length (flat_map link_fields ks) ≡ 4 * length ks
+pub length-links : (ks : List Link) → length (flat_map link_fields ks) ≡ 4 * length ks
 unfolding flat_map
 length-links [] = refl
 length-links (k ∷ ks) = omega (arith, length-links ks)
@@ -38,7 +38,7 @@ two_fields : (f : Option Tropical) → length (final_fields f) ≡ 2
 two_fields none = refl
 two_fields (some w) = refl
 
-length-nodes : (ks : List Link) (v : ℕ) (fs : List (Option Tropical)) → length (node_fields ks v fs) ≡ 3 * length fs
+pub length-nodes : (ks : List Link) (v : ℕ) (fs : List (Option Tropical)) → length (node_fields ks v fs) ≡ 3 * length fs
 unfolding node_fields
 length-nodes ks v [] = refl
 length-nodes ks v (none ∷ fs) = omega (arith, length-nodes ks (suc v) fs)
@@ -322,7 +322,7 @@ start_back none f = refl
 start_back (some v) f = ap (λ (t : Bool). cond t none (some v)) (ne_eqb v no_start (λ e. omega (arith, e, f v refl)))
 
 -- a list by its elements
-all_back : {A : Type 0} {n : ℕ} (f : ℕ → A) (l : List A) (d : A) → n ≡ length l → ((i : ℕ) → i < length l → f i ≡ get_or l i d) → list_below n f ≡ l
+pub all_back : {A : Type 0} {n : ℕ} (f : ℕ → A) (l : List A) (d : A) → n ≡ length l → ((i : ℕ) → i < length l → f i ≡ get_or l i d) → list_below n f ≡ l
 all_back {A} {n} f l d e h = ext_get_or d (list_below n f) l (length-list_below n f ∙ e) (λ i b. let c : i < n = omega (arith, length-list_below n f) in get_or-list_below n f i d c ∙ h i (omega arith))
 
 module _ (m : Machine) (w : Writable m) (x : AllHeld m) where

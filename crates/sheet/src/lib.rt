@@ -10,5 +10,6 @@ pub mod refusal;
 pub mod source;
 mod tests;
 pub mod tr;
+pub mod weight;
 pub mod words;
 pub mod write;

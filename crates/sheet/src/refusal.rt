@@ -25,6 +25,12 @@ pub enum Refusal {
     Rows = 8,
     // A sheet has no rows.
     NoRows = 9,
+    // An input label is 0, or is not the output label.
+    Labels = 10,
+    // What two sheets both allow has more nodes or links than the limits.
+    Product = 11,
+    // The sum of two weights is finite and off the grid.
+    Sum = 12,
     // The work area is shorter than needed.
     Work = 20,
     // The result area is shorter than this very answer.

@@ -7,7 +7,8 @@ ghost use Rattle.sheet.specs.Tests.{with_node, with_link, node_tests, link_tests
 
 use crate::field::Fields;
 use crate::refusal::Refusal;
-use crate::tr::{BARRED, NO_START};
+use crate::tr::NO_START;
+use crate::weight::weight_fits;
 use tropical_weight::shifts::GridShifts;
 
 // What the nodes so far pass: the marks and the weights of absent finals (test 1), the links that
@@ -31,16 +32,6 @@ fn well_marked(mark: u32, bits: u32) -> bool
     ensures { result ≡ well_marked mark bits }
 {
     if mark == 0 { bits == 0 } else { mark == 1 }
-}
-
-// Whether a weight's field bars, or is on the grid.
-fn weight_fits(shifts: &GridShifts, bits: u32) -> bool
-    ensures { result ≡ weight_fits bits }
-{
-    if bits == BARRED {
-        return true;
-    }
-    shifts.on_grid(bits)
 }
 
 fn final_fits(shifts: &GridShifts, mark: u32, bits: u32) -> bool

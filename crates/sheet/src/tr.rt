@@ -1,9 +1,11 @@
 // The records of a sheet (tr.rs of rustfst).
 ghost use Rattle.std.specs.Prelude.{◌≡◌, ◌+◌, ◌*◌, ◌^◌, ◌≤◌, ◌<◌, length};
+ghost use Rattle.std.proofs.lemmas.List.Edits.{sets};
+ghost use Rattle.sheet.specs.Words.{bytes_of_all};
 ghost use Rattle.sheet.specs.Records.{link_at, node_at, trailer_at};
 ghost use Rattle.sheet.specs.Accepted.{trailer_in, trailer_fields, stated_trailer};
 
-use crate::words::word;
+use crate::words::{put_words, word};
 
 // A link: two labels, a weight and the node it leads to.
 #[derive(Clone, Copy)]
@@ -39,7 +41,11 @@ pub const BARRED: u32 = tropical_weight::INFINITY;
 // The start's field where there is none.
 pub const NO_START: u32 = 0xffff_ffff;
 
-// The bytes of a trailer.
+// The bytes of a link, of a node and of a trailer.
+pub const LINK: usize = 16;
+
+pub const NODE: usize = 12;
+
 pub const TRAILER: usize = 20;
 
 // So many links that their bytes, 16 each, are past a field of 32 bits.
@@ -89,7 +95,7 @@ impl Trailer {
     }
 
     // Its fields, in their order.
-    pub fn words(&self) -> [u32; 5]
+    fn words(&self) -> [u32; 5]
         ensures { result ≡ trailer_fields self.now }
     {
         [
@@ -99,6 +105,14 @@ impl Trailer {
             self.links,
             self.start,
         ]
+    }
+
+    // Stores it at a byte of the result.
+    pub fn put(&self, res: &mut [u8], at: usize)
+        requires { at + 20 ≤ length res.old }
+        ensures { res.new ≡ sets res.old at (bytes_of_all (trailer_fields self.now)) }
+    {
+        put_words(res, at, &self.words());
     }
 }
 

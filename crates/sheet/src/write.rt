@@ -38,7 +38,7 @@ fn put_sheet(res: &mut [u8], links: &[u32], nodes: &[u32], start: u32)
     let trailer = Trailer::of(t as u32, n as u32, start);
     put_words(res, 0, links);
     put_words(res, 16 * t, nodes);
-    put_words(res, 16 * t + 12 * n, &trailer.words());
+    trailer.put(res, 16 * t + 12 * n);
 }
 
 // Tests the lists, four words a link and three a node, and writes their sheet to the result area.

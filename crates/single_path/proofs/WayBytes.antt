@@ -15,7 +15,7 @@ use Rattle.tropical_weight.specs.Tropical.{Tropical}
 use Rattle.sheet.specs.Words.{bytes_of_all}
 use Rattle.sheet.specs.Sheet.{link_count, node_count, trailer_of, sheet_of}
 use Rattle.sheet.specs.Machine.{Link, Machine, weight_of, bits_of, link_fields, leaving, node_fields, parts_for}
-use Rattle.sheet.proofs.Bytes.{bytes_of_all-append, length-bytes_of_all}
+use Rattle.sheet.proofs.Bytes.{bytes_of_all-append, length-bytes_of_all, sets-words}
 use Rattle.sheet.proofs.Encoding.{links-are, nodes-are}
 use Rattle.sheet.proofs.Round.{Below}
 use Rattle.machine.specs.Readings.{Reading, final}
@@ -30,7 +30,7 @@ use Rattle.sheet.specs.declared.refusal.Refusal.{Refusal}
 use Rattle.list_answer.specs.declared.Listed.{Listed}
 use Rattle.single_path.specs.SingleWords.{way_links, way_nodes, way_trailer, way_words, way_listed}
 use Rattle.list_answer.specs.ListAnswer.{listed_by, listed_in, listed_over, state_words}
-use Rattle.list_answer.proofs.Stores.{sets-words, length-states}
+use Rattle.list_answer.proofs.Stores.{length-states}
 
 -- ---- how long the words are
 length-way_links : (bytes : List ℕ) (s : ℕ) (way : List ℕ) → length (way_links bytes s way) ≡ 4 * length way

@@ -7,7 +7,7 @@ use lib.ListN.{length}
 use lib.Seq.{sets}
 use Rattle.sheet.specs.Words.{bytes_of_all}
 use Rattle.list_answer.specs.ListAnswer.{link_to}
-use Rattle.list_answer.proofs.Stores.{sets-words}
+use Rattle.sheet.proofs.Bytes.{sets-words}
 use Rattle.single_path.specs.SingleWords.{way_links}
 
 -- The words left to store, ws, begin with those that a turn stores, xs; then the rest goes behind them, and in all the same is stored.

@@ -145,7 +145,7 @@ impl<'a> Way<'a> {
         let trailer = Trailer::of(count, count + 1, count);
         self.put_links(res);
         put_states(states, bits, count, res);
-        put_words(res, trailer_at, &trailer.words());
+        trailer.put(res, trailer_at);
         self.put_numbers(trailer_at + TRAILER, res);
     }
 

@@ -1,4 +1,2 @@
 pub mod Shuffles
 pub mod Orders
-pub mod Merging
-pub mod Parts

@@ -1,5 +1,5 @@
 -- What the answers tell by numbers: first the number of the refusal, or 0, that their definitions give. Assumes nothing.
-use mathlib.Core.Path.{◌≡◌, refl, sym, ap, ◌∙◌, subst}
+use mathlib.Core.Path.{◌≡◌, refl, sym, ap, ◌∙◌}
 use mathlib.Core.Logic.{inl, inr}
 use mathlib.Core.Bool.{Bool, not, cond}
 use mathlib.Core.List.{List}
@@ -11,7 +11,6 @@ use borrow.Author.Tests.{ne_eqb}
 use Rattle.std.specs.Prelude.{Option, None, Some, Result, Ok, Err, MatchResult, IsOkAnd}
 use Rattle.tropical_weight.specs.Limits.{list_limit}
 use Rattle.sheet.specs.declared.refusal.Refusal.{Refusal}
-use Rattle.sheet.specs.declared.refusal.Refusal.TheVariants as Refusal
 use Rattle.sheet.specs.Refusals.{number_of, answer, number_in}
 use Rattle.sheet.specs.Answers.{written}
 use Rattle.sheet.specs.Sheet.{Parts, records_fit, verdict, sheet_length, parts_of, read_number, write_number}

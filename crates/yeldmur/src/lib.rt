@@ -1,6 +1,7 @@
 // Yeldmur for C and Rust: sheets read and written, rows of text turned into sheets and back, distances,
-// and lists of the cheapest readings, in areas that the caller lends. Each function returns 0 or the number of the refusal, and then the
-// numbers behind its references keep their values.
+// lists of the cheapest readings, and what two sheets both allow, in areas that the caller lends. Each
+// function returns 0 or the number of the refusal, and then the numbers behind its references keep their
+// values.
 #![tactic(auto)]
 
 ghost use Rattle.std.specs.Prelude.{◌≡◌, cond, List, [], ◌∷◌, ℕ, ◌≤◌, ◌<◌, eqb, length};
@@ -11,6 +12,9 @@ ghost use Rattle.sheet.specs.Machine.{machine as machine_for, link_fields};
 ghost use Rattle.sheet.specs.Reading.{next_link};
 ghost use Rattle.machine.specs.Readings.{link as link_of};
 ghost use Rattle.machine.specs.Distance.{distance as distance_for};
+ghost use Rattle.machine.specs.Input.{input_number};
+ghost use Rattle.two_probes.specs.Outcome.{both_number, both_answer, both_over};
+ghost use Rattle.two_probes.specs.Promise.{Allowed, Reasons};
 ghost use Rattle.sheet_fields.specs.Counts.{counts_of};
 ghost use Rattle.sheet_fields.specs.Nodes.{next_node};
 ghost use Rattle.sheet_fields.specs.Fields.{fields_of_node};
@@ -122,6 +126,25 @@ pub extern "C" fn yeldmur_sheet_rows_bytes(sheet: &[u8], bytes: &mut u64) -> u32
 {
     let answer = rows::to_rows::rows_bytes(sheet);
     tell(answer.map(|n| n as u64), bytes)
+}
+
+// The sheet of what two sheets both allow: 1 to 6 of the first, 1 to 6 of the second, then 10, 11, 12
+// and 21.
+#[unsafe(no_mangle)]
+pub extern "C" fn yeldmur_two_probes(
+    first: &[u8],
+    second: &[u8],
+    res: &mut [u8],
+    size: &mut u64,
+) -> u32
+    ensures value { result ≡ both_number first.now second.now (length res.old) }
+    ensures size_after { (result, size.new) ≡ value_told (both_answer first.now second.now (length res.old)) size.old }
+    ensures res_after { res.new ≡ both_over first.now second.now res.old }
+    ensures allowed { result ≡ 0 → Allowed first.now second.now size.new res.new }
+    ensures why { input_number first.now ≡ 0 → input_number second.now ≡ 0 → Reasons first.now second.now (length res.old) result }
+{
+    let made = two_probes::two_probes(first, second, res);
+    tell(made.map(|n| n as u64), size)
 }
 
 // The distances of a sheet's nodes, two words each, 1 and the weight bits, or 0 and 0 where a node is

@@ -1,6 +1,4 @@
-use mathlib.Core.Path.{ap, ◌∙◌}
-use mathlib.Core.List.{List}
-use Prim.Native.Nat.{ℕ}
+use mathlib.Core.Path.{◌∙◌}
 use lib.Seq.{sets}
 use Rattle.sheet.specs.Words.{bytes_of_all}
 use Rattle.sheet.specs.Accepted.{trailer_fields}
@@ -14,5 +12,5 @@ returns-then-res-lt-TRAILER c =
 
 pub returns : goal.returns
 returns c =
-    let told = none-long c.args.res.now _ c.if-res-lt-TRAILER.false (c.put_words.ensures ∙ ap (λ (w : List ℕ). sets c.args.res.now 0 (bytes_of_all w)) (c.words.ensures ∙ ap trailer_fields c.of.ensures)) in
+    let told = none-long c.args.res.now _ c.if-res-lt-TRAILER.false (c.put.ensures ∙ λ i. sets c.args.res.now 0 (bytes_of_all (trailer_fields (c.of.ensures i)))) in
     record { value = told.0; res_after = told.1 }

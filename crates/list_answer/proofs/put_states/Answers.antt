@@ -6,7 +6,8 @@ use native.Mathlib.Omega.{arith}
 use lib.Seq.{sets}
 use Rattle.sheet.specs.Words.{bytes_of_all}
 use Rattle.list_answer.specs.ListAnswer.{state_words}
-use Rattle.list_answer.proofs.Stores.{stored_next, states-next, length-states}
+use Rattle.sheet.proofs.Bytes.{stored_next}
+use Rattle.list_answer.proofs.Stores.{states-next, length-states}
 use Rattle.list_answer.proofs.put_states.Goals as goal
 
 pub loop-k-init : goal.loop-k-init

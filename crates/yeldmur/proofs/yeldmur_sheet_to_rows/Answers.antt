@@ -4,7 +4,6 @@ use lib.ListN.{length}
 use Rattle.std.proofs.Common.{rules}
 use Rattle.std.specs.Prelude.{Result}
 use Rattle.sheet.specs.declared.refusal.Refusal.{Refusal}
-use Rattle.sheet.specs.declared.refusal.Refusal.TheVariants as Refusal
 use Rattle.sheet.specs.Sheet.{parts_of}
 use Rattle.text_rows.specs.Written.{text_of, text_number}
 use Rattle.yeldmur.specs.Told.{value_told}

@@ -1,16 +1,15 @@
-use mathlib.Core.Path.{◌≡◌, sym, ap, ◌∙◌}
+use mathlib.Core.Path.{sym, ap, ◌∙◌}
 use mathlib.Core.List.{List}
-use Prim.Native.Nat.{ℕ, ◌+◌, ◌<◌}
+use Prim.Native.Nat.{ℕ}
 use native.Mathlib.Omega.{arith}
 use lib.Seq.{sets}
 use Rattle.sheet.specs.declared.accepted.Sheet.{Sheet}
 use Rattle.sheet.specs.declared.source.Sources.{Sources}
 use Rattle.sheet.specs.Below.{list_below}
-use Rattle.sheet.specs.Records.{first_link, count_at}
 use Rattle.sheet.specs.Machine.{machine}
 use Rattle.machine.proofs.Machines.{machine-fields}
 use Rattle.link_pairs.specs.Found.{node_keys}
-use Rattle.link_pairs.proofs.LinkKeys.{key_at, node-keys, all-keys}
+use Rattle.link_pairs.proofs.LinkKeys.{key_at, all-passed, keys-stored}
 use Rattle.link_pairs.proofs.link_keys.put_link_keys.Goals as goal
 
 pub loop-source-init : goal.loop-source-init
@@ -34,23 +33,16 @@ pub loop-source-preserved : goal.loop-source-preserved
 loop-source-preserved c =
     let turn = c.loop-source in
     let it = turn.source-iterator in
-    let old = c.args.keys.now in
-    let s = c.args.machine.now.sheet in
+    let source = c.in-Some.source in
     let steps = c.in-Some.ensures.steps in
-    let e : it.sheet ≡ s = turn.invariant.0 in
-    let inside : it.node < s.nodes = omega (arith, steps.0, ap (λ (t : Sheet). t.nodes) e) in
-    let begins : it.first ≡ first_link s.bytes.now s.links it.node = it.begins ∙ λ i. first_link (e i).bytes.now (e i).links it.node in (
+    let e = turn.invariant.0 in (
       steps.4 ∙ e,
       c.put_node_keys.ensures
-          ∙ (λ i. let t : Sheet = (steps.1 ∙ e) i in sets (turn.invariant.1 i) (steps.3 i) (node_keys t.bytes.now t.links (steps.2 i) (steps.3 i)))
-          ∙ node-keys (machine-fields c.args.machine.now) old it.node it.first inside begins
-          ∙ ap (λ (n : ℕ). sets old 0 (list_below n (key_at (machine s.bytes.now)))) (sym (steps.6 ∙ λ i. it.first + count_at (e i).bytes.now (e i).links it.node)),
+          ∙ ap (λ (l : List ℕ). sets l source.first (node_keys source.sheet.bytes.now source.sheet.links source.node source.first)) turn.invariant.1
+          ∙ keys-stored c.args.machine.now it e source c.next.new.self steps c.args.keys.now,
     )
 
 pub returns : goal.returns
 returns c =
-    let it = c.loop-source.source-iterator in
-    let s = c.args.machine.now.sheet in
-    let e : it.sheet ≡ s = c.loop-source.invariant.0 in
-    let all : it.first ≡ first_link s.bytes.now s.links s.nodes = it.begins ∙ (λ i. first_link (e i).bytes.now (e i).links (c.in-None.ensures.steps.0 i)) ∙ ap (λ (t : Sheet). first_link s.bytes.now s.links t.nodes) e in
-    c.loop-source.invariant.1 ∙ ap (λ (l : List ℕ). sets c.args.keys.now 0 l) (ap (λ (n : ℕ). list_below n (key_at (machine s.bytes.now))) all ∙ all-keys (machine-fields c.args.machine.now))
+    let turn = c.loop-source in
+    turn.invariant.1 ∙ ap (λ (l : List ℕ). sets c.args.keys.now 0 l) (all-passed c.args.machine.now turn.source-iterator turn.invariant.0 c.in-None.ensures.steps.0)

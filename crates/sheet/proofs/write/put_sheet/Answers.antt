@@ -21,8 +21,7 @@ returns c =
     let trailer : List ℕ = 0 ∷ 16 * t ∷ n ∷ t ∷ args.start ∷ [] in
     let first : 16 * t ≡ 4 * length xs = omega arith in
     let second : 16 * t + 12 * n ≡ 4 * length xs + 4 * length ys = omega arith in
-    let fields : c.words.result ≡ trailer = c.words.ensures ∙ ap trailer_fields c.of-trailer.ensures in
-    c.put_words-3.ensures ∙ ap (λ (w : List ℕ). sets c.put_words-2.new.bytes (16 * t + 12 * n) (bytes_of_all w)) fields
+    c.put.ensures ∙ (λ i. sets c.put_words-2.new.bytes (16 * t + 12 * n) (bytes_of_all (trailer_fields (c.of-trailer.ensures i))))
     ∙ ap (λ (m : List ℕ). sets m (16 * t + 12 * n) (bytes_of_all trailer))
     (c.put_words-2.ensures ∙ ap (λ (m : List ℕ). sets m (16 * t) (bytes_of_all ys)) c.put_words.ensures)
     ∙ (λ i. sets (sets (sets args.res.now 0 (bytes_of_all xs)) (first i) (bytes_of_all ys)) (second i) (bytes_of_all trailer))

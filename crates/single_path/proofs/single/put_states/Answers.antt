@@ -2,7 +2,7 @@ use mathlib.Core.List.{[], ◌∷◌}
 use Prim.Native.Nat.{◌+◌}
 use native.Mathlib.Omega.{arith}
 use Rattle.list_answer.specs.ListAnswer.{state_words}
-use Rattle.list_answer.proofs.Stores.{stored_next}
+use Rattle.sheet.proofs.Bytes.{stored_next}
 use Rattle.single_path.proofs.single.put_states.Goals as goal
 
 pub returns : goal.returns

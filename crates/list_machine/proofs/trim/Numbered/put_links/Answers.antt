@@ -1,7 +1,7 @@
 use Prim.Native.Nat.{◌-◌, ◌*◌}
 use native.Mathlib.Omega.{arith}
 use Rattle.list_machine.specs.TrimWords.{start_words, link_words}
-use Rattle.list_answer.proofs.Stores.{stored_next}
+use Rattle.sheet.proofs.Bytes.{stored_next}
 use Rattle.list_machine.proofs.Placing.{length-start}
 use Rattle.list_machine.proofs.trim.Numbered.put_links.Goals as goal
 

@@ -4,7 +4,7 @@ use native.Mathlib.Omega.{arith}
 use lib.ListN.{length-append}
 use Rattle.list_machine.specs.TrimWords.{links_part, nodes_part, words_part}
 use Rattle.list_machine.proofs.Marks.{count-le}
-use Rattle.list_answer.proofs.Stores.{stored_next}
+use Rattle.sheet.proofs.Bytes.{stored_next}
 use Rattle.list_machine.proofs.Placing.{length-links_part, length-nodes_part}
 use Rattle.list_machine.proofs.trim.Numbered.put_list.Goals as goal
 

@@ -3,7 +3,7 @@ use native.Mathlib.Omega.{arith}
 use lib.ListN.{replicate, length-replicate}
 use Rattle.slots.specs.Slots.{nothing}
 use Rattle.list_machine.specs.TrimWords.{input_words}
-use Rattle.list_answer.proofs.Stores.{stored_next}
+use Rattle.sheet.proofs.Bytes.{stored_next}
 use Rattle.list_machine.proofs.trim.Numbered.put_repeats.Goals as goal
 
 pub returns : goal.returns

@@ -7,7 +7,7 @@ use native.Mathlib.Omega.{arith}
 use lib.Seq.{sets}
 use Rattle.sheet.specs.Words.{bytes_of_all}
 use Rattle.list_machine.specs.TrimWords.{start_words}
-use Rattle.list_answer.proofs.Stores.{stored_next}
+use Rattle.sheet.proofs.Bytes.{stored_next}
 use Rattle.list_machine.proofs.Placing.{start-next, length-start}
 use Rattle.list_machine.proofs.trim.Numbered.put_start_links.Goals as goal
 

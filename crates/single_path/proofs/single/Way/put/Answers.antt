@@ -1,6 +1,4 @@
-use mathlib.Core.Path.{ap}
-use mathlib.Core.List.{List}
-use Prim.Native.Nat.{ℕ, ◌+◌, ◌*◌}
+use Prim.Native.Nat.{◌+◌, ◌*◌}
 use lib.Seq.{sets}
 use Rattle.sheet.specs.Words.{bytes_of_all}
 use Rattle.sheet.specs.Accepted.{trailer_fields}
@@ -19,7 +17,7 @@ returns c =
     let sheet = self.machine.sheet in
     way-stored sheet.bytes.now (final_at sheet.bytes.now sheet.links self.end) (way_back self.work.now self.end self.end) c.args.res.now c.args.count c.unwrap_or-bits.result _ _ _ _
     c.requires.counted.0 (c.unwrap_or-bits.ensures ∙ c.final_bits.ensures.bits) c.put_links.ensures c.put_states.ensures
-    (c.put_words.ensures ∙ ap (λ (w : List ℕ). sets c.put_states.new.res (16 * c.args.count + 12 * c.args.count + 12) (bytes_of_all w)) (c.words.ensures ∙ ap trailer_fields c.of-trailer.ensures)) c.put_numbers.ensures
+    (c.put.ensures ∙ λ i. sets c.put_states.new.res (16 * c.args.count + 12 * c.args.count + 12) (bytes_of_all (trailer_fields (c.of-trailer.ensures i)))) c.put_numbers.ensures
 
 pub of-trailer-requires : goal.of-trailer-requires
 of-trailer-requires c =

@@ -1,0 +1,5 @@
+pub mod Records
+pub mod Kept
+pub mod Outcomes
+pub mod Promises
+pub mod Bench

@@ -1,0 +1,34 @@
+-- The outcome of the call on two sheets: one function of the bytes of both and the area's length gives the refusal or the answer. Definitions only.
+use Rattle.std.specs.Prelude.{ℕ, not, cond, List, ◌++◌, ltb, eqb, length, drop, Result}
+use Rattle.sheet.specs.declared.refusal.Refusal.{Refusal}
+use Rattle.sheet.specs.Refusals.{answer}
+use Rattle.sheet.specs.Sheet.{sheet_of}
+use Rattle.sheet.specs.Machine.{Machine, machine, parts_for}
+use Rattle.machine.specs.Input.{input_number}
+use Rattle.product.specs.Product.{product}
+use Rattle.product.specs.Refusals.{product_number}
+
+-- the machine of what two sheets both allow
+abbrev pub both : List ℕ → List ℕ → Machine
+both first second = product (machine first) (machine second)
+
+-- its sheet
+abbrev pub answer_of : List ℕ → List ℕ → List ℕ
+answer_of first second = sheet_of (parts_for (both first second))
+
+-- the number of the refusal, or 0: 1 to 6 of the first sheet, 1 to 6 of the second, then 10, 11 and 12, then 21
+unfoldable pub both_number : List ℕ → List ℕ → ℕ → ℕ
+unfolding input_number product_number product parts_for sheet_of
+both_number first second room =
+    let i = input_number first in
+    let j = input_number second in
+    let k = product_number (machine first) (machine second) in
+    cond (not (eqb i 0)) i (cond (not (eqb j 0)) j (cond (not (eqb k 0)) k (cond (ltb room (length (answer_of first second))) 21 0)))
+
+-- what the call answers: the bytes of the sheet, or the refusal of the number
+abbrev pub both_answer : List ℕ → List ℕ → ℕ → Result ℕ Refusal
+both_answer first second room = answer (length (answer_of first second)) (both_number first second room)
+
+-- the result area afterwards: the sheet, and then the bytes that were there; where it is refused, just those
+abbrev pub both_over : List ℕ → List ℕ → List ℕ → List ℕ
+both_over first second old = cond (eqb (both_number first second (length old)) 0) (answer_of first second ++ drop (length (answer_of first second)) old) old

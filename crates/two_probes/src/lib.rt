@@ -1,0 +1,57 @@
+// What two probes of one bake both allow: of two sheets the sheet of the readings that both have.
+#![tactic(auto)]
+
+ghost use Rattle.std.specs.Prelude.{◌≡◌, not, ◌&&◌, eqb, length};
+ghost use Rattle.product.specs.Refusals.{labelled};
+ghost use Rattle.sheet.specs.Machine.{machine as machine_at};
+ghost use Rattle.two_probes.specs.Outcome.{both_answer, both_over};
+ghost use Rattle.two_probes.specs.Promise.{Promised};
+
+use machine::climbing::Machine;
+use sheet::refusal::Refusal;
+use sheet::tr::Link;
+
+mod both;
+
+// Whether a link's output label is its input label, and is not 0.
+fn is_labelled(link: Link) -> bool
+    ensures { result ≡ not (eqb link.ilabel 0) && eqb link.ilabel link.olabel }
+{
+    link.ilabel != 0 && link.ilabel == link.olabel
+}
+
+// Whether all links of a machine have one label each, which is not 0.
+fn labelled(machine: &Machine) -> bool
+    ensures { result ≡ labelled (machine_at machine.now.sheet.bytes.now) }
+{
+    for l in 0..machine.sheet.links {
+        if !is_labelled(machine.sheet.link(l)) {
+            return false;
+        }
+    }
+    true
+}
+
+// Test 10.
+fn both_labelled(first: &Machine, second: &Machine) -> bool
+    ensures { result ≡ labelled (machine_at first.now.sheet.bytes.now) && labelled (machine_at second.now.sheet.bytes.now) }
+{
+    labelled(first) && labelled(second)
+}
+
+// Writes the sheet of what two sheets both allow to the result area, and answers its bytes: 1 to 6 of
+// the first, 1 to 6 of the second, then 10, 11 and 12, then 21. Its node for i and j is i times the
+// second's nodes plus j; it has a link wherever both have one of the same label, by the first's link,
+// then the second's; weights add.
+pub fn two_probes(first: &[u8], second: &[u8], res: &mut [u8]) -> Result<usize, Refusal>
+    ensures value { result ≡ both_answer first.now second.now (length res.old) }
+    ensures res_after { res.new ≡ both_over first.now second.now res.old }
+    ensures promised { Promised first.now second.now (length res.old) result res.new }
+{
+    let a = Machine::new(first)?;
+    let b = Machine::new(second)?;
+    if !both_labelled(&a, &b) {
+        return Err(Refusal::Labels);
+    }
+    both::write_both(&a, &b, res)
+}
