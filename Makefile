@@ -84,6 +84,7 @@ check:
 	tools/test_python
 	tools/test_readback
 	tools/test_products
+	tools/test_parts
 	tools/test_package
 
 clean:

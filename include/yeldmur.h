@@ -1,6 +1,6 @@
 /* Yeldmur: sheets read and written, text rows turned into sheets and back, distances, lists of the
- * cheapest readings, and the sheet of what two sheets both allow, with every promise proved. Link with
- * libyeldmur.a, which `tools/library` writes.
+ * cheapest readings, the sheet of what two sheets both allow, and the two parts of a sheet, with every
+ * promise proved. Link with libyeldmur.a, which `tools/library` writes.
  *
  * A slice is a pointer and a count of its elements, and not of bytes. No pointer is NULL, also where
  * the count is 0, as that of the work area may be for n = 0: malloc(0) may give NULL, so that a caller
@@ -17,7 +17,8 @@
  * to zero changes nothing. The calls leave the floating-point environment as it is, and raise no flag.
  *
  * Each call returns 0 or the number of a refusal. A refusal leaves the numbers behind `size`,
- * `values`, `states`, `links`, `taken`, `slots`, `bytes` and those of the calls that read back as they were. In 1 to 20 no area changes.
+ * `values`, `states`, `links`, `taken`, `first`, `second`, `slots`, `bytes` and those of the calls that read
+ * back as they were. In 1 to 20 no area changes.
  * From then on, 21 included, the work slots needed are left zero and those beyond keep their value.
  * With 21 the result area keeps its bytes; bytes past an answer keep their value.
  *
@@ -62,6 +63,9 @@ enum {
     /* the weights of two links with one label, or of two final nodes, have a finite sum off the grid: more than
      * YELDMUR_WEIGHT_LIMIT sixty-fourths either way */
     YELDMUR_SUM = 12,
+    /* a machine that does not narrow to node c: c is not below N, the start is absent or above c, a node below c
+     * has mark 1, or a link leads from below c to above it; reached or not, barred or not */
+    YELDMUR_NARROW = 13,
     /* work area shorter than needed, in slots of eight 32-bit words: none for n = 0; N for distances
      * and for n = 1; otherwise N + T + 2 x F + 2 + n x (T + 1) */
     YELDMUR_WORK = 20,
@@ -99,6 +103,18 @@ enum {
 /* The bytes of the longest sheet that yeldmur_two_probes writes: that of as many nodes and links as the limits
  * allow. In a result area of so many bytes it refuses nothing with 21. */
 #define YELDMUR_TWO_PROBES_BYTES 286740u
+
+/* The bytes of a sheet of so many nodes and links. */
+#define YELDMUR_SHEET_BYTES(nodes, links) (16 * (size_t)(links) + 12 * (size_t)(nodes) + 20)
+
+/* The bytes of what yeldmur_split writes of a sheet of so many nodes and links: 20 x T + 12 x (N + 1) + 40,
+ * whatever c is. With the limits it holds the parts of every sheet. */
+#define YELDMUR_SPLIT_BYTES(nodes, links) (20 * (size_t)(links) + 12 * ((size_t)(nodes) + 1) + 40)
+
+/* Where in the result of yeldmur_split for node c the numbers of the first part's links stand, `first` being the
+ * count that it told, and where the second part begins. */
+#define YELDMUR_SPLIT_NUMBERS(c, first) YELDMUR_SHEET_BYTES((size_t)(c) + 1, first)
+#define YELDMUR_SPLIT_SECOND(c, first) (YELDMUR_SPLIT_NUMBERS(c, first) + 4 * (size_t)(first))
 
 /* The start of a sheet that has none, and the word of a link that repeats no input link. */
 #define YELDMUR_NONE 0xffffffffu
@@ -180,6 +196,19 @@ uint32_t yeldmur_shortest_path(const uint8_t *sheet, size_t sheet_bytes, uint32_
 uint32_t yeldmur_two_probes(const uint8_t *first, size_t first_bytes,
                             const uint8_t *second, size_t second_bytes,
                             uint8_t *result, size_t result_bytes, uint64_t *size);
+
+/* Parts a machine that narrows to node c, as one in which preheat ends there: tests 1 to 6, then 13 and 21. The
+ * first part has the nodes up to c and the links that leave those below c; c is final in it, at weight 0, and has
+ * no links. The second part has the nodes from c on, which count from 0 there, and their links, and starts at c; c
+ * keeps its mark, weight and links. Labels, weights and the order of links are the sheet's, and the first part's
+ * start is the sheet's. The result is the first part as a sheet, with c + 1 nodes, and one 32-bit word per link of
+ * it: the number that the link has in the sheet given; then the second part, with N - c nodes, and the same. The
+ * four follow each other without a gap, YELDMUR_SPLIT_BYTES in all. `first` and `second` become how many links
+ * each part has. So the first part's link l is link l of the sheet, and the second's is link `first` + l. For
+ * every n from 1 to 64 the costs of the sheet's list are the n least sums of one cost from each part's list for n,
+ * or all of them where there are fewer; both parts pass tests 1 to 6 themselves. There is no work area. */
+uint32_t yeldmur_split(const uint8_t *sheet, size_t sheet_bytes, uint32_t c,
+                       uint8_t *result, size_t result_bytes, uint32_t *first, uint32_t *second);
 
 /* How many readings the result of yeldmur_shortest_path for n holds, `states` and `links` being the counts
  * that it told: tests 7, then 30. A result is no answer where it is shorter than these counts say, or has

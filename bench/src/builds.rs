@@ -55,12 +55,17 @@ struct Build {
 }
 
 impl Build {
-    /// Loads a static library, made into a shared one whose calls stay inside it.
+    /// Loads a static library, made into a shared one whose calls stay inside it. Code begins at one place in each: sixteen bytes more in
+    /// front of the same code can make it slower by 8 %.
     fn load(number: usize, archive: &str) -> Self {
         let name = format!("yeldmur-{}-{number}.so", std::process::id());
         let shared = std::env::temp_dir().join(name);
         let linked = Command::new("cc")
-            .args(["-shared", "-Wl,-Bsymbolic,--whole-archive", archive])
+            .args([
+                "-shared",
+                "-Wl,-Bsymbolic,-Ttext=0x10000,--whole-archive",
+                archive,
+            ])
             .args(["-Wl,--no-whole-archive", "-lm", "-o"])
             .arg(&shared)
             .status();

@@ -26,6 +26,15 @@ pub fn timed_on<'a, S, T>(
     })
 }
 
+/// A call under the clock, straight after the same call without it, which fetches all that it reads and writes.
+pub fn repeated<'a, T>(call: impl Fn(usize) -> T + Copy + 'a) -> Run<'a> {
+    let first = move |machine| {
+        drop(black_box(call(machine)));
+        machine
+    };
+    timed_on(first, call)
+}
+
 /// How often each call is made at the least.
 const FEWEST: usize = 2;
 
@@ -70,6 +79,11 @@ impl Times {
                 .map(|(a, b)| a.zip(*b).map(|(a, b)| a.min(b)))
                 .collect(),
         )
+    }
+
+    /// The time of a contender that is there.
+    pub fn at(&self, contender: usize) -> f64 {
+        self.0[contender].expect("a time")
     }
 
     /// The times as cells of a table.

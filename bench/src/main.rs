@@ -5,6 +5,7 @@ mod clock;
 mod contest;
 #[cfg(openfst)]
 mod openfst;
+mod parts;
 mod port;
 mod products;
 mod rows;
@@ -21,6 +22,7 @@ const USAGE: &str = "usage:
   bench MILLISECONDS               prints the tables; each part of a row takes about twice so long
   bench rows MILLISECONDS          prints those of text rows
   bench products MILLISECONDS      prints that of two sheets
+  bench parts MILLISECONDS         prints those of the two parts of a sheet
   bench builds MILLISECONDS PREVIOUS LIBRARY
                                    prints a table of two static libraries, called in turn
   bench repeat MACHINE CALL TIMES  makes one call of the library again and again, for a profile: a
@@ -68,6 +70,11 @@ fn run(arguments: &[&str]) -> Option<()> {
         }
         ["products", time] => {
             products::print(&sheets::pairs(), Duration::from_millis(time.parse().ok()?));
+            Some(())
+        }
+        ["parts", time] => {
+            let time = Duration::from_millis(time.parse().ok()?);
+            parts::print(&sheets::narrowing(), &sheets::narrowing_growing(), time);
             Some(())
         }
         ["builds", time, previous, library] => {

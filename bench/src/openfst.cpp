@@ -81,6 +81,40 @@ Machine *openfst_compose(const Machine *first, const Machine *second, bool conne
   return both;
 }
 
+// The machine up to a node, which is final at weight 0 and has no links.
+Machine *openfst_up_to(const Machine *machine, int node) {
+  auto *part = new Machine;
+  part->ReserveStates(node + 1);
+  for (int s = 0; s <= node; ++s) part->AddState();
+  for (int s = 0; s < node; ++s) {
+    part->ReserveArcs(s, machine->NumArcs(s));
+    for (fst::ArcIterator<Machine> arcs(*machine, s); !arcs.Done(); arcs.Next()) {
+      part->AddArc(s, arcs.Value());
+    }
+  }
+  part->SetFinal(node, fst::TropicalWeight::One());
+  part->SetStart(machine->Start());
+  return part;
+}
+
+// The machine from a node on, which is its start.
+Machine *openfst_from(const Machine *machine, int node) {
+  auto *part = new Machine;
+  part->ReserveStates(machine->NumStates() - node);
+  for (int s = node; s < machine->NumStates(); ++s) part->AddState();
+  for (int s = node; s < machine->NumStates(); ++s) {
+    part->ReserveArcs(s - node, machine->NumArcs(s));
+    for (fst::ArcIterator<Machine> arcs(*machine, s); !arcs.Done(); arcs.Next()) {
+      fst::StdArc arc = arcs.Value();
+      arc.nextstate -= node;
+      part->AddArc(s - node, arc);
+    }
+    part->SetFinal(s - node, machine->Final(s));
+  }
+  part->SetStart(0);
+  return part;
+}
+
 uint32_t openfst_links(const Machine *machine) {
   uint32_t links = 0;
   for (int s = 0; s < machine->NumStates(); ++s) links += machine->NumArcs(s);

@@ -18,6 +18,8 @@ extern "C" {
     fn openfst_copy(made: *const Made) -> *mut Made;
     fn openfst_sort(made: *mut Made, by_output: bool);
     fn openfst_compose(first: *const Made, second: *const Made, connected: bool) -> *mut Made;
+    fn openfst_up_to(made: *const Made, node: i32) -> *mut Made;
+    fn openfst_from(made: *const Made, node: i32) -> *mut Made;
     fn openfst_links(made: *const Made) -> u32;
     fn openfst_equal(one: *const Made, other: *const Made) -> bool;
     fn openfst_compile(text: *const u8, count: usize) -> *mut Made;
@@ -94,6 +96,16 @@ impl OpenFst {
     /// What two machines both allow: the states that the start reaches; of those on ways to a final state alone if connected.
     pub fn composed(&self, second: &Self, connected: bool) -> Self {
         unsafe { Self(openfst_compose(self.0, second.0, connected)) }
+    }
+
+    /// The machine up to a node, which is final at weight 0 and has no links, and the machine from the node on.
+    pub fn parts(&self, node: u32) -> [Self; 2] {
+        unsafe {
+            [
+                Self(openfst_up_to(self.0, node as i32)),
+                Self(openfst_from(self.0, node as i32)),
+            ]
+        }
     }
 
     /// How many links there are.

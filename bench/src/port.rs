@@ -18,8 +18,12 @@ pub struct Port {
 impl Port {
     pub fn new(machines: &[Machine]) -> Self {
         let sheet = |machine| Sheet::read(bytes::sheet(machine)).expect("a sheet");
+        Self::of(machines.iter().map(sheet).collect())
+    }
+
+    pub fn of(sheets: Vec<Sheet>) -> Self {
         Self {
-            sheets: machines.iter().map(sheet).collect(),
+            sheets,
             work: vec![],
             result: vec![],
             plain: vec![],

@@ -25,6 +25,15 @@ pub struct Pairs {
     pub pairs: Vec<[Machine; 2]>,
 }
 
+/// Machines of one kind that narrow to a node.
+pub struct Narrow {
+    pub name: &'static str,
+    pub nodes: u32,
+    pub links: u32,
+    pub node: u32,
+    pub machines: Vec<Machine>,
+}
+
 /// How many machines of a kind, or pairs, are called in turn.
 const TEN: u64 = 10;
 
@@ -238,4 +247,52 @@ pub fn pairs() -> Vec<Pairs> {
         ),
         alike_pairs("4 nodes, 3 labels", |s| alike(s, 4, 6, 3)),
     ]
+}
+
+/// A chain and other links, as `tangle` draws them, but from below a node none leads past it.
+fn narrowed(seed: u64, nodes: usize, links: usize, reach: usize, node: usize) -> Machine {
+    let mut machine = tangle(seed, nodes, links, reach, &any(UNITS));
+    for below in &mut machine.nodes[..node] {
+        for link in &mut below.links {
+            link.next = link.next.min(node as u32);
+        }
+    }
+    machine
+}
+
+fn narrow(name: &'static str, [nodes, links]: [usize; 2], reach: usize, node: usize) -> Narrow {
+    Narrow {
+        name,
+        nodes: nodes as u32,
+        links: links as u32,
+        node: node as u32,
+        machines: (1..=TEN)
+            .map(|s| narrowed(s, nodes, links, reach, node))
+            .collect(),
+    }
+}
+
+/// Machines that narrow to a node: of the largest, to one in the middle, an early and a late one, and the first and last of all.
+pub fn narrowing() -> Vec<Narrow> {
+    let (largest, eighth) = ([NODES, LINKS], NODES / 8);
+    vec![
+        narrow("largest, middle", largest, SHORT, NODES / 2),
+        narrow("largest, long links, middle", largest, NODES, NODES / 2),
+        narrow("largest, early", largest, SHORT, eighth),
+        narrow("largest, late", largest, SHORT, NODES - eighth),
+        narrow("largest, first node", largest, SHORT, 0),
+        narrow("largest, last node", largest, SHORT, NODES - 1),
+        narrow("64 nodes, 16,384 links", [64, LINKS], SHORT, 32),
+        narrow("1,312 nodes, 5,000 links", [1312, 5000], SHORT, 656),
+        narrow("40 nodes, 100 links", [40, 100], SHORT, 20),
+        narrow("4 nodes, 6 links", [4, 6], SHORT, 2),
+    ]
+}
+
+/// The same in the middle, with eight links a node, and then with as many nodes as there may be, and more links each time.
+pub fn narrowing_growing() -> Vec<Narrow> {
+    let middle = |nodes, links| narrow("", [nodes, links], SHORT, nodes / 2);
+    let eight = (5..=11).map(|power| middle(1 << power, 8 << power));
+    let links = (0..3).map(|power| middle(NODES, NODES << power));
+    eight.chain(links).collect()
 }

@@ -35,16 +35,20 @@ pub enum Command {
     Distances,
     /// The sheet of what two machines both allow.
     Both,
+    /// The two parts of a machine that narrows to a node.
+    Split,
     /// A picture.
     Draw,
     /// What a refusal means, and where the fault is.
     Check,
 }
 
-use Command::{Best, Both, Check, Compile, Distances, Draw, List, Print};
+use Command::{Best, Both, Check, Compile, Distances, Draw, List, Print, Split};
 
 /// The commands, in the order of the help.
-pub const COMMANDS: [Command; 8] = [Compile, Print, List, Best, Distances, Both, Draw, Check];
+pub const COMMANDS: [Command; 9] = [
+    Compile, Print, List, Best, Distances, Both, Split, Draw, Check,
+];
 
 // Those that answer each input by itself.
 const EACH: &[Command] = &[Compile, Print, List, Best, Distances, Draw, Check];
@@ -59,6 +63,7 @@ impl Command {
             Best => "best",
             Distances => "distances",
             Both => "both",
+            Split => "split",
             Draw => "draw",
             Check => "check",
         }
@@ -72,6 +77,8 @@ pub enum Key {
     Count,
     /// Where answers go.
     Output,
+    /// Where the two parts go: it takes two values.
+    Parts,
     /// Answers as JSON.
     Json,
     /// The form of a picture.
@@ -101,7 +108,7 @@ pub struct Flag {
 }
 
 /// Every option.
-pub const FLAGS: [Flag; 9] = [
+pub const FLAGS: [Flag; 10] = [
     Flag {
         key: Key::Count,
         short: Some('n'),
@@ -149,6 +156,14 @@ pub const FLAGS: [Flag; 9] = [
         value: Some("PLACE"),
         commands: &[Both],
         help: "write to this file, or to - (standard output)",
+    },
+    Flag {
+        key: Key::Parts,
+        short: Some('o'),
+        long: "output",
+        value: Some("FIRST SECOND"),
+        commands: &[Split],
+        help: "write the parts to these files; one may be - (standard output)",
     },
     Flag {
         key: Key::Jobs,
@@ -205,8 +220,12 @@ pub struct Options {
     pub command: Command,
     /// How many readings, where it is said.
     pub count: Option<u32>,
-    /// Where answers go, where it is said.
+    /// Where answers go, where it is said, or the first of two parts.
     pub output: Option<PathBuf>,
+    /// Where the second of two parts goes.
+    pub second: Option<PathBuf>,
+    /// The node where two parts meet.
+    pub node: u32,
     /// Answers as JSON.
     pub json: bool,
     /// The form of a picture.
@@ -223,6 +242,8 @@ impl Options {
             command,
             count: None,
             output: None,
+            second: None,
+            node: 0,
             json: false,
             picture: Picture::Dot,
             jobs: 1,
@@ -232,7 +253,7 @@ impl Options {
 
     /// Whether the answer is bytes that are no text.
     pub fn in_bytes(&self) -> bool {
-        let sheet = matches!(self.command, Compile | Both);
+        let sheet = matches!(self.command, Compile | Both | Split);
         sheet || (self.command == Draw && self.picture == Picture::Png)
     }
 
@@ -270,7 +291,7 @@ impl Options {
     fn set(&mut self, key: Key, value: OsString) -> Result<(), String> {
         match key {
             Key::Count => self.count = Some(number(&value, 0, LIST_LIMIT as usize)? as u32),
-            Key::Output => self.output = Some(value.into()),
+            Key::Output | Key::Parts => self.output = Some(value.into()),
             Key::Json => self.json = true,
             Key::Form => self.picture = picture(&value)?,
             Key::Jobs => self.jobs = number(&value, 1, 1024)?,
@@ -279,8 +300,14 @@ impl Options {
         Ok(())
     }
 
-    // Without inputs it is standard input, which can be read but once. Of two together both are named.
-    fn with_inputs(mut self, inputs: Vec<Source>) -> Result<Options, String> {
+    // Without inputs it is standard input, which can be read but once. Of two together both are named, and before a node the one.
+    fn with_inputs(mut self, mut inputs: Vec<Source>) -> Result<Options, String> {
+        if self.command == Split {
+            self.node = node_of(&mut inputs)?;
+            if self.output.is_none() {
+                return Err("split needs two files for the parts: -o FIRST SECOND".to_string());
+            }
+        }
         let standard = inputs.iter().filter(|source| **source == Source::Standard);
         if standard.count() > 1 {
             return Err("standard input is named twice".to_string());
@@ -294,6 +321,20 @@ impl Options {
         }
         Ok(self)
     }
+}
+
+// The node that stands behind the one input.
+fn node_of(inputs: &mut Vec<Source>) -> Result<u32, String> {
+    if inputs.len() != 2 {
+        return Err("split takes an input and a node, FILE and NODE".to_string());
+    }
+    let node = match inputs.pop() {
+        Some(Source::File(path)) => path.into_os_string(),
+        _ => "-".into(),
+    };
+    let read = number(&node, 0, u32::MAX as usize);
+    read.map(|node| node as u32)
+        .map_err(|wrong| format!("NODE: {wrong}"))
 }
 
 fn number(value: &OsStr, least: usize, most: usize) -> Result<usize, String> {
@@ -366,6 +407,9 @@ fn parse_of(
             let value = value_of(flag, joined, &mut arguments)?;
             let said = options.set(flag.key, value);
             said.map_err(|wrong| format!("--{}: {wrong}", flag.long))?;
+            if flag.key == Key::Parts {
+                options.second = Some(value_of(flag, None, &mut arguments)?.into());
+            }
         }
     }
     Ok(Request::Answer(options.with_inputs(inputs)?))
@@ -466,6 +510,23 @@ mod tests {
     }
 
     #[test]
+    fn parts() {
+        for line in [
+            "split a 4294967295 -o x y",
+            "split -o x y a 4294967295",
+            "split a -ox y 4294967295",
+            "split a --output=x y -- 4294967295",
+        ] {
+            let parts = options(line);
+            assert_eq!(parts.inputs, [file("a")], "{line}");
+            assert_eq!((parts.node, parts.answers()), (u32::MAX, 1));
+            let places = [parts.output, parts.second].map(|place| place.unwrap());
+            assert_eq!(places, ["x", "y"].map(PathBuf::from), "{line}");
+        }
+        assert_eq!(options("split - 0 -o - y").inputs, [Source::Standard]);
+    }
+
+    #[test]
     fn help_and_version() {
         assert_eq!(parsed("--help"), Ok(Request::Help(None)));
         assert_eq!(parsed("-V"), Ok(Request::Version));
@@ -501,6 +562,18 @@ mod tests {
             "both - -",
             "both -j 2 a b",
             "both --json a b",
+            "split",
+            "split a 1",
+            "split a -o x y",
+            "split 1 -o x y",
+            "split a b 1 -o x y",
+            "split a 1 -o x",
+            "split a -1 -o x y",
+            "split a - -o x y",
+            "split a x -o x y",
+            "split a 4294967296 -o x y",
+            "split a 1 -o x y -j 2",
+            "split a 1 -o x y --json",
         ] {
             assert!(parsed(line).is_err(), "{line}");
         }

@@ -13,7 +13,7 @@ struct Words {
     text: &'static str,
 }
 
-const WORDS: [Words; 8] = [
+const WORDS: [Words; 9] = [
     Words {
         command: Command::Compile,
         line: "turn text rows into a sheet",
@@ -61,6 +61,16 @@ const WORDS: [Words; 8] = [
                their sum. Its node for i and j is i times the second's number of nodes, plus j. No\n\
                label may be 0 or differ between input and output. Bytes of a sheet are not written\n\
                to a terminal unless -o - says so.",
+    },
+    Words {
+        command: Command::Split,
+        line: "write the two parts of a machine that narrows to a node",
+        usage: "FILE NODE -o FIRST SECOND",
+        text: "Writes the two parts of a machine that narrows to a node, as where preheat ends: the\n\
+               nodes up to it, and the nodes from it on. FIRST has that node final at weight 0 and\n\
+               without links. SECOND starts there, and its nodes count from 0. The costs of the whole\n\
+               list are the least sums of one cost from each part's list. Link k of FIRST is link k of\n\
+               the whole, and link k of SECOND is link L + k, where FIRST has L links.",
     },
     Words {
         command: Command::Draw,
@@ -128,6 +138,11 @@ FIRST and SECOND each hold text rows or a sheet; which, the command sees by itse
 them may be -, which is standard input.
 ";
 
+const ONE_INPUT: &str = "\
+FILE holds text rows or a sheet; which, the command sees by itself. It may be -, which is
+standard input.
+";
+
 fn json_fields(command: Command) -> Option<&'static str> {
     match command {
         Command::List | Command::Best => Some(JSON_LIST),
@@ -170,6 +185,7 @@ fn help_of(words: &Words) -> String {
     let name = command.name();
     let inputs = match command {
         Command::Both => TWO_INPUTS,
+        Command::Split => ONE_INPUT,
         _ => INPUTS,
     };
     let mut help = format!("usage: yeldmur {name} {usage}\n\n{text}\n\n{inputs}\noptions:\n");
@@ -187,6 +203,10 @@ fn line_of(flag: &Flag) -> String {
         .value
         .map_or(String::new(), |value| format!(" {value}"));
     let names = format!("{short} --{}{value}", flag.long);
+    // names that are too long for their column have a line of their own
+    if names.len() > 20 {
+        return format!("  {names}\n{:23}{}\n", "", flag.help);
+    }
     format!("  {names:<20} {}\n", flag.help)
 }
 

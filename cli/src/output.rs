@@ -3,8 +3,9 @@
 
 use std::collections::HashSet;
 use std::ffi::{OsStr, OsString};
-use std::fs::{self, File};
-use std::io::{self, Write};
+use std::fs::{self, File, OpenOptions};
+use std::io::{self, ErrorKind, Write};
+use std::os::unix::fs::MetadataExt;
 use std::path::{Path, PathBuf};
 
 use crate::args::{Command, Options};
@@ -31,11 +32,8 @@ impl Destination {
             .clone()
             .filter(|path| path.as_os_str() != "-");
         if let Some(path) = named.clone().filter(|path| path.is_dir()) {
-            if options.command == Command::Both {
-                let path = path.display();
-                return Err(format!(
-                    "{path} is a folder, and the one sheet needs a file"
-                ));
+            if matches!(options.command, Command::Both | Command::Split) {
+                return Err(no_file(&path));
             }
             let ending = options.ending();
             files_differ(&options.inputs, ending)?;
@@ -49,6 +47,34 @@ impl Destination {
             Some(path) => Destination::File { path, made: None },
             None => Destination::Standard,
         })
+    }
+
+    /// The destination of the second of two parts, or none where an answer is one.
+    pub(crate) fn second(options: &Options) -> Result<Option<Destination>, String> {
+        let Some(path) = options.second.clone() else {
+            return Ok(None);
+        };
+        let first = options.output.as_ref();
+        if first.is_some_and(|first| same_place(first, &path)) {
+            return Err("the two parts need two places".to_string());
+        }
+        if path.as_os_str() == "-" {
+            return Ok(Some(Destination::Standard));
+        }
+        if path.is_dir() {
+            return Err(no_file(&path));
+        }
+        Ok(Some(Destination::File { path, made: None }))
+    }
+
+    /// Its one file, opened for writing and still as it was; made where it was not there.
+    pub(crate) fn opened(&self) -> Result<Option<File>, Unwritten> {
+        let Destination::File { path, .. } = self else {
+            return Ok(None);
+        };
+        let mut as_it_was = OpenOptions::new();
+        as_it_was.write(true).create(true).truncate(false);
+        as_it_was.open(path).map(Some).map_err(at(path))
     }
 
     /// Whether each answer has a file of its own.
@@ -75,6 +101,46 @@ impl Destination {
             }
         }
     }
+}
+
+// Whether both name one place, however they spell it.
+fn same_place(one: &Path, other: &Path) -> bool {
+    one == other || place_of(one).is_some_and(|place| place_of(other) == Some(place))
+}
+
+// What tells a place apart: the device and number of its file; where no file is there yet, those of the folder that it would be made in,
+// and its name there. None where it could not be made.
+fn place_of(path: &Path) -> Option<(u64, u64, OsString)> {
+    let path = match path.as_os_str() == "-" {
+        true => Path::new("/dev/stdout"),
+        false => path,
+    };
+    let (found, name) = match fs::metadata(path) {
+        Err(error) if error.kind() == ErrorKind::NotFound => {
+            let path = led_to(path);
+            let folder = Path::new(".").join(path.parent()?);
+            (fs::metadata(folder).ok()?, path.file_name()?.to_os_string())
+        }
+        found => (found.ok()?, OsString::new()),
+    };
+    Some((found.dev(), found.ino(), name))
+}
+
+// Where links lead that end at no file: it would be made there.
+fn led_to(path: &Path) -> PathBuf {
+    let mut path = path.to_path_buf();
+    while let Ok(next) = fs::read_link(&path) {
+        path.pop();
+        path.push(next);
+    }
+    path
+}
+
+fn no_file(path: &Path) -> String {
+    format!(
+        "{} is a folder, and the one sheet needs a file",
+        path.display()
+    )
 }
 
 fn at(path: &Path) -> impl FnOnce(io::Error) -> Unwritten {

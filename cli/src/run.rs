@@ -62,13 +62,16 @@ fn answer_all(options: &Options) -> Status {
             "these are bytes and no text for a terminal: name a file with -o, or say -o -",
         );
     }
-    let destination = match Destination::of(options) {
-        Ok(destination) => destination,
+    let destinations =
+        Destination::of(options).and_then(|first| Ok((first, Destination::second(options)?)));
+    let (destination, second) = match destinations {
+        Ok(destinations) => destinations,
         Err(usage) => return fail(&usage),
     };
     let mut run = Run {
         options,
         destination,
+        second,
         progress: Progress::of(options.answers()),
         status: Status::Done,
     };
@@ -87,6 +90,7 @@ fn answer_all(options: &Options) -> Status {
 struct Run<'a> {
     options: &'a Options,
     destination: Destination,
+    second: Option<Destination>,
     progress: Progress,
     status: Status,
 }
@@ -115,13 +119,23 @@ impl Run<'_> {
             return ControlFlow::Continue(());
         }
         let output = self.headed(source, outcome.output);
-        match self.destination.write(source, &output) {
+        match self.write(source, &output, &outcome.second) {
             Ok(()) => ControlFlow::Continue(()),
             Err(unwritten) => {
                 self.status = after(unwritten, self.status);
                 ControlFlow::Break(())
             }
         }
+    }
+
+    // Both places of two parts are opened before either is written: one may be the input, of which nothing may be lost.
+    fn write(&mut self, source: &Source, output: &[u8], rest: &[u8]) -> Result<(), Unwritten> {
+        let Some(second) = &mut self.second else {
+            return self.destination.write(source, output);
+        };
+        let _held = (self.destination.opened()?, second.opened()?);
+        self.destination.write(source, output)?;
+        second.write(source, rest)
     }
 
     // Several answers in one place are told apart by the names of their inputs.

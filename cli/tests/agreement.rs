@@ -27,6 +27,8 @@ fn library_of_sheet(sheet: &[u8], tests: Tests) -> Option<u32> {
         Tests::Search => raw::areas(sheet, 0).err(),
         // beside a sheet without nodes there is nothing else to refuse
         Tests::Labels => raw::two_probes(sheet, &bytes(&[0, 0, 0, 0, NONE]), &mut [0; 20]).err(),
+        // no part has more than two words where the sheet has one
+        Tests::Narrow(c) => raw::split(sheet, c, &mut vec![0; 2 * sheet.len() + 32]).err(),
         Tests::Rows => raw::sheet_rows_bytes(sheet).err(),
     };
     refused.map(Refusal::number)
@@ -121,15 +123,20 @@ fn damaged_rows(random: &mut Random) -> Vec<u8> {
 #[test]
 fn damaged_texts() {
     let mut random = Random(1);
-    let (mut search, mut labels) = (Tally::default(), Tally::default());
-    for _ in 0..60_000 {
+    let [mut search, mut labels, mut narrow] = [0; 3].map(|_| Tally::default());
+    for round in 0..60_000 {
         let text = damaged_rows(&mut random);
-        for (tests, tally) in [(Tests::Search, &mut search), (Tests::Labels, &mut labels)] {
+        for (tests, tally) in [
+            (Tests::Search, &mut search),
+            (Tests::Labels, &mut labels),
+            (Tests::Narrow(round % 9), &mut narrow),
+        ] {
             tally.add(Form::Rows, &text, tests, library_of_rows(&text, tests));
         }
     }
     search.holds(&[1, 4, 5, 6, 8]);
     labels.holds(&[1, 4, 5, 6, 8, 10]);
+    narrow.holds(&[1, 4, 5, 6, 8, 13]);
 }
 
 // Each byte of the rows of Sheet A taken out, doubled, and changed to each other byte.
@@ -206,7 +213,7 @@ fn damaged_sheet(random: &mut Random, sheet: &[u8]) -> Vec<u8> {
 #[test]
 fn damaged_sheets() {
     let (mut random, sheets) = (Random(2), sheets());
-    let [mut search, mut labels, mut rows] = [0; 3].map(|_| Tally::default());
+    let [mut search, mut labels, mut narrow, mut rows] = [0; 4].map(|_| Tally::default());
     for round in 0..60_000 {
         // the large ones less often
         let kind = if round % 40 == 0 { sheets.len() } else { 6 };
@@ -215,6 +222,7 @@ fn damaged_sheets() {
         for (tests, tally) in [
             (Tests::Search, &mut search),
             (Tests::Labels, &mut labels),
+            (Tests::Narrow(round % 5), &mut narrow),
             (Tests::Rows, &mut rows),
         ] {
             let library = library_of_sheet(&damaged, tests);
@@ -223,6 +231,7 @@ fn damaged_sheets() {
     }
     search.holds(&[1, 2, 3, 4, 5, 6]);
     labels.holds(&[1, 2, 3, 4, 5, 6, 10]);
+    narrow.holds(&[1, 2, 3, 4, 5, 6, 13]);
     rows.holds(&[1, 2, 3, 4, 9]);
 }
 
@@ -277,6 +286,52 @@ fn drawn_pairs() {
     let seen: Vec<_> = counts.keys().copied().collect();
     assert_eq!(seen, [None, Some(10), Some(11), Some(12)]);
     assert!(counts.values().all(|&count| count >= 100), "{counts:?}");
+}
+
+// A machine that mostly narrows to a node: links that hardly ever pass it, a mark below it now and then, a start above it at times.
+fn one_to_split(random: &mut Random, c: usize) -> Sheet {
+    let mut rows: Vec<String> = (0..1 + random.below(6))
+        .map(|_| {
+            let source = random.below(6);
+            let room = if source < c && random.below(12) > 0 {
+                c - source
+            } else {
+                3
+            };
+            let next = source + 1 + random.below(room);
+            let weight = random.one_of(&["", " 0.5", " Infinity"]);
+            format!("{source} {next} {} 7{weight}", random.below(9))
+        })
+        .collect();
+    for node in 0..7 {
+        if random.below(if node < c { 30 } else { 2 }) == 0 {
+            rows.push(format!("{node} Infinity"));
+        }
+    }
+    Sheet::from_rows((rows.join("\n") + "\n").as_bytes()).unwrap()
+}
+
+// 13 by the place in the sheet and in its rows.
+#[test]
+fn drawn_nodes() {
+    let (mut random, mut counts) = (Random(5), BTreeMap::new());
+    for _ in 0..8_000 {
+        let c = random.below(8);
+        let sheet = one_to_split(&mut random, c);
+        let tests = Tests::Narrow(c as u32);
+        let library = library_of_sheet(sheet.bytes(), tests);
+        let text = sheet.to_rows().unwrap();
+        for (form, input) in [(Form::Sheet, sheet.bytes()), (Form::Rows, &text)] {
+            let found = fault(form, input, tests);
+            assert_eq!(found.as_ref().map(|fault| fault.number), library);
+            let place = found.map(|fault| fault.place);
+            assert!(place.is_none_or(|place| within(form, input, place)));
+        }
+        *counts.entry(library).or_insert(0) += 1;
+    }
+    let seen: Vec<_> = counts.keys().copied().collect();
+    assert_eq!(seen, [None, Some(13)]);
+    assert!(counts.values().all(|&count| count >= 1_000), "{counts:?}");
 }
 
 // Each bit of Sheet A flipped, and each length.

@@ -5,7 +5,7 @@ mod common;
 
 use std::fs::{self, File};
 use std::io::Write;
-use std::os::unix::fs::PermissionsExt;
+use std::os::unix::fs::{symlink, PermissionsExt};
 use std::process::Stdio;
 
 use common::{bytes, chain, command, is_json, run, run_on, Folder, Ran, Random, A};
@@ -225,6 +225,179 @@ fn the_largest_of_two() {
     let checked = run(&["check"], both).ok();
     let verdict = "standard input: accepted: sheet, 2048 nodes, 16384 links, 1 final, start 0\n";
     assert_eq!(checked.text(), verdict);
+}
+
+// Laid out by hand: three links to node 1, two on to node 2.
+const DIAMOND: &str = "0 1 7 7 1\n0 1 8 8 0.5\n0 1 9 9 0.75\n1 2 7 7 0.25\n1 2 8 8 2\n2 0.5\n";
+
+fn parts_of_the_diamond() -> [Vec<u8>; 2] {
+    #[rustfmt::skip]
+    let first = [
+        7, 7, 0x3F80_0000, 1, 8, 8, 0x3F00_0000, 1, 9, 9, 0x3F40_0000, 1,
+        3, 0, 0, 0, 1, 0, 0, 48, 2, 3, 0,
+    ];
+    #[rustfmt::skip]
+    let second = [
+        7, 7, 0x3E80_0000, 1, 8, 8, 0x4000_0000, 1,
+        2, 0, 0, 0, 1, 0x3F00_0000, 0, 32, 2, 2, 0,
+    ];
+    [bytes(&first), bytes(&second)]
+}
+
+#[test]
+fn two_parts() {
+    let folder = Folder::new("two_parts");
+    let rows = folder.file("diamond", DIAMOND);
+    let sheet = folder.path("diamond.sheet");
+    run(&["compile", "-o", &sheet, &rows], "").ok();
+    let [first, second] = ["first", "second"].map(|name| folder.path(name));
+    let whole = parts_of_the_diamond();
+    let written = |arguments: &[&str], input: &str| {
+        assert_eq!(run(arguments, input).ok().text(), "");
+        let parts = ["first", "second"].map(|name| folder.read(name));
+        assert_eq!(parts, whole, "{arguments:?}");
+        folder.file("first", "");
+        folder.file("second", "");
+    };
+    written(&["split", &rows, "1", "-o", &first, &second], "");
+    written(&["split", "-o", &first, &second, &sheet, "1"], "");
+    written(&["split", "-", "1", "-o", &first, &second], DIAMOND);
+    let output = format!("--output={first}");
+    written(&["split", &output, &second, "--", &rows, "1"], "");
+    // either may go to standard output
+    for (place, places) in [["-", &second], [&first, "-"]].iter().enumerate() {
+        let ran = run(&["split", &rows, "1", "-o", places[0], places[1]], "").ok();
+        assert_eq!(ran.out, whole[place]);
+    }
+    let listed = run(&["list", &first, &second], "").ok();
+    assert_eq!(listed.text().matches(" readings, ").count(), 2);
+    // an input may be an output
+    run(&["split", &sheet, "1", "-o", &sheet, &second], "").ok();
+    assert_eq!(folder.read("diamond.sheet"), whole[0]);
+}
+
+#[test]
+fn no_parts() {
+    let folder = Folder::new("no_parts");
+    let files = ["first", "second"].map(|name| folder.file(name, "as it was"));
+    let [first, second] = files.each_ref().map(String::as_str);
+    let a = folder.file("a", A);
+    let missing = folder.path("missing");
+    let place = folder.path("");
+    for (arguments, said) in [
+        (
+            &["split", &missing, "1"][..],
+            "split needs two files for the parts: -o FIRST SECOND",
+        ),
+        (
+            &["split", &a, "-o", first, second],
+            "split takes an input and a node, FILE and NODE",
+        ),
+        (
+            &["split", &a, "-", "-o", first, second],
+            "NODE: - is no number from 0 to 4294967295",
+        ),
+        (
+            &["split", &a, "1.5", "-o", first, second],
+            "NODE: 1.5 is no number from 0 to 4294967295",
+        ),
+        (
+            &["split", &a, "3", "-o", first],
+            "--output needs its FIRST SECOND",
+        ),
+        (
+            &["split", &a, "3", "-o", first, first],
+            "the two parts need two places",
+        ),
+        (
+            &["split", &a, "3", "-o", "-", "-"],
+            "the two parts need two places",
+        ),
+    ] {
+        let ran = run(arguments, "");
+        assert_eq!((ran.status, ran.text()), (2, ""));
+        assert_eq!(ran.err, format!("yeldmur: {said}\n"));
+    }
+    for places in [[first, &place], [&place, second]] {
+        let ran = run(&["split", &a, "3", "-o", places[0], places[1]], "");
+        let said = format!("yeldmur: {place} is a folder, and the one sheet needs a file\n");
+        assert_eq!((ran.status, ran.err), (2, said));
+    }
+    let ran = run(&["split", &missing, "3", "-o", first, second], "");
+    assert_eq!(ran.status, 2);
+    assert!(ran
+        .err
+        .starts_with(&format!("yeldmur: {missing}: cannot be read: ")));
+    let ran = run(&["split", "-", "1", "-o", first, second], A);
+    let said = "yeldmur: standard input: refused 13: a machine that does not narrow to the node: row 2, column 3: leads from node 0 past node 1 to node 2\n";
+    assert_eq!((ran.status, ran.text(), ran.err.as_str()), (1, "", said));
+    for name in ["first", "second"] {
+        assert_eq!(folder.read(name), b"as it was");
+    }
+    // where one cannot be opened the other stays as it was, and the input that it may be
+    let nowhere = folder.path("nowhere/part");
+    for places in [[&a, &nowhere], [&nowhere, &a]] {
+        let ran = run(&["split", &a, "3", "-o", places[0], places[1]], "");
+        let said = format!("yeldmur: {nowhere}: cannot be written: ");
+        assert_eq!(ran.status, 2);
+        assert!(ran.err.starts_with(&said));
+        assert_eq!(folder.read("a"), A.as_bytes());
+    }
+    for places in [["/dev/full", second], [first, "/dev/full"]] {
+        let ran = run(&["split", &a, "3", "-o", places[0], places[1]], "");
+        assert_eq!(ran.status, 2);
+        let said = "yeldmur: /dev/full: cannot be written: ";
+        assert!(ran.err.starts_with(said));
+    }
+    let closed = with_closed_pipe(&["split", "-", "3", "-o", "-", second], A.as_bytes());
+    assert_eq!((closed.status, closed.err.as_str()), (0, ""));
+}
+
+#[test]
+fn one_place_for_two_parts() {
+    let folder = Folder::new("one_place");
+    fs::create_dir(folder.path("sub")).unwrap();
+    folder.file("x", "as it was");
+    fs::hard_link(folder.path("x"), folder.path("hard")).unwrap();
+    // of what is not there yet, too
+    for (to, link) in [("x", "y"), ("new", "z"), ("../z", "sub/z"), (".", "here")] {
+        symlink(to, folder.path(link)).unwrap();
+    }
+    let split = |first: &str, second: &str| {
+        let mut command = command(&["split", "-", "3", "-o", first, second]);
+        command.current_dir(folder.path(""));
+        run_on(command, A.as_bytes())
+    };
+    let full = folder.path("x");
+    for (one, other) in [
+        ("x", "./x"),
+        ("x", "sub/../x"),
+        ("x", "here/x"),
+        ("x", &full),
+        ("x", "y"),
+        ("x", "hard"),
+        ("new", "./new"),
+        ("new", "here/new"),
+        ("new", "z"),
+        ("z", "sub/z"),
+        ("-", "/dev/stdout"),
+    ] {
+        for (first, second) in [(one, other), (other, one)] {
+            let ran = split(first, second);
+            let said = "yeldmur: the two parts need two places\n";
+            assert_eq!((ran.status, ran.text()), (2, ""), "{first} {second}");
+            assert_eq!(ran.err, said, "{first} {second}");
+        }
+    }
+    assert_eq!(folder.read("x"), b"as it was");
+    assert!(!folder.has("new"));
+    // one name in two folders, and a file that is named as standard output is
+    for (first, second) in [("new", "sub/new"), ("x", "sub/x"), ("-", "./-")] {
+        split(first, second).ok();
+    }
+    let parts = ["x", "sub/x"].map(|name| folder.read(name));
+    assert_eq!(parts, ["new", "sub/new"].map(|name| folder.read(name)));
+    assert_eq!(folder.read("-"), parts[1]);
 }
 
 #[test]

@@ -116,6 +116,60 @@ fn both_refused() {
     held("both_refused.txt", &said.replace(&folder.path(""), ""));
 }
 
+// Preheat ends in node 3, which may be the last one, too. Start 1, a barred link in either part, a node that no run reaches.
+const PREHEAT: &str = "1 2 7 8 -0.5\n0 3 7 7\n1 3 8 8 1\n2 3 9 9 Infinity\n2 3 9 9 0.25\n3 4 1 1 0.5\n3 6 2 2\n3 64\n4 6 3 3 Infinity\n5 6 4 4\n6 -1\n";
+
+#[test]
+fn split() {
+    let folder = Folder::new("split");
+    let parts = ["first", "second"].map(|name| folder.path(name));
+    run(&["split", "-", "3", "-o", &parts[0], &parts[1]], PREHEAT).ok();
+    for (part, name) in parts.iter().zip(["first", "second"]) {
+        let printed = run(&["print", part], "").ok();
+        held(&format!("split_{name}.txt"), printed.text());
+    }
+    let listed = run(&["list", &parts[0], &parts[1]], "").ok();
+    let whole = run(&["list"], PREHEAT).ok();
+    let said = [listed.text(), whole.text()].concat();
+    held("split_list.txt", &said.replace(&folder.path(""), ""));
+}
+
+// An input and a node for each refusal: what is said, in their order.
+#[test]
+fn split_refused() {
+    let folder = Folder::new("split_refused");
+    let inputs: HashMap<_, _> = refused().into_iter().chain(wide()).collect();
+    let mut said = String::new();
+    for (name, node) in [
+        ("01-short", "9"),
+        ("02-start", "1"),
+        ("03-next", "9"),
+        ("04-row-weight", "1"),
+        ("05-nodes-far", "1"),
+        ("06-climb", "1"),
+        ("06-climb-row", "9"),
+        ("08-empty", "9"),
+        ("13", "6"),
+        ("13-sheet", "6"),
+        ("13", "4294967295"),
+        ("13", "0"),
+        ("13-sheet", "0"),
+        ("13-no-start", "3"),
+        ("13", "4"),
+        ("13-sheet", "4"),
+        ("13", "2"),
+        ("13-sheet", "2"),
+    ] {
+        let file = folder.file(name, &inputs[name]);
+        let parts = ["first", "second"].map(|name| folder.path(name));
+        let ran = run(&["split", &file, node, "-o", &parts[0], &parts[1]], "");
+        assert_eq!((ran.status, ran.out.len()), (1, 0), "{name} {node}");
+        assert!(!folder.has("first") && !folder.has("second"));
+        said += &ran.err;
+    }
+    held("split_refused.txt", &said.replace(&folder.path(""), ""));
+}
+
 #[test]
 fn pictures() {
     on("draw_a.txt", &["draw"], A);
@@ -136,6 +190,7 @@ fn help() {
         "best",
         "distances",
         "both",
+        "split",
         "draw",
         "check",
     ] {
@@ -201,6 +256,20 @@ fn labelled() -> Vec<(&'static str, Vec<u8>)> {
         ("11-links", text(&"0 1 7 7 128\n".repeat(129))),
         ("12-link", text("1 2 8 8\n0 1 7 7 -64.015625\n")),
         ("12-final", text("2 127.515625\n")),
+    ]
+}
+
+// Inputs that a search takes, and that do not narrow to all nodes.
+fn wide() -> Vec<(&'static str, Vec<u8>)> {
+    let rows = "1 2 7 7 0.5\n1 3 7 7 Infinity\n2 3 8 8\n3 4 1 1\n3\n4 5 2 2\n5 0.25\n";
+    let sheet = run(&["compile"], rows).ok().out;
+    let mut without = sheet.clone();
+    let end = without.len();
+    without[end - 4..].fill(0xFF);
+    vec![
+        ("13", rows.as_bytes().to_vec()),
+        ("13-sheet", sheet),
+        ("13-no-start", without),
     ]
 }
 

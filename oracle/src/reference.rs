@@ -45,7 +45,7 @@ macro_rules! calls {
             }
 
             /// The Rust's machine as plain data.
-            fn plain(fst: &Fst) -> Machine {
+            pub fn plain(fst: &Fst) -> Machine {
                 let node = |state| Node {
                     end: fst.final_weight(state).unwrap().map(|w| w.take_value()),
                     links: (fst.get_trs(state).unwrap().trs().iter())
@@ -89,7 +89,7 @@ macro_rules! calls {
 calls!(in_published, published);
 calls!(in_counted, counted);
 
-pub use in_published::{built, from_rows, Fst};
+pub use in_published::{built, from_rows, plain, Fst};
 
 /// The Rust's distances. Its vector grows to each node that it meets, reached or led to by a barred link.
 pub fn distances(machine: &Machine) -> Vec<f32> {

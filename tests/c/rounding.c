@@ -260,9 +260,22 @@ static void compare_rows(void) {
     }
 }
 
+/* Its two parts at the middle node. */
+static void compare_parts(void) {
+    static uint8_t plain[YELDMUR_SPLIT_BYTES(NODES, NODES * WIDEST)], other[sizeof plain];
+    uint32_t first, second, counts[2];
+    if (yeldmur_split(sheet, size, nodes / 2, plain, sizeof plain, &first, &second)) fail("no parts");
+    for (uint32_t m = 0; m < 8; m++) {
+        enter(MODES[m / 2].mode, m % 2 ? FLUSHED : 0);
+        uint32_t number = yeldmur_split(sheet, size, nodes / 2, other, sizeof other, counts, counts + 1);
+        leave(MODES[m / 2].mode, m % 2 ? FLUSHED : 0);
+        if (number || counts[0] != first || counts[1] != second || memcmp(other, plain, sizeof plain)) fail("other parts");
+    }
+}
+
 static void compare_drawn(const char *kind) {
     int32_t cost[MOST];
-    compare(0), compare(1), compare(2), compare(10), compare_rows();
+    compare(0), compare(1), compare(2), compare(10), compare_rows(), compare_parts();
     cheapest(1, nodes - 1, cost);
     printf("%s, %u nodes, %u links: cheapest %d\n", kind, nodes, links, cost[0] + final_weight);
 }

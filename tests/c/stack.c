@@ -73,6 +73,12 @@ static void two_probes(void) {
     if (yeldmur_two_probes(probes[0].bytes, probes[0].size, probes[1].bytes, probes[1].size, allowed, sizeof allowed, &told)) exit(1);
 }
 
+static void split(void) {
+    static uint8_t parts[YELDMUR_SPLIT_BYTES(NODES, LINKS)];
+    uint32_t first, second;
+    if (yeldmur_split(sheet, size, NODES / 2, parts, sizeof parts, &first, &second)) exit(1);
+}
+
 static void fields(void) {
     uint32_t a, b, c, d;
     if (yeldmur_sheet_counts(sheet, size, &a, &b, &c, &d)) exit(1);
@@ -137,7 +143,7 @@ static void make_probes(uint32_t round) {
 static const struct { void (*call)(void); const char *name; } CALLS[] = {
     {write_sheet, "writing"}, {read_sheet, "reading"}, {to_rows, "sheet to rows"}, {to_sheet, "rows to sheet"},
     {areas, "areas"}, {distances, "distances"}, {read_distance, "distances read back"}, {list, "lists"}, {read_list, "lists read back"},
-    {fields, "fields of a sheet"}, {two_probes, "what two sheets allow"}};
+    {fields, "fields of a sheet"}, {split, "two parts"}, {two_probes, "what two sheets allow"}};
 
 enum { COUNT = sizeof CALLS / sizeof *CALLS };
 

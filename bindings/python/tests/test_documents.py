@@ -8,11 +8,11 @@ import unittest
 from common import PROJECT
 
 import yeldmur
-from yeldmur import probes, refusal, search, sheet, weights
+from yeldmur import parts, probes, refusal, search, sheet, weights
 
 
 def load_tests(loader, tests, pattern):
-    for module in (yeldmur, probes, refusal, search, sheet, weights):
+    for module in (yeldmur, parts, probes, refusal, search, sheet, weights):
         tests.addTests(doctest.DocTestSuite(module))
     return tests
 

@@ -1,5 +1,5 @@
-"""Distances and lists of the cheapest readings of a machine, and the machine of what two both allow, over Yeldmur's
-shared library.
+"""Distances and lists of the cheapest readings of a machine, the machine of what two both allow, and the two parts of
+one that narrows to a node, over Yeldmur's shared library.
 
 A *sheet* is a machine of nodes and links, as bytes. A *reading* is a run of links from its start to a final node;
 its cost is the sum of its weights and the final weight, and is finite: no reading goes over a link or ends at a node
@@ -22,13 +22,15 @@ Python's numbers, is plain Python with tests.
 [(112, [1, 3]), (112, [2, 4])]
 
 Two sheets of the same bake give the sheet of what both allow, by `two_probes`: its readings are the pairs of readings
-with the same labels, and cost their sum.
+with the same labels, and cost their sum. A sheet that narrows to a node, as where preheat ends, has two parts, by
+`split`: the costs of the whole's list are the least sums of one cost from each part's.
 
 `Areas` keeps the memory for calls in a loop. `raw` has the library's calls themselves, in areas that the caller
 lends.
 """
 from . import raw
 from .limits import LINK_LIMIT, LIST_LIMIT, NODE_LIMIT, WEIGHT_LIMIT
+from .parts import Part, Parts, split
 from .probes import two_probes
 from .refusal import Refusal
 from .search import Areas, List, Reading, best, distances, list_readings
@@ -44,6 +46,8 @@ __all__ = [
     "Areas",
     "Link",
     "List",
+    "Part",
+    "Parts",
     "Reading",
     "Refusal",
     "Sheet",
@@ -52,5 +56,6 @@ __all__ = [
     "distances",
     "list_readings",
     "raw",
+    "split",
     "two_probes",
 ]

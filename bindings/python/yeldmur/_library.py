@@ -53,6 +53,7 @@ TAKES = {
     "yeldmur_shortest_distance": (*_READ, *_WORDS, *_BYTES, _TOLD),
     "yeldmur_shortest_path": (*_READ, Number, *_WORDS, *_BYTES, _TOLD, _TOLD, _TOLD),
     "yeldmur_two_probes": (*_READ, *_READ, *_BYTES, _LONG),
+    "yeldmur_split": (*_READ, Number, *_BYTES, _TOLD, _TOLD),
     "yeldmur_readings": (*_READ, Number, Number, Number, _TOLD),
     "yeldmur_reading": (
         *(*_READ, Number, *_READ, Number, Number, Number),

@@ -47,6 +47,11 @@ def sheet_size(nodes: int, links: int) -> int:
     return 16 * links + 12 * nodes + 20
 
 
+def split_size(nodes: int, links: int) -> int:
+    """The bytes of both parts of a sheet, and of a word for each link, wherever the parts meet."""
+    return 20 * links + 12 * (nodes + 1) + 40
+
+
 class Needed(NamedTuple):
     """What a list is made in."""
 
@@ -62,6 +67,13 @@ class Listed(NamedTuple):
     states: int
     links: int
     taken: int
+
+
+class Split(NamedTuple):
+    """How many links each of two parts has."""
+
+    first: int
+    second: int
 
 
 class Told(NamedTuple):
@@ -163,6 +175,15 @@ def two_probes(first: Readable, second: Readable, result: ByteArea) -> int:
     areas = (first, len(first), second, len(second), result, len(result))
     library.yeldmur_two_probes(*areas, byref(size))
     return size.value
+
+
+def split(sheet: Readable, c: int, result: ByteArea) -> Split:
+    """Writes the two parts of a sheet at node c, each with a word for each of its links behind it, the number that
+    the link has in the whole: tests 1 to 6, then 13 and 21. `split_size` bytes are as many as there are."""
+    first, second = c_uint32(), c_uint32()
+    areas = (sheet, len(sheet), c, result, len(result))
+    library.yeldmur_split(*areas, byref(first), byref(second))
+    return Split(first.value, second.value)
 
 
 def readings(result: Readable, n: int, states: int, links: int) -> int:

@@ -15,6 +15,7 @@ _WORDS = {
     10: "a label that is 0 or differs between input and output",
     11: "a product above 2,048 nodes or 16,384 links",
     12: "a finite sum off the grid",
+    13: "a machine that does not narrow to the node",
     20: "work area shorter than needed",
     21: "result area shorter than this very answer",
     30: "a result that is no answer",
@@ -27,7 +28,8 @@ class Refusal(Exception):
 
     Tests go by number over the whole sheet, so that a sheet with more than one fault gets the lowest;
     8 alone, of a text, is tested before all others. Of two sheets all of the first's tests come before those of
-    the second, and 10 to 12 after both. N is the count of a sheet's nodes, T that of its links.
+    the second, and 10 to 12 after both; 13, of a sheet and a node, comes after 6. N is the count of a sheet's
+    nodes, T that of its links.
 
     >>> from yeldmur import Refusal, Sheet
     >>> try:
@@ -49,6 +51,7 @@ class Refusal(Exception):
     LABELS = 10
     PRODUCT = 11
     SUM = 12
+    NARROW = 13
     WORK = 20
     RESULT = 21
     NO_ANSWER = 30

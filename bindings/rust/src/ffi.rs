@@ -1,4 +1,4 @@
-//! The seventeen functions of the static library. All that is `unsafe` in this crate stands here: each slice goes over as
+//! The eighteen functions of the static library. All that is `unsafe` in this crate stands here: each slice goes over as
 //! its pointer and its length, each number to be told as a pointer. The functions have no requirements; that they stay inside the
 //! slices is proved, and so is every value that they leave there. A function returns 0 or the number of the refusal,
 //! and with a refusal the numbers to be told keep their values.
@@ -79,6 +79,15 @@ extern "C" {
         result: *mut u8,
         result_bytes: usize,
         size: *mut u64,
+    ) -> u32;
+    fn yeldmur_split(
+        sheet: *const u8,
+        sheet_bytes: usize,
+        c: u32,
+        result: *mut u8,
+        result_bytes: usize,
+        first: *mut u32,
+        second: *mut u32,
     ) -> u32;
     fn yeldmur_readings(
         result: *const u8,
@@ -295,6 +304,23 @@ pub fn two_probes(first: &[u8], second: &[u8], result: &mut [u8], size: &mut u64
             result.as_mut_ptr(),
             result.len(),
             size,
+        )
+    }
+}
+
+/// Writes the two parts of a sheet at node c: tests 1 to 6, then 13 and 21.
+pub fn split(sheet: &[u8], c: u32, result: &mut [u8], first: &mut u32, second: &mut u32) -> u32 {
+    // SAFETY: each pointer and length are of one slice, lent for the call; `result` and the two numbers,
+    // which are written to, are lent mutably, so that they overlap nothing.
+    unsafe {
+        yeldmur_split(
+            sheet.as_ptr(),
+            sheet.len(),
+            c,
+            result.as_mut_ptr(),
+            result.len(),
+            first,
+            second,
         )
     }
 }

@@ -1,5 +1,5 @@
-//! Distances and lists of the cheapest readings of a machine, and the machine of what two both allow, proved: this crate is a safe layer
-//! over Yeldmur's static library.
+//! Distances and lists of the cheapest readings of a machine, the machine of what two both allow, and the two parts of one that narrows to
+//! a node, proved: this crate is a safe layer over Yeldmur's static library.
 //!
 //! A *sheet* is a machine of nodes and links, as bytes. A *reading* is a run of links from its start to a final node; its cost
 //! is the sum of its weights and the final weight, and is finite. Of every sheet that it accepts, and for every n from 1 to 64, the
@@ -46,7 +46,8 @@
 //! ```
 //!
 //! Two sheets of the same bake give the sheet of what both allow, by [`two_probes`]: its readings are the pairs of readings with the same
-//! labels, and cost their sum.
+//! labels, and cost their sum. A sheet that narrows to a node, as where preheat ends, has two parts, by [`split`]: the costs of the whole's
+//! list are the least sums of one cost from each part's.
 //!
 //! A program that has its links as numbers hands them to [`Sheet::write`]; bytes that were written before go to [`Sheet::read`].
 //!
@@ -70,6 +71,7 @@ pub mod ffi;
 mod layout;
 mod limits;
 mod list;
+mod parts;
 mod probes;
 pub mod raw;
 mod refusal;
@@ -79,6 +81,7 @@ mod units;
 
 pub use limits::{LINK_LIMIT, LIST_LIMIT, NODE_LIMIT, WEIGHT_LIMIT};
 pub use list::{distances, list, Areas, List, Reading};
+pub use parts::{split, Part, Parts};
 pub use probes::two_probes;
 pub use refusal::Refusal;
 pub use sheet::{Link, Sheet};

@@ -246,6 +246,11 @@ impl<'a> Reading<'a> {
         let sheet = self.sheet;
         self.numbers().map(move |number| sheet.link_at(number))
     }
+
+    // Whether it is a reading of this sheet, or of one with the same bytes.
+    pub(crate) fn is_of(&self, sheet: &Sheet) -> bool {
+        std::ptr::eq(self.sheet, sheet) || self.sheet == sheet
+    }
 }
 
 impl fmt::Debug for Reading<'_> {

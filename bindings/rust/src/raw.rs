@@ -51,6 +51,37 @@ impl Listed {
     }
 }
 
+/// What the call for two parts tells besides the bytes of the result.
+#[derive(Clone, Copy, Debug, PartialEq, Eq)]
+pub struct Split {
+    /// The links of the first part.
+    pub first: u32,
+    /// The links of the second part.
+    pub second: u32,
+}
+
+impl Split {
+    /// The bytes of the first part's sheet, which stands first in the result, where the sheet was parted at node c.
+    pub fn first_len(&self, c: u32) -> usize {
+        LINK * self.first as usize + NODE * (c as usize + 1) + TRAILER
+    }
+
+    /// Where the second part's sheet begins: behind the first's, and a word for each link of it.
+    pub fn second_at(&self, c: u32) -> usize {
+        self.first_len(c) + 4 * self.first as usize
+    }
+
+    /// The bytes of the second part's sheet, where the whole has so many nodes. A word for each link of it follows.
+    pub fn second_len(&self, nodes: u32, c: u32) -> usize {
+        LINK * self.second as usize + NODE * (nodes - c) as usize + TRAILER
+    }
+}
+
+/// The bytes of both parts of a sheet with so many nodes and links, and of their words: 20 a link, 12 a node and 52, whatever c is.
+pub fn split_len(nodes: u32, links: u32) -> usize {
+    (LINK + 4) * links as usize + NODE * (nodes as usize + 1) + 2 * TRAILER
+}
+
 /// What is told of a reading besides the numbers of its links.
 #[derive(Clone, Copy, Debug, PartialEq, Eq)]
 pub struct ReadBack {
@@ -171,6 +202,14 @@ pub fn two_probes(first: &[u8], second: &[u8], result: &mut [u8]) -> Result<usiz
     let mut size = 0;
     told(ffi::two_probes(first, second, result, &mut size))?;
     Ok(size as usize)
+}
+
+/// Writes the two parts of a sheet at node c, as [`split`](crate::split) has them, each with a word for each of its links behind it, the
+/// number that the link has in the whole: tests 1 to 6, then 13 and 21. [`split_len`] bytes are as many as there are.
+pub fn split(sheet: &[u8], c: u32, result: &mut [u8]) -> Result<Split, Refusal> {
+    let (mut first, mut second) = (0, 0);
+    told(ffi::split(sheet, c, result, &mut first, &mut second))?;
+    Ok(Split { first, second })
 }
 
 /// How many readings the result of [`shortest_path`] for n holds: tests 7, then 30 where the result is shorter than the counts told

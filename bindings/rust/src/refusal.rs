@@ -6,8 +6,8 @@ use std::fmt;
 
 /// Why a call was refused. Tests go by number over the whole sheet, so that a sheet with more than one
 /// fault gets the lowest number; 8 alone, of a text, is tested before all others. Of two sheets all of the
-/// first's tests come before those of the second, and 10 to 12 after both. N is the number of nodes of a
-/// sheet, T that of its links.
+/// first's tests come before those of the second, and 10 to 12 after both; 13, of a sheet and a node, comes
+/// after 6. N is the number of nodes of a sheet, T that of its links.
 #[derive(Clone, Copy, Debug, PartialEq, Eq, Hash)]
 #[non_exhaustive]
 pub enum Refusal {
@@ -39,6 +39,9 @@ pub enum Refusal {
     /// 12: the weights of two links with one label, or of two final nodes, have a finite sum off the grid, more than 128
     /// either way.
     Sum,
+    /// 13: a machine that does not narrow to node c. It narrows to c if c is below N, the start is present and not above c, no
+    /// node below c is final and no link leads from below c to above it; reached or not, barred or not.
+    Narrow,
     /// 20: work area shorter than needed.
     WorkArea,
     /// 21: result area shorter than this very answer.
@@ -49,7 +52,7 @@ pub enum Refusal {
     Absent,
 }
 
-const ALL: [Refusal; 16] = [
+const ALL: [Refusal; 17] = [
     Refusal::Layout,
     Refusal::Start,
     Refusal::Next,
@@ -62,6 +65,7 @@ const ALL: [Refusal; 16] = [
     Refusal::Labels,
     Refusal::Product,
     Refusal::Sum,
+    Refusal::Narrow,
     Refusal::WorkArea,
     Refusal::ResultArea,
     Refusal::NoAnswer,
@@ -84,6 +88,7 @@ impl Refusal {
             Refusal::Labels => 10,
             Refusal::Product => 11,
             Refusal::Sum => 12,
+            Refusal::Narrow => 13,
             Refusal::WorkArea => 20,
             Refusal::ResultArea => 21,
             Refusal::NoAnswer => 30,
@@ -116,6 +121,7 @@ impl Refusal {
             Refusal::Labels => "a label that is 0 or differs between input and output",
             Refusal::Product => "a product above 2,048 nodes or 16,384 links",
             Refusal::Sum => "a finite sum off the grid",
+            Refusal::Narrow => "a machine that does not narrow to the node",
             Refusal::WorkArea => "work area shorter than needed",
             Refusal::ResultArea => "result area shorter than this very answer",
             Refusal::NoAnswer => "a result that is no answer",

@@ -137,7 +137,7 @@ fn raw_calls_change_nothing() {
 fn numbers_and_words() {
     for number in 0..100 {
         let refusal = Refusal::from_number(number);
-        let known = matches!(number, 1..=12 | 20 | 21 | 30 | 31);
+        let known = matches!(number, 1..=13 | 20 | 21 | 30 | 31);
         assert_eq!(refusal.is_some(), known);
         assert_eq!(refusal.map(Refusal::number), known.then_some(number));
     }
@@ -157,6 +157,10 @@ fn numbers_and_words() {
     assert_eq!(
         Refusal::Sum.to_string(),
         "refused 12: a finite sum off the grid"
+    );
+    assert_eq!(
+        Refusal::Narrow.to_string(),
+        "refused 13: a machine that does not narrow to the node"
     );
     assert_eq!(
         Refusal::NoAnswer.to_string(),

@@ -39,6 +39,7 @@ fn compared(
     };
     Outcome {
         output,
+        second: Vec::new(),
         message: None,
         status,
     }

@@ -7,6 +7,7 @@ mod distances;
 mod list;
 mod picture;
 mod refused;
+mod split;
 mod table;
 
 use std::fmt::Display;
@@ -33,6 +34,8 @@ pub enum Status {
 pub struct Outcome {
     /// What is written where answers go.
     pub output: Vec<u8>,
+    /// What is written where the second of two parts goes.
+    pub second: Vec<u8>,
     /// What is said on standard error.
     pub message: Option<String>,
     /// What it means for the exit status.
@@ -43,6 +46,7 @@ impl Outcome {
     fn done(output: impl Into<Vec<u8>>) -> Outcome {
         Outcome {
             output: output.into(),
+            second: Vec::new(),
             message: None,
             status: Status::Done,
         }
@@ -51,6 +55,7 @@ impl Outcome {
     fn failed(message: String) -> Outcome {
         Outcome {
             output: Vec::new(),
+            second: Vec::new(),
             message: Some(message),
             status: Status::Failed,
         }
@@ -98,10 +103,9 @@ fn read(source: &Source) -> Result<Input, Outcome> {
 }
 
 fn answer_to(options: &Options, areas: &mut Areas, source: &Source, input: &Input) -> Outcome {
-    if options.command == Command::Check {
-        return check::outcome(options, source, input);
-    }
     let answered = match options.command {
+        Command::Check => return check::outcome(options, source, input),
+        Command::Split => return split::outcome(options, source, input),
         Command::Compile => compiled(input),
         Command::Print => printed(input),
         Command::Distances => distances::answer(options, areas, source, input),

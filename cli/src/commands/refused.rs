@@ -30,6 +30,7 @@ pub(super) fn outcome(
 pub(super) fn refused(refusal: Refusal, place: &str) -> Outcome {
     Outcome {
         output: Vec::new(),
+        second: Vec::new(),
         message: Some(format!("{}: {place}", said(refusal))),
         status: Status::Refused,
     }

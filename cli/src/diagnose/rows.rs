@@ -56,6 +56,9 @@ pub(super) fn fault(text: &[u8], tests: Tests) -> Option<Fault> {
         Tests::Labels => limits(&rows)
             .or_else(|| climb(&rows))
             .or_else(|| labels(&rows)),
+        Tests::Narrow(c) => limits(&rows)
+            .or_else(|| climb(&rows))
+            .or_else(|| narrow(&rows, c)),
         // rows that can be read give a sheet that has rows
         Tests::Rows => None,
     })
@@ -229,6 +232,59 @@ fn labels(rows: &[Row]) -> Option<Fault> {
     })
 }
 
+fn narrow(rows: &[Row], c: u32) -> Option<Fault> {
+    no_such_node(rows, c)
+        .or_else(|| start_above(rows, c))
+        .or_else(|| marked_below(rows, c))
+        .or_else(|| leads_past(rows, c))
+}
+
+// The last node is the highest that is named.
+fn no_such_node(rows: &[Row], c: u32) -> Option<Fault> {
+    let named = rows
+        .iter()
+        .flat_map(|row| row.nodes().map(move |node| (row, node)));
+    let (row, last) = named.reduce(|high, other| {
+        let higher = other.1.number > high.1.number;
+        if higher {
+            other
+        } else {
+            high
+        }
+    })?;
+    let why = format!(
+        "node {} is the highest, and node {c} is above it",
+        last.number
+    );
+    (last.number < c).then(|| row.fault(13, last.column, why))
+}
+
+fn start_above(rows: &[Row], c: u32) -> Option<Fault> {
+    let first = rows.first()?;
+    let start = first.node;
+    let why = format!("the start is node {}, above node {c}", start.number);
+    (c < start.number).then(|| first.fault(13, start.column, why))
+}
+
+fn marked_below(rows: &[Row], c: u32) -> Option<Fault> {
+    rows.iter().find_map(|row| {
+        let why = format!("node {} is final, below node {c}", row.node.number);
+        let marked = row.next.is_none() && row.node.number < c;
+        marked.then(|| row.fault(13, row.node.column, why))
+    })
+}
+
+fn leads_past(rows: &[Row], c: u32) -> Option<Fault> {
+    rows.iter().find_map(|row| {
+        let (source, next) = (row.node.number, row.next?);
+        let why = format!(
+            "leads from node {source} past node {c} to node {}",
+            next.number
+        );
+        (source < c && c < next.number).then(|| row.fault(13, next.column, why))
+    })
+}
+
 #[cfg(test)]
 mod tests {
     use super::*;
@@ -273,6 +329,42 @@ mod tests {
             assert_eq!(found_by(text, Tests::Labels), said, "{text:?}");
         }
         assert_eq!(found("0 1 7 8\n"), "none");
+    }
+
+    #[test]
+    fn what_does_not_narrow() {
+        for (text, c, said) in [
+            ("0 1 7 7\n1 2 8 8\n2\n", 1, "none"),
+            ("0 1 7 7\n1\n1 2 8 8\n2\n", 1, "none"),
+            ("0 1 7 7\n1 2 8 8\n2\n", 0, "none"),
+            (
+                "0 1 7 7\n1 2 8 8\n2\n",
+                3,
+                "13 row 2, column 3: node 2 is the highest, and node 3 is above it",
+            ),
+            (
+                " 2 3 7 7\n0 3 7 7\n0\n",
+                1,
+                "13 row 1, column 2: the start is node 2, above node 1",
+            ),
+            (
+                "0 2 7 7\n0 Infinity\n1\n2\n",
+                1,
+                "13 row 2, column 1: node 0 is final, below node 1",
+            ),
+            (
+                "0 1 7 7\n0  2 7 7 Infinity\n2\n",
+                1,
+                "13 row 2, column 4: leads from node 0 past node 1 to node 2",
+            ),
+            (
+                "0 2 7 7\n1 1 8 8\n2\n",
+                1,
+                "6 row 2, column 3: leads from node 1 to node 1",
+            ),
+        ] {
+            assert_eq!(found_by(text, Tests::Narrow(c)), said, "{text:?}");
+        }
     }
 
     #[test]

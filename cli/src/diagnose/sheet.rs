@@ -115,6 +115,9 @@ pub(super) fn fault(bytes: &[u8], tests: Tests) -> Option<Fault> {
         Tests::Labels => limits(sheet)
             .or_else(|| climb(sheet))
             .or_else(|| labels(sheet)),
+        Tests::Narrow(c) => limits(sheet)
+            .or_else(|| climb(sheet))
+            .or_else(|| narrow(sheet, c)),
         Tests::Rows => bare_start(sheet).or_else(|| bare_last(sheet)),
     })
 }
@@ -235,6 +238,42 @@ fn labels(sheet: &Fields) -> Option<Fault> {
         };
         Some(Fault::new(10, Place::Link(number), why))
     })
+}
+
+fn narrow(sheet: &Fields, c: u32) -> Option<Fault> {
+    start_by(sheet, c)
+        .or_else(|| marked_below(sheet, c))
+        .or_else(|| leads_past(sheet, c))
+}
+
+// The node is there, and the start is not above it.
+fn start_by(sheet: &Fields, c: u32) -> Option<Fault> {
+    let (nodes, start) = (sheet.nodes(), sheet.start());
+    let (field, why) = if nodes <= c {
+        ("nodes", format!("{nodes}, so that there is no node {c}"))
+    } else if start == NONE {
+        ("start", "there is none".to_string())
+    } else if c < start {
+        ("start", format!("{start}, above node {c}"))
+    } else {
+        return None;
+    };
+    Some(Fault::new(13, Place::Field(field), why))
+}
+
+fn marked_below(sheet: &Fields, c: u32) -> Option<Fault> {
+    let mut below = sheet.each_node().take(c as usize);
+    let (number, _) = below.find(|(_, node)| node.mark == 1)?;
+    let why = format!("it is final, below node {c}");
+    Some(Fault::new(13, Place::Node(number), why))
+}
+
+fn leads_past(sheet: &Fields, c: u32) -> Option<Fault> {
+    let mut links = sheet.each_link();
+    let (number, link) = links.find(|(_, link)| link.source < c && c < link.next)?;
+    let (source, next) = (link.source, link.next);
+    let why = format!("leads from node {source} past node {c} to node {next}");
+    Some(Fault::new(13, Place::Link(number), why))
 }
 
 fn bare_start(sheet: &Fields) -> Option<Fault> {

@@ -1,5 +1,5 @@
 -- Distances written one after the other: two words each, and each is read back at its place. Assumes nothing.
-use mathlib.Core.Path.{◌≡◌, refl, sym, ap, ◌∙◌}
+use mathlib.Core.Path.{◌≡◌, refl, ap, ◌∙◌}
 use mathlib.Core.List.{List, [], ◌∷◌, ◌++◌, flat_map}
 use Prim.Native.Nat.{ℕ, zero, suc, ◌+◌, ◌*◌, ◌<◌}
 use native.Mathlib.Omega.{arith}
@@ -7,8 +7,7 @@ use lib.ListN.{length, get_or, length-append, get_or-append}
 use lib.Seq.{get_or-append-add}
 use Rattle.tropical_weight.specs.Tropical.{fin}
 use Rattle.sheet.specs.Words.{word, bytes_of_all}
-use Rattle.sheet.proofs.Fields.{get_d_words}
-use Rattle.sheet.proofs.Round.{Below, words_of}
+use Rattle.sheet.proofs.Round.{Below, word_back}
 use Rattle.sheet.proofs.Encoding.{bits-lt}
 use Rattle.machine.specs.Distance.{Distance, reached, unreached}
 use Rattle.distance.specs.Written.{written}
@@ -49,6 +48,5 @@ pub value-at : (ds : List Distance) (rest : List ℕ) (v i : ℕ) → v < length
 value-at ds rest v i h b =
     let ws = flat_map written ds in
     ap (word (bytes_of_all ws ++ rest)) (let z : 8 * v + 4 * i ≡ 0 + 4 * (2 * v + i) = omega arith in z)
-    ∙ sym (get_d_words (bytes_of_all ws ++ rest) 0 (length ws) (2 * v + i) (omega (arith, length-written ds)))
-    ∙ ap (λ (l : List ℕ). get_or l (2 * v + i) 0) (words_of ws [] rest (written_below ds))
+    ∙ word_back ws [] rest (written_below ds) (2 * v + i) (omega (arith, length-written ds))
     ∙ word_at ds v i h b

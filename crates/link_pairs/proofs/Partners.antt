@@ -12,16 +12,10 @@ use lib.Seq.{length-take-le, get_or-take, get_or-drop, drop-cons}
 use borrow.Author.Tests.{eq-eqb, ne_eqb}
 use Rattle.machine.specs.Readings.{keep}
 use Rattle.machine.specs.Demand.{◌∈◌}
-use Rattle.machine.proofs.Lists.{here, mem-get_or, keep_append}
+use Rattle.machine.proofs.Lists.{mem-get_or, keep_append, keep-none}
 use Rattle.sorted_keys.specs.Sorted.{Rising, FirstAtLeast}
 use Rattle.product.specs.Keys.{link_key, key_label}
 use Rattle.link_pairs.specs.Found.{partners}
-
--- none passes the test
-keep-none : {A : Type 0} (p : A → Bool) (l : List A) → ((x : A) → x ∈ l → p x ≡ false) → keep p l ≡ []
-unfolding keep
-keep-none p [] f = refl
-keep-none {A} p (x ∷ l) f = ap (λ (b : Bool). cond b (x ∷ keep p l) (keep p l)) (f x (here x l)) ∙ keep-none p l (λ y m. f y (Memᴰ.tail m))
 
 -- a key of those from a place on, by its place among all
 pub key-behind : (keys : List ℕ) (low i : ℕ) → low + i < length keys → get_or (take (length keys - low) (drop low keys)) i 0 ≡ get_or keys (low + i) 0

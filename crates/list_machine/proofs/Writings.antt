@@ -11,15 +11,13 @@ use lib.Dec.{eqb, ltb}
 use lib.ListN.{length, get_or, take, drop, replicate, length-append}
 use lib.Seq.{take-suc, take-length}
 use borrow.Author.Tests.{eq-eqb, ne_eqb}
-use lib.Ieee.{to_bits, round}
 use Rattle.tropical_weight.specs.Tropical.{Tropical, one}
-use Rattle.tropical_weight.specs.Grid.{of_k}
 use Rattle.sheet.specs.Words.{word, bytes_of_all}
 use Rattle.sheet.specs.Sheet.{parts_of, stated_links, stated_nodes, sheet_of, trailer_of}
 use Rattle.sheet.specs.Machine.{Link, Machine, machine_of, machine, bits_of, link_fields, leaving, node_fields, parts_for}
 use Rattle.sheet.proofs.Bytes.{bytes_of_all-append}
 use Rattle.sheet.proofs.Round.{Below}
-use Rattle.sheet.proofs.Encoding.{links-are, nodes-are, start_is}
+use Rattle.sheet.proofs.Encoding.{links-are, nodes-are, start_is, bits-one}
 use Rattle.machine.specs.Readings.{link, final, final_weight}
 use Rattle.machine.specs.Input.{input_number}
 use Rattle.machine.proofs.SheetFields.{SheetFields, sheet-fields, final-word}
@@ -38,10 +36,6 @@ use Rattle.list_answer.specs.ListAnswer.{listed_by, listed_in, listed_over, link
 use Rattle.list_machine.proofs.Marks.{stated-other, from-other, listed-other, new-kept}
 use Rattle.list_machine.proofs.Placing.{length-list, stated-off, stated-on, repeat-off, repeat-on, entry-blank, entry-copied}
 use Rattle.list_machine.proofs.Trimming.{kept-count, state-on, state-off}
-
--- the bits of the semiring's one
-bits-one : bits_of one ≡ 0
-bits-one = unfold of_k round to_bits in refl
 
 -- ---- lists
 flat_append : (a b : List Link) → flat_map link_fields (a ++ b) ≡ flat_map link_fields a ++ flat_map link_fields b

@@ -12,15 +12,15 @@ use lib.ListN.{length, get_or, get_or-eq_default}
 use lib.Ieee.{binary32, of_bits, to_bits, is_nan}
 use lib.Ieee.Bits.{of_bits-fits, to_bits-of_bits}
 use lib.Ieee.Fits.{and_l, and_r}
-use borrow.Author.Tests.{eqb-true, eqb-false}
+use borrow.Author.Tests.{eqb-true}
 use Rattle.tropical_weight.specs.Limits.{unit, weight_limit, sum_limit, node_limit, link_limit}
 use Rattle.tropical_weight.specs.Tropical.{Tropical, fin, inf, Within}
 use Rattle.tropical_weight.specs.Grid.{of_t, grid_bits, units_of}
 use Rattle.tropical_weight.proofs.Exact.{of_t-no-nan, bits_back}
 use Rattle.tropical_weight.proofs.Sums.{within-mono}
 use Rattle.tropical_weight.proofs.Grid.{on_grid-whole}
-use Rattle.sheet.specs.Below.{all_below}
-use Rattle.sheet.specs.Sheet.{Parts, no_start, link_count, node_count, mark, final_bits, link_bits, next, start_fits, barred_bits, weight_fits, nodes_fit, nexts_fit, weights_fit, verdict, parts_of, sizes_fit, read_number}
+use Rattle.sheet.specs.Below.{all_below, sum_below}
+use Rattle.sheet.specs.Sheet.{Parts, no_start, link_count, node_count, count, mark, final_bits, link_bits, next, well_marked, start_fits, barred_bits, weight_fits, nodes_fit, nexts_fit, weights_fit, verdict, parts_of, sizes_fit, read_number}
 use Rattle.sheet.specs.Machine.{machine_of, sources_below, weight_of, bits_of, link_of}
 use Rattle.sheet.proofs.Below.{all_below-at, split_at}
 use Rattle.sheet.proofs.Sources.{sources-rise, length-sources, counts-sum, machine-link, machine-links, machine-final, machine-nodes}
@@ -28,6 +28,7 @@ use Rattle.sheet.proofs.Encoding.{bits-inf}
 use Rattle.machine.specs.Readings.{link, final, no_link}
 use Rattle.machine.specs.Climbs.{Climbs, Small}
 use Rattle.sheet.proofs.Apart.{both}
+use Rattle.sheet.proofs.Refusals.{first-zero}
 use Rattle.machine.specs.Input.{counts_fit, links_climb, bounds_number, input_number}
 
 -- ---- a weight's field that passes test 4
@@ -91,11 +92,7 @@ bounds-passes p = go (counts_fit p) (links_climb p)
 -- the two parts of the input's number
 pub input-read : (bytes : List ℕ) → input_number bytes ≡ 0 → (read_number bytes ≡ 0) × (bounds_number (parts_of bytes) ≡ 0)
 unfolding input_number
-input-read bytes e = go (eqb (read_number bytes) 0) refl e
-  where
-    go : (b : Bool) → eqb (read_number bytes) 0 ≡ b → cond (not b) (read_number bytes) (bounds_number (parts_of bytes)) ≡ 0 → (read_number bytes ≡ 0) × (bounds_number (parts_of bytes) ≡ 0)
-    go true q e = (eqb-true (read_number bytes) 0 q, e)
-    go false q e = (e, absurd (eqb-false (read_number bytes) 0 q e))
+input-read bytes e = first-zero (read_number bytes) (bounds_number (parts_of bytes)) e
 
 pub passes : (bytes : List ℕ) → input_number bytes ≡ 0 → Passes (parts_of bytes)
 unfolding read_number
@@ -104,6 +101,29 @@ passes bytes e =
     let v = verdict-passes (sizes_fit bytes) (parts_of bytes) r.0 in
     let b = bounds-passes (parts_of bytes) r.1 in
     record { nodes-fit = v.1; start_fits_lem = v.2; nexts-fit = v.3; weights-fit = v.4; counts-fit = b.0; climb = b.1 }
+
+-- ---- what tests 1 and 4 say
+pub read-passes : (bytes : List ℕ) → read_number bytes ≡ 0 → (nodes_fit (parts_of bytes) ≡ true) × (weights_fit (parts_of bytes) ≡ true)
+unfolding read_number
+read-passes bytes e = let v = verdict-passes (sizes_fit bytes) (parts_of bytes) e in (v.1, v.4)
+
+-- of a node and of a link
+module _ (p : Parts) where
+  pub well_marked-at : nodes_fit p ≡ true → (v : ℕ) → v < node_count p → well_marked (mark p v) (final_bits p v) ≡ true
+  unfolding nodes_fit
+  well_marked-at e v h =
+      all_below-at (node_count p) (λ v. well_marked (mark p v) (final_bits p v)) (both (all_below (node_count p) (λ v. well_marked (mark p v) (final_bits p v))) (eqb (sum_below (node_count p) (count p)) (link_count p)) e).0 v h
+
+  module _ (e : weights_fit p ≡ true) where
+    both_fit : (all_below (link_count p) (λ l. weight_fits (link_bits p l)) ≡ true) × (all_below (node_count p) (λ v. eqb (mark p v) 0 || weight_fits (final_bits p v)) ≡ true)
+    unfolding weights_fit
+    both_fit = both (all_below (link_count p) (λ l. weight_fits (link_bits p l))) (all_below (node_count p) (λ v. eqb (mark p v) 0 || weight_fits (final_bits p v))) e
+
+    pub link_bits-fit : (l : ℕ) → l < link_count p → weight_fits (link_bits p l) ≡ true
+    link_bits-fit l h = all_below-at (link_count p) (λ l. weight_fits (link_bits p l)) both_fit.0 l h
+
+    pub final_bits-fit : (v : ℕ) → v < node_count p → eqb (mark p v) 0 || weight_fits (final_bits p v) ≡ true
+    final_bits-fit v h = all_below-at (node_count p) (λ v. eqb (mark p v) 0 || weight_fits (final_bits p v)) both_fit.1 v h
 
 -- ---- the machine
 module _ (p : Parts) (t : Passes p) where
@@ -138,12 +158,10 @@ module _ (p : Parts) (t : Passes p) where
   }
 
   pub link-grid : (l : ℕ) → l < link_count p → weight_fits (link_bits p l) ≡ true
-  unfolding weights_fit
-  link-grid l h = all_below-at (link_count p) (λ l. weight_fits (link_bits p l)) (both (all_below (link_count p) (λ l. weight_fits (link_bits p l))) (all_below (node_count p) (λ v. eqb (mark p v) 0 || weight_fits (final_bits p v))) t.weights-fit).0 l h
+  link-grid l h = link_bits-fit p t.weights-fit l h
 
   pub final-grid : (v : ℕ) → v < node_count p → eqb (mark p v) 0 || weight_fits (final_bits p v) ≡ true
-  unfolding weights_fit
-  final-grid v h = all_below-at (node_count p) (λ v. eqb (mark p v) 0 || weight_fits (final_bits p v)) (both (all_below (link_count p) (λ l. weight_fits (link_bits p l))) (all_below (node_count p) (λ v. eqb (mark p v) 0 || weight_fits (final_bits p v))) t.weights-fit).1 v h
+  final-grid v h = final_bits-fit p t.weights-fit v h
 
   -- a final weight is that of the node's field, which passes test 4
   marked : (v : ℕ) (w : Tropical) → final (machine_of p) v ≡ some w → (w ≡ weight_of (final_bits p v)) × (weight_fits (final_bits p v) ≡ true)

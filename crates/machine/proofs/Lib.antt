@@ -13,6 +13,8 @@ pub mod Fold
 pub mod Demand
 pub mod Accepted
 pub mod SheetOf
+pub mod Leaving
+pub mod Again
 pub mod Testing
 pub mod SheetFields
 pub mod Bench

@@ -2,13 +2,14 @@
 use mathlib.Core.Path.{◌≡◌, refl, sym, ap, ◌∙◌, subst}
 use mathlib.Core.Logic.{◌⊎◌, inl, inr}
 use mathlib.Core.List.Memᴰ
-use mathlib.Core.List.{List, [], ◌∷◌, ◌++◌, map, reverse, reverse-cons, append-nil}
+use mathlib.Core.List.{List, [], ◌∷◌, ◌++◌, map, reverse, reverse-cons, append-nil, append_assoc}
 use mathlib.Core.Bool.{Bool, true, false, cond}
-use Prim.Native.Nat.{ℕ, zero, suc, ◌≤◌, ◌<◌}
+use Prim.Native.Nat.{ℕ, zero, suc, ◌+◌, ◌≤◌, ◌<◌}
 use native.Mathlib.Decide.{ℕ_discrete}
 use native.Mathlib.Omega.{arith}
 use lib.ListN.{length, get_or, length-append, length-map}
 use lib.Seq.{ext_get_or}
+use Rattle.std.proofs.lemmas.List.{nil_from_length}
 use Rattle.sheet.specs.Below.{list_below}
 use Rattle.sheet.proofs.Apart.{not-both}
 use Rattle.sheet.proofs.Below.{length-list_below, get_or-list_below}
@@ -52,6 +53,15 @@ mem_below {A} f (suc n) {a} m = go (λ q. mem_below f n q) (Memᴰ.append_cases 
     go : (a ∈ list_below n f → (v : ℕ) × (v < n) × (a ≡ f v)) → a ∈ list_below n f ⊎ a ∈ (f n ∷ []) → (v : ℕ) × (v < suc n) × (a ≡ f v)
     go ih (inl q) = let r = ih q in (r.0, omega (arith, r.1), r.2)
     go ih (inr q) = (n, omega arith, Memᴰ.eq_of_singleton q)
+
+-- the first a of them, and those after
+pub below-append : {A : Type 0} (f : ℕ → A) (a b : ℕ) → list_below (a + b) f ≡ list_below a f ++ list_below b (λ i. f (a + i))
+unfolding list_below
+below-append f a zero = ap (λ (n : ℕ). list_below n f) (let e : a + 0 ≡ a = omega arith in e) ∙ sym (append-nil (list_below a f))
+below-append f a (suc b) =
+    ap (λ (n : ℕ). list_below n f) (let e : a + suc b ≡ suc (a + b) = omega arith in e)
+    ∙ ap (λ l. l ++ (f (a + b) ∷ [])) (below-append f a b)
+    ∙ append_assoc (list_below a f) (list_below b (λ i. f (a + i))) (f (a + b) ∷ [])
 
 -- ---- maps
 pub map-append : {A B : Type 0} (f : A → B) (l k : List A) → map f (l ++ k) ≡ map f l ++ map f k
@@ -179,6 +189,13 @@ perm-swap (x ∷ l) k = thru (skip x (perm-swap l k)) (perm-sym (perm_middle k x
 pub nodup-length : {A : Type 0} (l k : List A) → NoDup l → ((a : A) → a ∈ l → a ∈ k) → length l ≤ length k
 nodup-length l k n f = let r = leftover l k n f in omega (arith, perm-length r.1, length-append l r.0)
 
+-- two lists without repeats that have the same members differ in order alone
+pub same-members : {A : Type 0} (l k : List A) → NoDup l → NoDup k → ((a : A) → a ∈ l → a ∈ k) → ((a : A) → a ∈ k → a ∈ l) → Perm k l
+same-members l k n o f g =
+    let r = leftover l k n f in
+    let none : r.0 ≡ [] = nil_from_length r.0 (omega (arith, perm-length r.1, length-append l r.0, nodup-length k l o g)) in
+    thru r.1 (perm-eq (ap (λ q. l ++ q) none ∙ append-nil l))
+
 -- and where it is no shorter it has all of it
 pub nodup-fills : {A : Type 0} (l k : List A) → NoDup l → ((a : A) → a ∈ l → a ∈ k) → length k ≤ length l → (a : A) → a ∈ k → a ∈ l
 nodup-fills {A} l k n f b a h = let r = leftover l k n f in go r.0 (omega (arith, perm-length r.1, length-append l r.0)) (Memᴰ.append_cases l (perm-mem r.1 h))
@@ -227,6 +244,17 @@ mem-keep p (x ∷ l) {a} h e = go (p x) refl (Memᴰ.cases_cons h) (λ q. mem-ke
     go true f (inr q) ih = Memᴰ.tail (ih q)
     go false f (inl z) ih = absurd (not-both (ap p (sym z) ∙ e) f)
     go false f (inr q) ih = ih q
+
+-- where all pass it, and where none does
+pub keep-all : {A : Type 0} (p : A → Bool) (l : List A) → ((a : A) → a ∈ l → p a ≡ true) → keep p l ≡ l
+unfolding keep
+keep-all p [] f = refl
+keep-all p (x ∷ l) f = ap (λ b. cond b (x ∷ keep p l) (keep p l)) (f x (here x l)) ∙ ap (λ k. x ∷ k) (keep-all p l (λ a h. f a (Memᴰ.tail h)))
+
+pub keep-none : {A : Type 0} (p : A → Bool) (l : List A) → ((a : A) → a ∈ l → p a ≡ false) → keep p l ≡ []
+unfolding keep
+keep-none p [] f = refl
+keep-none p (x ∷ l) f = ap (λ b. cond b (x ∷ keep p l) (keep p l)) (f x (here x l)) ∙ keep-none p l (λ a h. f a (Memᴰ.tail h))
 
 pub keep-length : {A : Type 0} (p : A → Bool) (l : List A) → length (keep p l) ≤ length l
 unfolding keep

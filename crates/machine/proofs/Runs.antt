@@ -75,6 +75,16 @@ module _ (m : Machine) where
   cost-snoc [] l = ⊗-one (link m l).weight ∙ sym (one-⊗ (link m l).weight)
   cost-snoc (k ∷ r) l = ap (λ x. (link m k).weight ⊗ x) (cost-snoc r l) ∙ sym (⊗-assoc (link m k).weight (run_cost m r) (link m l).weight)
 
+  -- and a run and another from where it ends
+  pub run-append : (p q : List ℕ) (u v w : ℕ) → IsRun m u p v → IsRun m v q w → IsRun m u (p ++ q) w
+  run-append [] q u v w h k = subst (λ x. IsRun m x q w) (sym h) k
+  run-append (l ∷ p) q u v w h k = (h.0, h.1, run-append p q (link m l).next v w h.2 k)
+
+  pub cost-append : (p q : List ℕ) → run_cost m (p ++ q) ≡ run_cost m p ⊗ run_cost m q
+  unfolding run_cost
+  cost-append [] q = sym (one-⊗ (run_cost m q))
+  cost-append (l ∷ p) q = ap (λ x. (link m l).weight ⊗ x) (cost-append p q) ∙ sym (⊗-assoc (link m l).weight (run_cost m p) (run_cost m q))
+
   -- the sum of its weights from its front
   pub times-run : (a : Tropical) (r : List ℕ) → times_all a (map (λ l. (link m l).weight) r) ≡ a ⊗ run_cost m r
   unfolding times_all run_cost

@@ -5,7 +5,7 @@ use mathlib.Core.Logic.{◌⊎◌, inl, inr}
 use mathlib.Core.Bool.{Bool, true, false, ◌&&◌, ◌||◌, cond}
 use mathlib.Core.Option.{none, some}
 use mathlib.Core.List.{List}
-use Prim.Native.Nat.{ℕ, suc, ◌+◌, ◌*◌, ◌≤◌, ◌<◌}
+use Prim.Native.Nat.{ℕ, suc, ◌+◌, ◌*◌, ◌^◌, ◌≤◌, ◌<◌}
 use native.Mathlib.Nat.{le_of_lt}
 use native.Mathlib.Omega.{arith}
 use lib.Dec.{eqb}
@@ -15,14 +15,14 @@ use borrow.Author.Tests.{eqb-true, eq-eqb, ne_eqb}
 use Rattle.tropical_weight.specs.Limits.{unit, weight_limit, node_limit, link_limit}
 use Rattle.tropical_weight.specs.Tropical.{Tropical}
 use Rattle.tropical_weight.specs.Grid.{of_t}
-use Rattle.sheet.specs.Below.{all_below, sum_below, list_below}
+use Rattle.sheet.specs.Below.{sum_below, list_below}
 use Rattle.sheet.specs.Words.{word}
 use Rattle.sheet.specs.declared.tr.Trailer.{Trailer}
 use Rattle.sheet.specs.Records.{trailer_at, count_at, mark_at, final_at, first_link}
-use Rattle.sheet.specs.Sheet.{Parts, link_count, node_count, count, mark, final_bits, link_bits, well_marked, weight_fits, nodes_fit, parts_of, read_number, stated_links, stated_nodes}
+use Rattle.sheet.specs.Sheet.{Parts, link_count, node_count, count, mark, final_bits, link_bits, weight_fits, parts_of, read_number, stated_links, stated_nodes}
 use Rattle.sheet.specs.Machine.{Machine, machine_of, machine, weight_of, bits_of, final_of, link_of}
 use Rattle.sheet.proofs.Apart.{both}
-use Rattle.sheet.proofs.Below.{all_below-at, split_at, sum_mono, list_below-same}
+use Rattle.sheet.proofs.Below.{split_at, sum_mono, list_below-same}
 use Rattle.sheet.proofs.Fields.{read-fields, get_d_words}
 use Rattle.sheet.proofs.Round.{Below, word_lt}
 use Rattle.sheet.proofs.NodeSources.{next-first}
@@ -30,7 +30,7 @@ use Rattle.sheet.proofs.Sources.{source_is, counts-sum, machine-links, machine-n
 use Rattle.machine.specs.Readings.{link, final}
 use Rattle.machine.specs.Climbs.{Climbs, Small}
 use Rattle.machine.specs.Input.{input_number}
-use Rattle.machine.proofs.Accepted.{Passes, passes, input-read, climbs-machine, small-machine, few-nodes, few-links, link_at, link-grid, final-grid, weight-value, bits-again}
+use Rattle.machine.proofs.Accepted.{Passes, passes, well_marked-at, input-read, climbs-machine, small-machine, few-nodes, few-links, link_at, link-grid, final-grid, weight-value, bits-again}
 use Rattle.machine.proofs.Testing.{in-sheet, counts-total, counts-words}
 
 -- A sheet of T links and N nodes, and its machine.
@@ -117,10 +117,7 @@ module _ (bytes : List ℕ) (accepted : input_number bytes ≡ 0) where
   final-is v h = (read-fields bytes).final-is v h
 
   marked : (v : ℕ) → v < N → (mark_at bytes T v ≡ 0) ⊎ (mark_at bytes T v ≡ 1)
-  unfolding nodes_fit
-  marked v h =
-      go (eqb (mark p v) 1) refl
-      (all_below-at (node_count p) (λ v. well_marked (mark p v) (final_bits p v)) (both (all_below (node_count p) (λ v. well_marked (mark p v) (final_bits p v))) (eqb (sum_below (node_count p) (count p)) (link_count p)) t.nodes-fit).0 v (in-nodes v h))
+  marked v h = go (eqb (mark p v) 1) refl (well_marked-at p t.nodes-fit v (in-nodes v h))
     where
       go : (b : Bool) → eqb (mark p v) 1 ≡ b → b || (eqb (mark p v) 0 && eqb (final_bits p v) 0) ≡ true → (mark_at bytes T v ≡ 0) ⊎ (mark_at bytes T v ≡ 1)
       go true q e = inr (sym (mark-is v h) ∙ eqb-true (mark p v) 1 q)
@@ -181,6 +178,12 @@ module _ {bytes : List ℕ} {T N : ℕ} {m : Machine} (f : SheetFields bytes T N
   -- the links of the nodes below one are among all
   pub first-in : (v : ℕ) → v ≤ N → first_link bytes T v ≤ T
   first-in v h = omega (arith, sum_mono (count_at bytes T) N v h, f.counted)
+
+  -- labels are words
+  pub labels-below : Below 256 bytes → (l : ℕ) → l < length m.links → ((link m l).ilabel < 2 ^ 32) × ((link m l).olabel < 2 ^ 32)
+  labels-below whole l h =
+      let b : l < T = subst (λ (n : ℕ). l < n) f.links-are h in
+      (omega (arith, f.ilabel-at l b, word_lt bytes (16 * l) whole), omega (arith, f.olabel-at l b, word_lt bytes (16 * l + 4) whole))
 
   -- a node is final where its mark is not 0, and not where it is not 1
   pub marked-final : (v : ℕ) → v < N → (mark_at bytes T v ≡ 0 → ⊥) → final m v ≡ some (weight_of (final_at bytes T v))

@@ -1,7 +1,7 @@
 -- A machine as a sheet: which machines have a sheet that is accepted, and which one is refused for its nodes. Read from its sheet a machine is the same.
--- The other way round, from a sheet to its machine, is Accepted. Assumes nothing.
+-- The other way round, from a sheet to its machine, is Accepted, and back again from there Again. Assumes nothing.
 use mathlib.Core.Path.{◌≡◌, refl, sym, ap, ◌∙◌, subst}
-use mathlib.Core.Bool.{true, not, ◌&&◌, ◌||◌, cond, or-true}
+use mathlib.Core.Bool.{true, ◌&&◌, ◌||◌, or-true}
 use mathlib.Core.Option.{Option, none, some}
 use Prim.Native.Nat.{ℕ, ◌*◌, ◌^◌, ◌≤◌, ◌<◌}
 use native.Mathlib.Omega.{arith}
@@ -16,6 +16,7 @@ use Rattle.sheet.specs.Sheet.{no_start, link_count, node_count, next, mark, fina
 use Rattle.sheet.specs.Machine.{Link, Machine, machine_of, sources_below, bits_of, start_field, parts_for}
 use Rattle.sheet.proofs.Apart.{or_left, or_right}
 use Rattle.sheet.proofs.Below.{all_below-of}
+use Rattle.sheet.proofs.Refusals.{first-passed}
 use Rattle.sheet.proofs.Encoding.{bits-inf, LinkFits, Writable, AllHeld, Held, bits-lt, links-are, nodes-are, start_is, link_bits-is, next-is, mark-some, mark-none, final_bits-some, final_bits-none, counts-are, source_of, records-fit, number_is, fields_back, machine-read}
 use Rattle.machine.specs.Readings.{no_link, link, final}
 use Rattle.machine.specs.Climbs.{Climbs, Small}
@@ -122,9 +123,7 @@ module _ (m : Machine) (a : Readable m) where
   -- ---- tests 5 and 6
   input-is : input_number (sheet_of (parts_for m)) ≡ bounds_number (parts_for m)
   unfolding input_number
-  input-is =
-      (λ i. cond (not (eqb (sheet-read i) 0)) (sheet-read i) (bounds_number (parts_of (sheet_of (parts_for m)))))
-      ∙ ap bounds_number (fields_back m writable)
+  input-is = first-passed (read_number (sheet_of (parts_for m))) (bounds_number (parts_of (sheet_of (parts_for m)))) sheet-read ∙ ap bounds_number (fields_back m writable)
 
   -- a machine within the limits that climbs
   pub sheet-accepted : Climbs m → length m.finals ≤ node_limit → length m.links ≤ link_limit → input_number (sheet_of (parts_for m)) ≡ 0

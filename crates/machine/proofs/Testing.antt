@@ -18,7 +18,7 @@ use Rattle.sheet.specs.Machine.{sources_below}
 use Rattle.sheet.specs.Records.{trailer_at}
 use Rattle.sheet.specs.Refusals.{number_of}
 use Rattle.sheet.specs.Answers.{tested}
-use Rattle.sheet.proofs.Refusals.{answer-err, refusal-told, number-positive}
+use Rattle.sheet.proofs.Refusals.{answer-err, refusal-told, number-positive, first-passed}
 use Rattle.sheet.proofs.AcceptedSheet.{read-known, nodes-pass, trailer-stated}
 use Rattle.sheet.proofs.NodeSources.{first-total}
 use Rattle.sheet.proofs.Below.{all_below-same, sum_below-same}
@@ -77,7 +77,7 @@ module _ (bytes : List ℕ) where
     -- by the number of tests 5 and 6
     by-bounds : (k : ℕ) → bounds_number (parts_of bytes) ≡ k → input_number bytes ≡ k
     unfolding input_number
-    by-bounds k e = ap (λ (n : ℕ). cond (not (eqb n 0)) n (bounds_number (parts_of bytes))) read ∙ e
+    by-bounds k e = first-passed (read_number bytes) (bounds_number (parts_of bytes)) read ∙ e
 
     pub input-5 : counts_fit (parts_of bytes) ≡ false → input_number bytes ≡ 5
     unfolding bounds_number

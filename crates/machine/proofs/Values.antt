@@ -61,7 +61,7 @@ module _ (m : Machine) where
   start-fits : start_fits m.sheet.nodes m.sheet.start ≡ true
   start-fits = (λ i. start_fits (sym (machine-fields m).nodes-are i) (start-stated i)) ∙ (λ i. start_fits (machine-nodes p i) p.start) ∙ t.start_fits_lem
 
-  start-read : (machine m.sheet.bytes.now).start ≡ start_of m.sheet.start
+  pub start-read : (machine m.sheet.bytes.now).start ≡ start_of m.sheet.start
   unfolding machine_of
   start-read = ap start_of (sym start-stated)
 

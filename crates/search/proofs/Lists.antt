@@ -3,16 +3,15 @@ use mathlib.Core.Path.{◌≡◌, refl, sym, ap, ◌∙◌, subst}
 use mathlib.Core.Option.{Option, none, some}
 use mathlib.Core.List.Memᴰ
 use mathlib.Core.List.{List, [], ◌∷◌, ◌++◌, map}
-use Prim.Native.Nat.{ℕ, zero, suc, ◌+◌, ◌*◌, ◌^◌, ◌≤◌, ◌<◌}
+use Prim.Native.Nat.{ℕ, zero, suc, ◌+◌, ◌*◌, ◌≤◌, ◌<◌}
 use native.Mathlib.Nat.{mul-le-mul_right}
 use native.Mathlib.Omega.{arith}
 use lib.ListN.{length, length-map}
 use Rattle.tropical_weight.specs.Limits.{node_limit, link_limit, list_limit}
 use Rattle.tropical_weight.specs.Tropical.{Tropical}
-use Rattle.sheet.specs.Sheet.{Parts, parts_of, stated_links}
-use Rattle.sheet.specs.Machine.{Link, Machine, machine_of}
-use Rattle.sheet.proofs.Round.{Below, words-below}
-use Rattle.sheet.proofs.Sources.{machine-links, machine-nodes}
+use Rattle.sheet.specs.Sheet.{parts_of}
+use Rattle.sheet.specs.Machine.{Machine, machine_of}
+use Rattle.sheet.proofs.Round.{Below}
 use Rattle.machine.specs.Readings.{Reading, IsReading, reading_of, readings, marked}
 use Rattle.machine.specs.Climbs.{Climbs}
 use Rattle.machine.specs.Parents.{best}
@@ -22,7 +21,7 @@ use Rattle.machine.proofs.Lists.{nodup-length}
 use Rattle.machine.proofs.Runs.{run_length, run_in}
 use Rattle.machine.proofs.Readings.{final-in, reading-is, readings-are}
 use Rattle.machine.proofs.Parents.{best-is, best-some}
-use Rattle.machine.proofs.Accepted.{Passes, passes, few-nodes, few-links, link_at, climbs-machine}
+use Rattle.machine.proofs.SheetFields.{fields-own, labels-below}
 use Rattle.machine.proofs.Demand.{demand-best, demand-none}
 use Rattle.search.specs.Search.{most_taken, search, runs, run_of}
 use Rattle.search.specs.ListMachine.{Result, best_result, trimmed, result_by, result_for, result_bytes}
@@ -139,24 +138,4 @@ module _ (m : Machine) (a : Accepted m) where
 
 -- the machine of every accepted sheet is one
 pub accepted : (bytes : List ℕ) → Below 256 bytes → input_number bytes ≡ 0 → Accepted (machine_of (parts_of bytes))
-unfolding parts_of
-accepted bytes b e = record {
-  climbs = climbs-machine p t;
-  labels = labels;
-  few-nodes = omega (arith, machine-nodes p, few-nodes p t);
-  few-links = omega (arith, machine-links p, few-links p t);
-}
-  where
-    p : Parts
-    p = parts_of bytes
-
-    t : Passes (parts_of bytes)
-    t = passes bytes e
-
-    field : Below 4294967296 (parts_of bytes).links
-    field = words-below (4 * stated_links bytes) bytes 0 b
-
-    labels : Labels (machine_of (parts_of bytes))
-    labels l h =
-        let k = link_at (parts_of bytes) t l (omega (arith, machine-links (parts_of bytes))) in
-        (subst (λ (x : Link). x.ilabel < 2 ^ 32) (sym k) (field (4 * l)), subst (λ (x : Link). x.olabel < 2 ^ 32) (sym k) (field (4 * l + 1)))
+accepted bytes b e = let f = fields-own bytes e in record { climbs = f.climbs; labels = labels-below f b; few-nodes = f.few-nodes; few-links = f.few-links }

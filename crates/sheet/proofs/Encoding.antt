@@ -12,12 +12,12 @@ use lib.Dec.{ltb, eqb}
 use lib.IntN.{ℤ}
 use lib.ListN.{length, get_or, length-map, get_or-append}
 use lib.Seq.{get_or-append-add, ext_get_or}
-use lib.Ieee.{Float, binary32, of_bits, to_bits}
+use lib.Ieee.{Float, binary32, of_bits, to_bits, round}
 use lib.Ieee.Bits.{to_bits-lt}
 use borrow.Author.Tests.{lt-ltb, le-ltb, eq-eqb, ne_eqb}
 use Rattle.tropical_weight.specs.Limits.{unit, sum_limit}
 use Rattle.tropical_weight.specs.Tropical.{Tropical, fin, inf, one, Within}
-use Rattle.tropical_weight.specs.Grid.{of_t, units_of}
+use Rattle.tropical_weight.specs.Grid.{of_k, of_t, units_of}
 use Rattle.tropical_weight.proofs.Exact.{of_t-fits, of_t-injective, bits_back}
 use Rattle.tropical_weight.proofs.Grid.{units_of-of_k}
 use Rattle.sheet.specs.Below.{sum_below, list_below}
@@ -69,7 +69,7 @@ node-field ks v (f ∷ fs) (suc u) i h b =
     ∙ ap (λ (n : ℕ). get_or (node_of ks n (get_or fs u none)) i 0) (let e : suc v + u ≡ v + suc u = omega arith in e)
 
 -- ---- sources that never fall
-abbrev sources_of : List Link → List ℕ
+abbrev pub sources_of : List Link → List ℕ
 sources_of ks = map (λ k. k.source) ks
 
 source-in-list : (ks : List Link) (l : ℕ) (d : Link) → l < length ks → get_or (sources_of ks) l 0 ≡ (get_or ks l d).source
@@ -81,7 +81,7 @@ abbrev Rising : List ℕ → Type 0
 Rising l = (i j : ℕ) → i ≤ j → j < length l → get_or l i 0 ≤ get_or l j 0
 
 -- how many are below v
-fewer : List ℕ → ℕ → ℕ
+unfoldable pub fewer : List ℕ → ℕ → ℕ
 fewer [] v = 0
 fewer (x ∷ l) v = cond (ltb x v) (suc (fewer l v)) (fewer l v)
 
@@ -102,7 +102,7 @@ unfolding fewer
 none_below [] = refl
 none_below (x ∷ l) = simp (le-ltb x 0 (omega arith)) (none_below l)
 
-sum-leaving : (ks : List Link) (v : ℕ) → sum_below v (leaving ks) ≡ fewer (sources_of ks) v
+pub sum-leaving : (ks : List Link) (v : ℕ) → sum_below v (leaving ks) ≡ fewer (sources_of ks) v
 unfolding sum_below
 sum-leaving ks zero = sym (none_below (sources_of ks))
 sum-leaving ks (suc v) = ap (λ (n : ℕ). n + leaving ks v) (sum-leaving ks v) ∙ sym (fewer-suc ks v)
@@ -300,6 +300,10 @@ pub record AllHeld (m : Machine) : Type 0 where
   pub final-weights : (v : ℕ) (w : Tropical) → v < length m.finals → get_or m.finals v none ≡ some w → Held w
   -- a start at FFFFFFFF would be read as none
   pub start-told : (v : ℕ) → m.start ≡ some v → v < no_start
+
+-- the bits of the semiring's one
+pub bits-one : bits_of one ≡ 0
+bits-one = unfold of_k round to_bits in refl
 
 -- infinity's bits, and no other weight's
 pub bits-inf : bits_of inf ≡ barred_bits

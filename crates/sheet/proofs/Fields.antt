@@ -1,12 +1,12 @@
 -- The verdict on a sheet, by the fields that the passes take. Assumes nothing.
-use mathlib.Core.Path.{◌≡◌, refl, sym, ap, ◌∙◌}
+use mathlib.Core.Path.{◌≡◌, refl, sym, ap, ap₂, ◌∙◌}
 use mathlib.Core.Bool.{Bool, true, false, ◌&&◌, ◌||◌}
-use mathlib.Core.List.{List}
-use Prim.Native.Nat.{ℕ, zero, suc, ◌+◌, ◌*◌, ◌/◌, ◌≤◌, ◌<◌}
+use mathlib.Core.List.{List, ◌∷◌}
+use Prim.Native.Nat.{ℕ, zero, suc, ◌+◌, ◌-◌, ◌*◌, ◌/◌, ◌≤◌, ◌<◌}
 use native.Mathlib.Nat.{add-zero}
 use native.Mathlib.Omega.{arith}
 use lib.Dec.{T, leb, ltb, eqb}
-use lib.ListN.{length, get_or}
+use lib.ListN.{length, take, drop, get_or}
 use borrow.Author.Tests.{lt-leb, le-leb, eqb-true}
 use Rattle.sheet.specs.declared.tr.Trailer.{Trailer}
 use Rattle.sheet.specs.declared.tests.NodeTests.{NodeTests}
@@ -31,6 +31,19 @@ unfolding words
 get_d_words bytes at zero i h = elim h [ ]
 get_d_words bytes at (suc n) zero h = ap (word bytes) (sym (add-zero at))
 get_d_words bytes at (suc n) (suc i) h = get_d_words bytes (at + 4) n i (omega arith) ∙ ap (word bytes) (let e : at + 4 + 4 * i ≡ at + 4 * suc i = omega arith in e)
+
+-- the first of them, and those that follow
+pub take-words : (bytes : List ℕ) (at n k : ℕ) → k ≤ n → take k (words bytes at n) ≡ words bytes at k
+unfolding words
+take-words bytes at n zero h = refl
+take-words bytes at zero (suc k) h = absurd (omega arith)
+take-words bytes at (suc n) (suc k) h = ap (λ (r : List ℕ). word bytes at ∷ r) (take-words bytes (at + 4) n k (omega arith))
+
+pub drop-words : (bytes : List ℕ) (at n k : ℕ) → k ≤ n → drop k (words bytes at n) ≡ words bytes (at + 4 * k) (n - k)
+unfolding words
+drop-words bytes at n zero h = ap₂ (words bytes) (sym (add-zero at)) (let e : n ≡ n - 0 = omega arith in e)
+drop-words bytes at zero (suc k) h = absurd (omega arith)
+drop-words bytes at (suc n) (suc k) h = drop-words bytes (at + 4) n k (omega arith) ∙ ap₂ (words bytes) (let e : at + 4 + 4 * k ≡ at + 4 * suc k = omega arith in e) (let e : n - k ≡ suc n - suc k = omega arith in e)
 
 -- ---- parts whose fields are these functions, where they are asked
 pub record Fields (p : Parts) (T N : ℕ) (counts marks finals bits nexts : ℕ → ℕ) : Type 0 where

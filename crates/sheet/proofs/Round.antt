@@ -11,7 +11,7 @@ use lib.Dec.{T, leb, ltb, eqb, eqb→eq}
 use lib.ListN.{length, take, drop, get_or, length-append}
 use lib.Seq.{sets, sets-eq, take_at, drop-cons, drop-drop, take-add, drop_at, take-length, get_or-drop}
 use lib.Ieee.Fits.{and_l, and_r}
-use borrow.Author.Tests.{eq-eqb, eqb-true, le-leb, lt-ltb, le-ltb}
+use borrow.Author.Tests.{eq-eqb, le-leb, lt-ltb, le-ltb}
 use Rattle.std.specs.Prelude.{Result, Ok}
 use Rattle.sheet.specs.declared.refusal.Refusal.{Refusal}
 use Rattle.sheet.specs.Words.{word, words, bytes_of, bytes_of_all}
@@ -20,6 +20,7 @@ use Rattle.sheet.specs.Answers.{written, written_over, ReadBack}
 use Rattle.sheet.specs.Machine.{machine_of, machine}
 use Rattle.sheet.proofs.Bytes.{bytes_of_all-append, length-bytes_of_all}
 use Rattle.sheet.proofs.Fields.{length-words, get_d_words, read-unfit, read-fields, length-read}
+use Rattle.sheet.proofs.Refusals.{first-zero}
 use Rattle.sheet.proofs.Writing.{records, length-sheet, stored}
 
 -- each element is below a bound: a byte below 256, a word below 2 ^ 32
@@ -100,6 +101,10 @@ words_of (w ∷ ws) pre post b =
     let next : B ≡ pre ++ bytes_of w ++ bytes_of_all ws ++ post = ap (λ (r : List ℕ). r ++ post) (sym (append_assoc pre (bytes_of w) (bytes_of_all ws))) in
     let more : length pre + 4 ≡ length (pre ++ bytes_of w) = sym (length-append pre (bytes_of w)) in
     (λ i. first i ∷ words (next i) (more i) (length ws)) ∙ ap (λ (r : List ℕ). w ∷ r) (words_of ws (pre ++ bytes_of w) post (λ i. b (suc i)))
+
+-- each is read back at its place
+pub word_back : (ws pre post : List ℕ) → Below 4294967296 ws → (i : ℕ) → i < length ws → word (pre ++ bytes_of_all ws ++ post) (length pre + 4 * i) ≡ get_or ws i 0
+word_back ws pre post b i h = sym (get_d_words (pre ++ bytes_of_all ws ++ post) (length pre) (length ws) i h) ∙ ap (λ (l : List ℕ). get_or l i 0) (words_of ws pre post b)
 
 pub bytes_of_all-words : (n : ℕ) (bytes : List ℕ) (at : ℕ) → Below 256 bytes → at + 4 * n ≤ length bytes → bytes_of_all (words bytes at n) ≡ take (4 * n) (drop at bytes)
 unfolding words bytes_of_all
@@ -191,11 +196,7 @@ module _ (p : Parts) (e : records_fit p ≡ true) (links-below : Below 429496729
           ap (take size) (left ∙ sets-eq (sheet_of p) old 0 (omega (arith, length-sheet p e))) ∙ take_at (sheet_of p) (drop (0 + length (sheet_of p)) old) size (cc (length-sheet p e))
 
       passed : verdict (records_fit p) p ≡ 0
-      passed = go (eqb (verdict (records_fit p) p) 0) refl zero_number
-        where
-          go : (b : Bool) → eqb (verdict (records_fit p) p) 0 ≡ b → cond (not b) (verdict (records_fit p) p) (cond (ltb (length old) (sheet_length p)) 21 0) ≡ 0 → verdict (records_fit p) p ≡ 0
-          go true q z = eqb-true (verdict (records_fit p) p) 0 q
-          go false q z = z
+      passed = (first-zero (verdict (records_fit p) p) _ zero_number).0
 
 -- ---- an accepted sheet, read and written again, gives its own bytes
 pub word_lt : (bytes : List ℕ) (at : ℕ) → Below 256 bytes → word bytes at < 4294967296

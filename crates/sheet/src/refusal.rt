@@ -31,6 +31,8 @@ pub enum Refusal {
     Product = 11,
     // The sum of two weights is finite and off the grid.
     Sum = 12,
+    // A machine does not narrow to the node.
+    Narrow = 13,
     // The work area is shorter than needed.
     Work = 20,
     // The result area is shorter than this very answer.

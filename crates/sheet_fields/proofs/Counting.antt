@@ -1,12 +1,8 @@
 -- What counting answers, by what reading found. Assumes nothing.
-use mathlib.Core.Path.{◌≡◌, refl, sym, ap, ◌∙◌}
-use mathlib.Core.Bool.{Bool, true, false, cond}
-use mathlib.Core.Option.{none, some}
+use mathlib.Core.Path.{◌≡◌, sym, ap, ◌∙◌}
 use mathlib.Core.List.{List}
 use Prim.Native.Nat.{ℕ}
-use lib.Dec.{eqb}
 use lib.ListN.{length}
-use borrow.Author.Tests.{eqb-true}
 use Rattle.std.specs.Prelude.{Ok, Err}
 use Rattle.sheet.specs.declared.accepted.Sheet.{Sheet}
 use Rattle.sheet.specs.declared.tr.Trailer.{Trailer}
@@ -14,25 +10,19 @@ use Rattle.sheet.specs.declared.refusal.Refusal.{Refusal}
 use Rattle.sheet.specs.Refusals.{number_of}
 use Rattle.sheet.specs.Below.{list_below}
 use Rattle.sheet.specs.Records.{mark_at, final_at}
-use Rattle.sheet.specs.Sheet.{no_start, mark, final_bits, parts_of, read_number, stated_links, stated_nodes, trailer_field}
+use Rattle.sheet.specs.Sheet.{mark, final_bits, parts_of, read_number, stated_links, stated_nodes, trailer_field}
 use Rattle.sheet.specs.Machine.{machine_of, machine, final_of, start_field}
 use Rattle.sheet.proofs.Refusals.{answer-ok, answer-none}
 use Rattle.sheet.proofs.Below.{list_below-same}
 use Rattle.sheet.proofs.Fields.{read-fields}
-use Rattle.sheet.proofs.Sources.{machine-links, machine-nodes}
 use Rattle.machine.specs.Readings.{marked}
+use Rattle.machine.proofs.Again.{start_again, links-stated, nodes-stated}
 use Rattle.machine.specs.Finals.{finals_at, final_count}
 use Rattle.sheet_fields.specs.declared.counts.SheetCounts.{SheetCounts}
 use Rattle.sheet_fields.specs.Counts.{counts_in, counts_of}
 
 -- ---- the machine of a sheet, by what the trailer states
 module _ (bytes : List ℕ) where
-  pub nodes-stated : length (machine bytes).finals ≡ stated_nodes bytes
-  nodes-stated = machine-nodes (parts_of bytes) ∙ (read-fields bytes).nodes-are
-
-  pub links-stated : length (machine bytes).links ≡ stated_links bytes
-  links-stated = machine-links (parts_of bytes) ∙ (read-fields bytes).links-are
-
   finals-stated : finals_at bytes (stated_links bytes) (stated_nodes bytes) ≡ (machine bytes).finals
   unfolding machine_of finals_at
   finals-stated =
@@ -45,11 +35,7 @@ module _ (bytes : List ℕ) where
 
   start-stated : trailer_field bytes 4 ≡ start_field (machine bytes).start
   unfolding machine_of parts_of
-  start-stated = go (eqb (trailer_field bytes 4) no_start) refl
-    where
-      go : (b : Bool) → eqb (trailer_field bytes 4) no_start ≡ b → trailer_field bytes 4 ≡ start_field (cond b none (some (trailer_field bytes 4)))
-      go true q = eqb-true (trailer_field bytes 4) no_start q
-      go false q = refl
+  start-stated = sym (start_again (trailer_field bytes 4))
 
 -- ---- the answer
 pub counts-refused : (bytes : List ℕ) (r : Refusal) → number_of r ≡ read_number bytes → Err r ≡ counts_of bytes

@@ -9,24 +9,23 @@ use lib.Dec.{leb, eqb}
 use lib.ListN.{length, get_or}
 use lib.Ieee.{binary32, of_bits, to_bits}
 use borrow.Author.Tests.{lt-ltb, le-ltb, le-leb, eqb-true, ne_eqb}
-use Rattle.sheet.specs.Below.{all_below, sum_below}
 use Rattle.sheet.specs.Words.{word}
 use Rattle.sheet.specs.Records.{link_at, node_at, count_at, mark_at, final_at}
 use Rattle.sheet.specs.Reading.{next_link}
-use Rattle.sheet.specs.Sheet.{Parts, link_count, node_count, link_bits, count, mark, final_bits, well_marked, weight_fits, nodes_fit, weights_fit, parts_of, sizes_fit, read_number, stated_links, stated_nodes, trailer_length}
+use Rattle.sheet.specs.Sheet.{Parts, link_count, node_count, link_bits, mark, well_marked, weight_fits, nodes_fit, weights_fit, parts_of, read_number, stated_links, stated_nodes, trailer_length}
 use Rattle.sheet.specs.Machine.{Machine, machine, weight_of, bits_of, final_of, final_fields, leaving, link_fields}
 use Rattle.sheet.proofs.Apart.{both, or-either}
-use Rattle.sheet.proofs.Below.{all_below-at, split_at}
+use Rattle.sheet.proofs.Below.{split_at}
 use Rattle.sheet.proofs.Fields.{read-fields, length-read, read_fits, get_d_words}
 use Rattle.sheet.proofs.Reading.{gives-link, gives-end}
 use Rattle.sheet.proofs.Sources.{machine-link, machine-final}
 use Rattle.machine.specs.Readings.{link, final, no_link}
-use Rattle.machine.proofs.Accepted.{verdict-passes, weight-value}
+use Rattle.machine.proofs.Accepted.{read-passes, weight-value, well_marked-at, link_bits-fit, final_bits-fit}
+use Rattle.machine.proofs.Again.{nodes-stated, links-stated}
+use Rattle.machine.proofs.Leaving.{leaving-is}
 use Rattle.std.specs.Prelude.{Some, None}
 use Rattle.sheet_fields.specs.Nodes.{node_by, next_node}
 use Rattle.sheet_fields.specs.Fields.{link_words, node_words, fields_of_node, LinkOf, NodeOf}
-use Rattle.sheet_fields.proofs.Counting.{nodes-stated, links-stated}
-use Rattle.sheet_fields.proofs.Leaving.{leaving-is}
 
 -- ---- a sheet that passes tests 1 to 4
 module _ (bytes : List ℕ) (read : read_number bytes ≡ 0) where
@@ -43,12 +42,10 @@ module _ (bytes : List ℕ) (read : read_number bytes ≡ 0) where
   N = stated_nodes bytes
 
   nodes-fit : nodes_fit p ≡ true
-  unfolding read_number
-  nodes-fit = (verdict-passes (sizes_fit bytes) (parts_of bytes) read).1
+  nodes-fit = (read-passes bytes read).0
 
   weights-fit : weights_fit p ≡ true
-  unfolding read_number
-  weights-fit = (verdict-passes (sizes_fit bytes) (parts_of bytes) read).4
+  weights-fit = (read-passes bytes read).1
 
   in-links : (l : ℕ) → l < T → l < link_count p
   in-links l h = subst (λ (n : ℕ). l < n) (sym (read-fields bytes).links-are) h
@@ -63,9 +60,7 @@ module _ (bytes : List ℕ) (read : read_number bytes ≡ 0) where
   link-word i at h e = sym (get_d_words bytes 0 (4 * T) i h ∙ ap (word bytes) (let z : 0 + 4 * i ≡ at = omega arith in z))
 
   link-grid : (l : ℕ) → l < T → weight_fits (link_bits p l) ≡ true
-  unfolding weights_fit
-  link-grid l h =
-      all_below-at (link_count p) (λ l. weight_fits (link_bits p l)) (both (all_below (link_count p) (λ l. weight_fits (link_bits p l))) (all_below (node_count p) (λ v. eqb (mark p v) 0 || weight_fits (final_bits p v))) weights-fit).0 l (in-links l h)
+  link-grid l h = link_bits-fit p weights-fit l (in-links l h)
 
   pub link-fields : (l : ℕ) → l < T → link_words (link_at bytes l) ≡ link_fields (link m l)
   link-fields l h =
@@ -86,18 +81,14 @@ module _ (bytes : List ℕ) (read : read_number bytes ≡ 0) where
 
   -- ---- nodes
   well-marked : (v : ℕ) → v < N → well_marked (mark_at bytes T v) (final_at bytes T v) ≡ true
-  unfolding nodes_fit
   well-marked v h =
       let f = read-fields bytes in
-      (λ i. well_marked (sym (f.mark-is v h) i) (sym (f.final-is v h) i))
-      ∙ all_below-at (node_count p) (λ v. well_marked (mark p v) (final_bits p v)) (both (all_below (node_count p) (λ v. well_marked (mark p v) (final_bits p v))) (eqb (sum_below (node_count p) (count p)) (link_count p)) nodes-fit).0 v (in-nodes v h)
+      (λ i. well_marked (sym (f.mark-is v h) i) (sym (f.final-is v h) i)) ∙ well_marked-at p nodes-fit v (in-nodes v h)
 
   final-grid : (v : ℕ) → v < N → eqb (mark_at bytes T v) 0 || weight_fits (final_at bytes T v) ≡ true
-  unfolding weights_fit
   final-grid v h =
       let f = read-fields bytes in
-      (λ i. eqb (sym (f.mark-is v h) i) 0 || weight_fits (sym (f.final-is v h) i))
-      ∙ all_below-at (node_count p) (λ v. eqb (mark p v) 0 || weight_fits (final_bits p v)) (both (all_below (link_count p) (λ l. weight_fits (link_bits p l))) (all_below (node_count p) (λ v. eqb (mark p v) 0 || weight_fits (final_bits p v))) weights-fit).1 v (in-nodes v h)
+      (λ i. eqb (sym (f.mark-is v h) i) 0 || weight_fits (sym (f.final-is v h) i)) ∙ final_bits-fit p weights-fit v (in-nodes v h)
 
   -- a mark and a weight's field that pass are those of the final weight
   final-words : (mark bits : ℕ) → well_marked mark bits ≡ true → eqb mark 0 || weight_fits bits ≡ true → mark ∷ to_bits binary32 (of_bits binary32 bits) ∷ [] ≡ final_fields (final_of mark bits)

@@ -1,12 +1,12 @@
 -- The outcome of the call, by the way the code goes. Assumes nothing.
 use mathlib.Core.Path.{◌≡◌, refl, sym, ap, ◌∙◌, subst}
-use mathlib.Core.Bool.{Bool, true, false, not, ◌||◌, cond}
+use mathlib.Core.Bool.{Bool, true, false, ◌||◌, cond}
 use mathlib.Core.List.{List, ◌++◌, flat_map}
 use Prim.Native.Nat.{ℕ, zero, suc, ◌*◌, ◌/◌, ◌≤◌, ◌<◌}
 use native.Mathlib.Omega.{arith}
 use lib.Dec.{ltb, eqb}
 use lib.ListN.{length, drop}
-use borrow.Author.Tests.{lt-ltb, le-ltb, ne_eqb}
+use borrow.Author.Tests.{lt-ltb, le-ltb}
 use Rattle.sheet.specs.declared.tr.Trailer.{Trailer}
 use Rattle.sheet.specs.Below.{list_below}
 use Rattle.sheet.specs.Records.{trailer_at}
@@ -29,7 +29,7 @@ use Rattle.distance.proofs.Written.{length-written}
 use Rattle.std.specs.Prelude.{Result, Ok, Err}
 use Rattle.sheet.specs.declared.refusal.Refusal.{Refusal}
 use Rattle.sheet.specs.Refusals.{number_of, answer}
-use Rattle.sheet.proofs.Refusals.{number-positive, answer-none}
+use Rattle.sheet.proofs.Refusals.{number-positive, answer-none, first-passed, first-kept}
 use Rattle.slots.specs.Slots.{cleared}
 use Rattle.shortest_distance.specs.NodeSlots.{distance_at, distance_words, length_in}
 use Rattle.shortest_distance.specs.Handed.{handed, handed_by, handed_over}
@@ -54,14 +54,11 @@ answer-bytes bytes = length-bytes_of_all (flat_map written (distances (machine b
 module _ (bytes : List ℕ) (words : ℕ) (room : ℕ) where
   pub number-input : (input_number bytes ≡ 0 → ⊥) → distance_number bytes words room ≡ input_number bytes
   unfolding distance_number
-  number-input n = ap (λ (b : Bool). cond (not b) (input_number bytes) (cond (ltb (words / 8) (slots_needed bytes)) 20 (cond (ltb room (length (answer_of bytes))) 21 0))) (ne_eqb (input_number bytes) 0 n)
-
-  number-as : distance_number bytes words room ≡ cond (not (eqb (input_number bytes) 0)) (input_number bytes) (cond (ltb (words / 8) (slots_needed bytes)) 20 (cond (ltb room (length (answer_of bytes))) 21 0))
-  unfolding distance_number
-  number-as = refl
+  number-input n = first-kept (input_number bytes) _ n
 
   number-state : input_number bytes ≡ 0 → distance_number bytes words room ≡ cond (ltb (words / 8) (slots_needed bytes)) 20 (cond (ltb room (length (answer_of bytes))) 21 0)
-  number-state e = number-as ∙ ap (λ (k : ℕ). cond (not (eqb k 0)) k (cond (ltb (words / 8) (slots_needed bytes)) 20 (cond (ltb room (length (answer_of bytes))) 21 0))) e
+  unfolding distance_number
+  number-state e = first-passed (input_number bytes) _ e
 
 -- a slot and eight bytes a node are enough
 pub number-room : (bytes : List ℕ) (words room : ℕ) → input_number bytes ≡ 0 → 8 * slots_needed bytes ≤ words → 8 * slots_needed bytes ≤ room → distance_number bytes words room ≡ 0

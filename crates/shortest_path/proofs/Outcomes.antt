@@ -1,13 +1,13 @@
 -- The outcome of the call, by the way the code goes. Assumes nothing.
 use mathlib.Core.Path.{◌≡◌, refl, sym, ap, ◌∙◌, subst}
-use mathlib.Core.Bool.{Bool, true, false, not, ◌||◌, cond}
+use mathlib.Core.Bool.{Bool, true, false, ◌||◌, cond}
 use mathlib.Core.List.{List, ◌++◌}
 use Prim.Native.Nat.{ℕ, ◌*◌, ◌/◌, ◌≤◌, ◌<◌}
 use native.Mathlib.Omega.{arith}
 use lib.Dec.{ltb, eqb}
 use lib.ListN.{length, drop}
 use lib.Seq.{drop_at}
-use borrow.Author.Tests.{lt-ltb, le-ltb, ne_eqb, ltb-false, eqb-true, eqb-false}
+use borrow.Author.Tests.{lt-ltb, le-ltb, ltb-false, eqb-true, eqb-false}
 use Rattle.tropical_weight.specs.Limits.{list_limit}
 use Rattle.sheet.proofs.Apart.{not-zero, neither}
 use Rattle.machine.specs.Input.{input_number}
@@ -17,7 +17,7 @@ use Rattle.list_answer.specs.declared.Listed.{Listed}
 use Rattle.std.specs.Prelude.{Result, Err}
 use Rattle.sheet.specs.declared.refusal.Refusal.{Refusal}
 use Rattle.sheet.specs.Refusals.{number_of, answer}
-use Rattle.sheet.proofs.Refusals.{number-positive, answer-none}
+use Rattle.sheet.proofs.Refusals.{number-positive, answer-none, first-passed, first-kept}
 use Rattle.list_answer.specs.ListAnswer.{listed_by, listed_in, listed_over}
 use Rattle.shortest_path.specs.Outcome.{result_of, answer_of, slots_needed, tested_number, areas_number, list_number, counts_of, list_answer, work_after, result_after}
 
@@ -29,14 +29,11 @@ beyond-part part work k j e size = subst (λ (i : ℕ). drop (8 * i) (part ++ dr
 module _ (bytes : List ℕ) (n last : ℕ) where
   pub tested-input : (input_number bytes ≡ 0 → ⊥) → tested_number bytes n last ≡ input_number bytes
   unfolding tested_number
-  tested-input h = ap (λ (b : Bool). cond (not b) (input_number bytes) (cond (ltb list_limit n) 7 last)) (ne_eqb (input_number bytes) 0 h)
-
-  tested-as : tested_number bytes n last ≡ cond (not (eqb (input_number bytes) 0)) (input_number bytes) (cond (ltb list_limit n) 7 last)
-  unfolding tested_number
-  tested-as = refl
+  tested-input h = first-kept (input_number bytes) _ h
 
   tested-n : input_number bytes ≡ 0 → tested_number bytes n last ≡ cond (ltb list_limit n) 7 last
-  tested-n e = tested-as ∙ ap (λ (k : ℕ). cond (not (eqb k 0)) k (cond (ltb list_limit n) 7 last)) e
+  unfolding tested_number
+  tested-n e = first-passed (input_number bytes) _ e
 
   pub tested-seven : input_number bytes ≡ 0 → list_limit < n → tested_number bytes n last ≡ 7
   tested-seven e h = tested-n e ∙ ap (λ (b : Bool). cond b 7 last) (lt-ltb list_limit n h)

@@ -13,6 +13,7 @@ use machine::counted::Counted;
 use n_shortest::n_best;
 use reversed_machine::reverse;
 use sheet::refusal::Refusal;
+use sheet::words::are_bytes;
 use single_path::single;
 use slots::SLOT;
 
@@ -31,7 +32,7 @@ pub fn list_many(
     let allowed = 1 + counted.finals + n * (sheet.links + 1);
     let heads = SLOT * (allowed as usize);
     let chains = heads + SLOT * ((sheet.nodes as usize) + 1);
-    single::are_bytes(sheet.bytes);
+    are_bytes(sheet.bytes);
     reverse::measure(&counted.machine, part, heads);
     reverse::reverse(counted, part, heads, chains);
     // without a reading the least total is unreached; with one there is a start, whose field is read

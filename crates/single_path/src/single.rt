@@ -1,6 +1,6 @@
 // The best reading (single_shortest_path and its backtrace in shortest_path.rs of rustfst), from the
 // distances and parents that relaxation leaves in a slot a node.
-ghost use Rattle.std.specs.Prelude.{◌≡◌, ℕ, ◌+◌, ◌*◌, ◌≤◌, ◌<◌, length, drop, slice_index};
+ghost use Rattle.std.specs.Prelude.{◌≡◌, ℕ, ◌+◌, ◌*◌, ◌≤◌, ◌<◌, length, drop};
 ghost use Rattle.std.proofs.lemmas.List.Edits.{sets};
 ghost use Rattle.sheet.specs.Words.{bytes_of_all};
 ghost use Rattle.search.specs.ListMachine.{result_for};
@@ -14,7 +14,7 @@ use list_answer::Listed;
 use machine::climbing::Machine;
 use sheet::refusal::Refusal;
 use sheet::tr::{TRAILER, Trailer};
-use sheet::words::{put_word, put_words};
+use sheet::words::{are_bytes, put_word, put_words};
 use shortest_distance::parent::{Parent, parent_at};
 use slots::SLOT;
 
@@ -167,11 +167,6 @@ impl<'a> Way<'a> {
         })
     }
 }
-
-// The bytes of a sheet are below 256, as their type says of each slice; a machine does not say it.
-pub fn are_bytes(sheet: &[u8])
-    ensures { (i : ℕ) → slice_index sheet.now i < 256 }
-{}
 
 // The best reading of a machine, in the slots of its nodes: distances and parents, the best end, and
 // the way back from it.

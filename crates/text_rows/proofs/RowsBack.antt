@@ -10,10 +10,11 @@ use lib.Dec.{ltb, eqb}
 use lib.IntN.{pos}
 use lib.ListN.{length, get_or, take, drop, length-append}
 use lib.Seq.{take-append_seam}
-use borrow.Author.Tests.{eqb-true, eqb-false, le-ltb}
+use borrow.Author.Tests.{eqb-true, le-ltb}
 use Rattle.sheet.specs.Below.{list_below}
 use Rattle.sheet.specs.Sheet.{Parts, link_count, node_count, ilabel, olabel, link_bits, next, count, mark, final_bits, nodes_fit, start_fits, nexts_fit, weights_fit, verdict, parts_of, sizes_fit, read_number, sheet_of, sheet_length, write_number, stated_links, stated_nodes}
 use Rattle.sheet.proofs.Apart.{both}
+use Rattle.sheet.proofs.Refusals.{first-zero}
 use Rattle.sheet.proofs.Fields.{length-words, read-fields, read_fits, length-read}
 use Rattle.sheet.proofs.Round.{Below, word_lt, words-below, bytes_back, number-again}
 use Rattle.text_rows.specs.Fields.{Weight, finite, and_then, rows_of, ended, fields_of}
@@ -208,12 +209,11 @@ accepted l p e = go (l && nodes_fit p) refl (start_fits (node_count p) p.start) 
 -- what a number 0 of the call that writes rows says
 pub written-number : (bytes : List ℕ) (room : ℕ) → text_number bytes room ≡ 0 → (read_number bytes ≡ 0) × (has_rows (parts_of bytes) ≡ true)
 unfolding text_number
-written-number bytes room e = go (read_number bytes) (eqb (read_number bytes) 0) refl (has_rows (parts_of bytes)) e
+written-number bytes room e = let x = first-zero (read_number bytes) _ e in (x.0, go (has_rows (parts_of bytes)) x.1)
   where
-    go : (k : ℕ) (z : Bool) → eqb k 0 ≡ z → (b : Bool) → ◌≡◌ {A = ℕ} (cond (not (eqb k 0)) k (cond (not b) 9 (cond (ltb room (length (text_of (parts_of bytes)))) 21 0))) 0 → (k ≡ 0) × (b ≡ true)
-    go k false q b e = absurd (eqb-false k 0 q (sym (ap (λ (z : Bool). cond (not z) k (cond (not b) 9 (cond (ltb room (length (text_of (parts_of bytes)))) 21 0))) q) ∙ e))
-    go k true q false e = absurd (omega (arith, sym (ap (λ (z : Bool). cond (not z) k 9) q) ∙ e))
-    go k true q true e = (eqb-true k 0 q, refl)
+    go : (b : Bool) → ◌≡◌ {A = ℕ} (cond (not b) 9 (cond (ltb room (length (text_of (parts_of bytes)))) 21 0)) 0 → b ≡ true
+    go true h = refl
+    go false h = absurd (omega (arith, h))
 
 module _ (bytes : List ℕ) (below : Below 256 bytes) (zero_number : read_number bytes ≡ 0) (has : has_rows (parts_of bytes) ≡ true) where
   abbrev p : Parts

@@ -1,7 +1,8 @@
 -- The sheet of rows, and the number that converting them answers. Definitions only.
-use Rattle.std.specs.Prelude.{ℕ, ◌+◌, ◌*◌, ◌^◌, Bool, not, ◌&&◌, cond, ltb, eqb, length, drop, Option, None, Some}
-use mathlib.Core.List.{List, [], ◌∷◌, ◌++◌, flat_map}
+use Rattle.std.specs.Prelude.{ℕ, ◌+◌, ◌*◌, ◌^◌, Bool, not, ◌&&◌, cond, ltb, eqb, length, Option, None, Some}
+use mathlib.Core.List.{List, [], ◌∷◌, flat_map}
 use Rattle.sheet.specs.Below.{list_below}
+use Rattle.sheet.specs.Refusals.{answer_over}
 use Rattle.sheet.specs.Sheet.{Parts, sheet_of, trailer_length}
 use Rattle.sheet.specs.Machine.{bits_of}
 use Rattle.text_rows.specs.Fields.{Weight}
@@ -82,4 +83,4 @@ sheet_of_rows text = sheet_of (parts_of_rows (rows_in text))
 
 -- the result area afterwards
 abbrev pub sheet_over : List ℕ → List ℕ → List ℕ
-sheet_over text old = cond (eqb (rows_number text (length old)) 0) (sheet_of_rows text ++ drop (length (sheet_of_rows text)) old) old
+sheet_over text old = answer_over (sheet_of_rows text) (rows_number text (length old)) old

@@ -1,5 +1,5 @@
 -- The rows of a sheet as text, and which sheets have rows. Definitions only.
-use Rattle.std.specs.Prelude.{ℕ, zero, suc, ◌+◌, ◌-◌, ◌*◌, ◌/◌, ◌%◌, Bool, ◌&&◌, ◌||◌, eqb, ℤ, pos, negsuc, length, drop}
+use Rattle.std.specs.Prelude.{ℕ, zero, suc, ◌+◌, ◌-◌, ◌*◌, ◌/◌, ◌%◌, Bool, ◌&&◌, ◌||◌, eqb, ℤ, pos, negsuc, length}
 use Rattle.std.proofs.Math.Bool.{not, cond}
 use mathlib.Core.List.{List, [], ◌∷◌, ◌++◌, flat_map}
 use Rattle.std.proofs.Math.Dec.{ltb}
@@ -10,6 +10,7 @@ use Rattle.decimals.specs.Decimal.{decimal}
 use Rattle.tropical_weight.specs.Limits.{unit}
 use Rattle.tropical_weight.specs.Grid as Grid
 use Rattle.sheet.specs.Below.{all_below, sum_below, list_below}
+use Rattle.sheet.specs.Refusals.{answer_over}
 use Rattle.sheet.specs.Sheet.{Parts, barred_bits, link_count, node_count, ilabel, olabel, link_bits, next, count, mark, final_bits, parts_of, read_number}
 use Rattle.text_rows.specs.Fields.{infinity_text}
 use Rattle.text_rows.specs.Rows.{units_in_one, in_unit}
@@ -92,6 +93,4 @@ text_number bytes room =
 
 -- the result area afterwards
 abbrev pub text_over : List ℕ → List ℕ → List ℕ
-text_over bytes old =
-    let text = text_of (parts_of bytes) in
-    cond (eqb (text_number bytes (length old)) 0) (text ++ drop (length text) old) old
+text_over bytes old = answer_over (text_of (parts_of bytes)) (text_number bytes (length old)) old

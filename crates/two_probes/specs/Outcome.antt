@@ -1,7 +1,7 @@
 -- The outcome of the call on two sheets: one function of the bytes of both and the area's length gives the refusal or the answer. Definitions only.
-use Rattle.std.specs.Prelude.{ℕ, not, cond, List, ◌++◌, ltb, eqb, length, drop, Result}
+use Rattle.std.specs.Prelude.{ℕ, not, cond, List, ltb, eqb, length, Result}
 use Rattle.sheet.specs.declared.refusal.Refusal.{Refusal}
-use Rattle.sheet.specs.Refusals.{answer}
+use Rattle.sheet.specs.Refusals.{answer, answer_over}
 use Rattle.sheet.specs.Sheet.{sheet_of}
 use Rattle.sheet.specs.Machine.{Machine, machine, parts_for}
 use Rattle.machine.specs.Input.{input_number}
@@ -31,4 +31,4 @@ both_answer first second room = answer (length (answer_of first second)) (both_n
 
 -- the result area afterwards: the sheet, and then the bytes that were there; where it is refused, just those
 abbrev pub both_over : List ℕ → List ℕ → List ℕ → List ℕ
-both_over first second old = cond (eqb (both_number first second (length old)) 0) (answer_of first second ++ drop (length (answer_of first second)) old) old
+both_over first second old = answer_over (answer_of first second) (both_number first second (length old)) old

@@ -2,3 +2,4 @@ pub mod Telling
 pub mod Room
 pub mod Numbered
 pub mod ReadBack
+pub mod Parts

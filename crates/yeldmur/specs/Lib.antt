@@ -1,2 +1,3 @@
 pub mod Told
 pub mod Areas
+pub mod PartLists

@@ -6,6 +6,7 @@ use Rattle.sheet.specs.Machine.{machine}
 use Rattle.machine.specs.Readings.{reading_of, reading_cost}
 use Rattle.search.specs.Listed.{list_of}
 use Rattle.list_answer.specs.declared.Listed.{Listed}
+use Rattle.preheat_bake.specs.declared.counts.Counts.{Counts}
 use Rattle.sheet.specs.declared.refusal.Refusal.{Refusal}
 use Rattle.sheet.specs.declared.tr.Link.{Link}
 use Rattle.sheet.specs.declared.tr.Node.{Node}
@@ -24,6 +25,11 @@ value_told (Err r) old = (number_of r, old)
 abbrev pub listed_told : Result Listed Refusal → ℕ → ℕ → ℕ → ℕ × ℕ × ℕ × ℕ
 listed_told (Ok made) states links taken = (0, made.nodes, made.links, made.taken)
 listed_told (Err r) states links taken = (number_of r, states, links, taken)
+
+-- of two parts, how many links each has
+abbrev pub split_told : Result Counts Refusal → ℕ → ℕ → ℕ × ℕ × ℕ
+split_told (Ok made) first second = (0, made.first, made.second)
+split_told (Err r) first second = (number_of r, first, second)
 
 -- of a reading, how many links it has, its cost and its end
 abbrev pub told_reading : Result Told Refusal → ℕ → ℤ → ℕ → ℕ × ℕ × ℤ × ℕ

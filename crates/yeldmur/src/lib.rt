@@ -1,7 +1,7 @@
 // Yeldmur for C and Rust: sheets read and written, rows of text turned into sheets and back, distances,
-// lists of the cheapest readings, and what two sheets both allow, in areas that the caller lends. Each
-// function returns 0 or the number of the refusal, and then the numbers behind its references keep their
-// values.
+// lists of the cheapest readings, what two sheets both allow, and the two parts of a sheet, in areas that
+// the caller lends. Each function returns 0 or the number of the refusal, and then the numbers behind its
+// references keep their values.
 #![tactic(auto)]
 
 ghost use Rattle.std.specs.Prelude.{◌≡◌, cond, List, [], ◌∷◌, ℕ, ◌≤◌, ◌<◌, eqb, length};
@@ -15,6 +15,8 @@ ghost use Rattle.machine.specs.Distance.{distance as distance_for};
 ghost use Rattle.machine.specs.Input.{input_number};
 ghost use Rattle.two_probes.specs.Outcome.{both_number, both_answer, both_over};
 ghost use Rattle.two_probes.specs.Promise.{Allowed, Reasons};
+ghost use Rattle.preheat_bake.specs.Outcome.{split_number, split_answer, split_over};
+ghost use Rattle.preheat_bake.specs.Promise.{Parted, Reasons as SplitReasons};
 ghost use Rattle.sheet_fields.specs.Counts.{counts_of};
 ghost use Rattle.sheet_fields.specs.Nodes.{next_node};
 ghost use Rattle.sheet_fields.specs.Fields.{fields_of_node};
@@ -29,7 +31,8 @@ ghost use Rattle.shortest_path.specs.Outcome.{slots_needed, tested_number, list_
 ghost use Rattle.shortest_path.specs.Promise.{Keeps};
 ghost use Rattle.read_back.specs.Answers.{count_number, count_answer, reading_number, reading_answer, run_after};
 ghost use Rattle.read_back.specs.Promise.{IsTrue};
-ghost use Rattle.yeldmur.specs.Told.{value_told, listed_told, told_reading, CountTold, ReadingTold, node_distance_told, counts_told, link_told, node_told, numbered};
+ghost use Rattle.yeldmur.specs.Told.{value_told, listed_told, split_told, told_reading, CountTold, ReadingTold, node_distance_told, counts_told, link_told, node_told, numbered};
+ghost use Rattle.yeldmur.specs.PartLists.{PartLists};
 ghost use Rattle.list_answer.specs.ListAnswer.{slots_of};
 ghost use Rattle.yeldmur.specs.Areas.{measured_number, bytes_of, bytes_enough, Enough, counts_number, finals_of, Serves};
 
@@ -145,6 +148,33 @@ pub extern "C" fn yeldmur_two_probes(
 {
     let made = two_probes::two_probes(first, second, res);
     tell(made.map(|n| n as u64), size)
+}
+
+// The two parts of a sheet at node c, each followed by the numbers of its links in the whole, and how many
+// links each has: 1 to 6, then 13 and 21.
+#[unsafe(no_mangle)]
+pub extern "C" fn yeldmur_split(
+    sheet: &[u8],
+    c: u32,
+    res: &mut [u8],
+    first: &mut u32,
+    second: &mut u32,
+) -> u32
+    ensures value { result ≡ split_number sheet.now c (length res.old) }
+    ensures second_after { (result, first.new, second.new) ≡ split_told (split_answer sheet.now c (length res.old)) first.old second.old }
+    ensures res_after { res.new ≡ split_over sheet.now c res.old }
+    ensures parted { result ≡ 0 → Parted sheet.now c (record { first = first.new; second = second.new }) res.new }
+    ensures listed { result ≡ 0 → PartLists sheet.now c (record { first = first.new; second = second.new }) res.new }
+    ensures why { input_number sheet.now ≡ 0 → SplitReasons sheet.now c (length res.old) result }
+{
+    match preheat_bake::split(sheet, c, res) {
+        Ok(counts) => {
+            *first = counts.first;
+            *second = counts.second;
+            0
+        }
+        Err(refusal) => u32::from(refusal),
+    }
 }
 
 // The distances of a sheet's nodes, two words each, 1 and the weight bits, or 0 and 0 where a node is

@@ -6,7 +6,7 @@ use Rattle.sheet.specs.Records.{node_at}
 use Rattle.sheet.specs.Sheet.{stated_nodes}
 use Rattle.sheet.proofs.AcceptedSheet.{stated-some, stated-none}
 use Rattle.sheet_fields.specs.Fields.{node_words}
-use Rattle.sheet_fields.proofs.Counting.{nodes-stated}
+use Rattle.machine.proofs.Again.{nodes-stated}
 use Rattle.sheet_fields.proofs.Passed.{length-is, node-fields}
 use Rattle.sheet_fields.proofs.nodes.node_or_end.Goals as goal
 

@@ -1,0 +1,9 @@
+pub mod Across
+pub mod LeastSums
+pub mod Seam
+pub mod Counted
+pub mod Refused
+pub mod Joined
+pub mod PartSheets
+pub mod PartWords
+pub mod Bench

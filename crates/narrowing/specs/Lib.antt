@@ -1,0 +1,5 @@
+pub mod Sums
+pub mod Narrows
+pub mod Parts
+pub mod Refused
+pub mod Joins
