@@ -7,7 +7,7 @@ on both sides, not 0 and below 2^31. OpenFst numbers its states anew and leaves 
 - the n cheapest that fstshortestpath lists, n from 1 to 64: their costs, and that they are readings;
 - how many nodes and how many links, barred ones too, lie on ways from the start to a node that is final with a finite weight.
 
-The rows that OpenFst compiles are those of tools/rows.py. A pair that tools/products.py refuses, by 11 or 12, OpenFst composes; the library's
+The rows that OpenFst compiles are those of tools/rows.py: of a sheet of unit 256 those with as many sixty-fourths at each weight. A pair that tools/products.py refuses, by 11 or 12, OpenFst composes; the library's
 number is compared alone.
 
     python3 compare_products.py SEED COUNT LIBRARY.so   the shared library, which `make shared` writes to target/package
@@ -21,26 +21,26 @@ from drawn_pairs import LABELS, drawn_pair
 from product_judge import GUARD, LONGEST, Library
 from products import outcome, units
 from rows import text_of
-from sheets import BARRED, NONE, f, fields, sources, written
+from sheets import BARRED, NONE, f, fields, in_form, sources, unit_of, written
 
-# a machine: its start or None, the links out of each node (node, label, bits, next), and the bits of final nodes
-Machine = collections.namedtuple('Machine', 'start out finals')
+# a machine: its start or None, the links out of each node (node, label, bits, next), the bits of final nodes, and its unit
+Machine = collections.namedtuple('Machine', 'start out finals unit')
 
-def machine_of(links, start, finals):
+def machine_of(links, start, finals, unit=64):
     out = collections.defaultdict(list)
     for link in links: out[link[0]].append(link)
-    return Machine(start, out, finals)
+    return Machine(start, out, finals, unit)
 
 def of_sheet(b):
     links, nodes, start = fields(b)
     ways = [(v, label, bits, nxt) for v, (label, _, bits, nxt) in zip(sources(nodes), links)]
-    return machine_of(ways, None if start == NONE else start, {v: bits for v, (_, mark, bits) in enumerate(nodes) if mark and bits != BARRED})
+    return machine_of(ways, None if start == NONE else start, {v: bits for v, (_, mark, bits) in enumerate(nodes) if mark and bits != BARRED}, unit_of(b))
 
 def text(b):
-    """the rows of a sheet for fstcompile; a start without a row of its own has one of infinite weight, which makes it no final node"""
+    """the rows of a sheet for fstcompile, which knows of no unit; a start without a row of its own has one of infinite weight, which makes it no final node"""
     _, nodes, start = fields(b)
     if start == NONE: return b''
-    return (b'' if any(nodes[start][:2]) else b'%d\tInfinity\n' % start) + text_of(b)
+    return (b'' if any(nodes[start][:2]) else b'%d\tInfinity\n' % start) + text_of(in_form(b, None))
 
 def bits_of(weight): return BARRED if weight == 'Infinity' else f(float(Fraction(weight)))
 
@@ -77,13 +77,13 @@ class OpenFst:
         return self.printed('cheapest')
 
 def readings(machine, with_labels):
-    """how many readings there are of these labels, or of any, and of this cost in sixty-fourths"""
+    """how many readings there are of these labels, or of any, and of this cost in units"""
     @functools.lru_cache(None)
     def behind(v):
-        told = collections.Counter({((), units(machine.finals[v])): 1} if v in machine.finals else {})
+        told = collections.Counter({((), units(machine.finals[v], machine.unit)): 1} if v in machine.finals else {})
         for _, label, bits, nxt in machine.out[v]:
             if bits == BARRED: continue
-            for (labels, cost), count in behind(nxt).items(): told[(label, *labels) if with_labels and label else labels, cost + units(bits)] += count
+            for (labels, cost), count in behind(nxt).items(): told[(label, *labels) if with_labels and label else labels, cost + units(bits, machine.unit)] += count
         return told
     return collections.Counter() if machine.start is None else behind(machine.start)
 
@@ -121,6 +121,7 @@ class Run:
         first, second = drawn_pair(self.rng, *((14, 40) if larger else (6, 10)), LABELS)
         number, both = self.answered(first, second)
         self.counts['pairs'] += 1
+        self.counts['of unit 256'] += unit_of(first) == unit_of(second) == 256
         if number != outcome(first, second, LONGEST)[0]: return self.differs(f'number {number}', first, second)
         if number: self.counts[f'refused by {number}'] += 1
         else: self.compare(of_sheet(both), self.openfst.composed(first, second), larger, first, second)

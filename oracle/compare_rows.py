@@ -2,8 +2,8 @@
 """Runs the library's conversion between text rows and sheets beside three judges: the converter of tools/rows.py, the Rust's reader of text rows
 (target/release/oracle rows), and OpenFst (fstcompile, fstprint).
 
-    python3 compare_rows.py SEED COUNT      COUNT texts and COUNT sheets, a third of them damaged, half with barred weights, and a large text
-                                            for each thousand
+    python3 compare_rows.py SEED COUNT      COUNT texts and COUNT sheets, a third of them damaged, half with barred weights, a quarter of the sheets
+                                            with the longer trailer, which have no rows, and a large text for each thousand
     python3 compare_rows.py rows            texts that this library refuses or reads otherwise: what each of the three says
 
 It links ../target/staticlib/libyeldmur.a, or the one in the folder YELDMUR_LIB_DIR.
@@ -11,6 +11,7 @@ It links ../target/staticlib/libyeldmur.a, or the one in the folder YELDMUR_LIB_
 import collections, ctypes, os, random, re, subprocess, sys, tempfile
 HERE = os.path.dirname(os.path.abspath(__file__))
 sys.path.insert(0, os.path.join(HERE, '..', 'tools'))
+from drawn_pairs import reformed
 from drawn_rows import damaged_sheet, damaged_text, drawn_sheet, drawn_text
 from rows import rows_of, rows_size, sheet_size, to_rows, to_sheet
 from sheets import BARRED, NONE, fields, sheet
@@ -148,7 +149,7 @@ def run(seed, count):
         if compare(library, tally, TO_SHEET, back, r) != b: tally.differs('its rows are of another sheet', b)
         read.append((text, b, back))
     for i in range(count):
-        b = drawn(r, i, lambda r, barred: drawn_sheet(r, barred=barred), damaged_sheet)
+        b = drawn(r, i, lambda r, barred: drawn_sheet(r, barred=barred, longer=.25), lambda r, b: r.choice((reformed, damaged_sheet, damaged_sheet))(r, b))
         back = compare(library, tally, TO_ROWS, b, r)
         if back is not None and compare(library, tally, TO_SHEET, back, r) != b: tally.differs('its rows are of another sheet', b)
     compare_machines(tally, read)

@@ -4,7 +4,7 @@ draw takes its random numbers from `r`. It shares nothing with the library.
 import struct
 from fractions import Fraction
 from rows import weight_text
-from sheets import BARRED, LARGEST, NONE, UNITS, f, sheet, with_word
+from sheets import BARRED, LARGEST, NONE, UNITS, f, sheet, unit, with_word
 
 # the largest weight, and a unit more and less
 MOST, MORE, LESS = (weight_text(Fraction(k, 64)).encode() for k in (UNITS, UNITS + 1, UNITS - 1))
@@ -34,7 +34,7 @@ def bars(r, share):
     """whether one in so large a share is barred; without a share nothing is drawn"""
     return share > 0 and r.random() < share
 
-def bits(r, barred): return BARRED if bars(r, barred) else f(units(r) / 64)
+def bits(r, barred, form=None): return BARRED if bars(r, barred) else f(units(r) / unit(form))
 
 def label(r, most=NONE): return r.choice([0, 1, 2, 7, r.randint(0, 99), r.randint(0, most), most])
 
@@ -90,16 +90,17 @@ def damaged_text(r, text, barred=0):
     rows.insert(r.randint(0, len(rows)), more)
     return b'\n'.join(rows) + b'\n'
 
-def drawn_sheet(r, nodes=9, links=14, barred=0):
-    """a sheet that can be read; some have no rows; barred: the share of weights that are infinite"""
+def drawn_sheet(r, nodes=9, links=14, barred=0, longer=0):
+    """a sheet that can be read; some have no rows; barred: the share of weights that are infinite; longer: that of sheets of the longer trailer"""
+    form = r.choice((64, 256)) if bars(r, longer) else None
     n = r.randint(0 if r.random() < .1 else 1, nodes)
     ways = sorted(r.randrange(n) for _ in range(r.randint(0, links))) if n else []
     ends = [r.random() < .3 for _ in range(n)]
     if n and r.random() < .7: ends[n - 1] = True
     own = [v for v in range(n) if ends[v] or v in ways]
     start = NONE if not n or r.random() < .1 else r.choice(own) if own and r.random() < .9 else r.randrange(n)
-    return sheet([(label(r), label(r), bits(r, barred), r.randrange(n)) for _ in ways],
-                 [(ways.count(v), int(ends[v]), bits(r, barred) if ends[v] else 0) for v in range(n)], start)
+    return sheet([(label(r), label(r), bits(r, barred, form), r.randrange(n)) for _ in ways],
+                 [(ways.count(v), int(ends[v]), bits(r, barred, form) if ends[v] else 0) for v in range(n)], start, form)
 
 def damaged_sheet(r, b):
     """a sheet with one or two words changed, or its length"""

@@ -12,10 +12,12 @@ import functools, itertools, random, struct
 from collections import Counter
 from fractions import Fraction
 from search_oracle import INF, Search
-from sheets import (A, BARRED, CHAIN, E, EMPTY, LARGEST, LINKS, NODES, NONE, TRAILER, UNITS, climbing, distances, f, fields, input_number, read, real,
-                    sample, sheet, some_barred, sources, with_word, written)
+from sheets import (A, A64, A256, BARRED, CHAIN, E, EMPTY, FINE, FORMS, LARGEST, LINKS, NODES, NONE, TRAILER, UNITS, climbing, distances, f, fields, form_of,
+                    in_form, input_number, longer, read, real, sample, sheet, some_barred, sources, trailer_size, unit_of, with_form, with_word, written)
 
-def units(bits): return INF if bits == BARRED else int(64 * Fraction(real(bits)))
+def units(bits, unit): return INF if bits == BARRED else int(unit * Fraction(real(bits)))
+
+def with_start(b, start): return with_word(b, (len(b) - trailer_size(b)) // 4 + 4, start)
 
 def slots(b, n):
     """the work slots needed"""
@@ -41,21 +43,23 @@ def best(b):
 
 def all_readings(b):
     """the links of each reading, with its cost in units"""
-    links, nodes, start = fields(b)
+    (links, nodes, start), unit = fields(b), unit_of(b)
     ways = [[((), 0)] if v == start else [] for v in range(len(nodes))]
-    for l, (v, (_, _, bits, nxt)) in enumerate(zip(sources(nodes), links)): ways[nxt] += [(way + (l,), k + units(bits)) for way, k in ways[v]]
-    return {way: k + units(bits) for v, (_, mark, bits) in enumerate(nodes) if mark for way, k in ways[v] if k + units(bits) < INF}
+    for l, (v, (_, _, bits, nxt)) in enumerate(zip(sources(nodes), links)): ways[nxt] += [(way + (l,), k + units(bits, unit)) for way, k in ways[v]]
+    ends = [(v, units(bits, unit)) for v, (_, mark, bits) in enumerate(nodes) if mark]
+    return {way: k + end for v, end in ends for way, k in ways[v] if k + end < INF}
 
 def listed(n, links, answer):
     """the links of each reading that an answer holds, with its cost in units: read from its bytes"""
-    rows, nodes, start = fields(answer[:len(answer) - 4 * links])
+    whole = answer[:len(answer) - 4 * links]
+    (rows, nodes, start), unit = fields(whole), unit_of(whole)
     words, out = struct.unpack('<%dI' % links, answer[len(answer) - 4 * links:]), [[] for _ in nodes]
     for l, v in enumerate(sources(nodes)): out[v].append(l)
     def followed(way, v):
         while out[v]:
             way, v = way + out[v], rows[out[v][0]][3]
         assert nodes[v][1] == 1
-        return tuple(words[l] for l in way if words[l] != NONE), sum(units(rows[l][2]) for l in way) + units(nodes[v][2])
+        return tuple(words[l] for l in way if words[l] != NONE), sum(units(rows[l][2], unit) for l in way) + units(nodes[v][2], unit)
     if start == NONE: return []
     return [followed([], start)] if n == 1 else [followed([l], rows[l][3]) for l in out[start]]
 
@@ -66,20 +70,21 @@ def hold(b, n, readings):
 
 @functools.lru_cache(None)
 def made(b, n, as_rust=False):
-    """the nodes and links of the list's machine, the entries taken, and the bytes of the answer; as_rust: with the infinite readings of the Rust"""
-    links, nodes, start = fields(b)
+    """the nodes and links of the list's machine, the entries taken, and the bytes of the answer, under the sheet's trailer; as_rust: with the
+    infinite readings of the Rust"""
+    (links, nodes, start), unit = fields(b), unit_of(b)
     rows, marks, first, words, taken = [], [], NONE, [], 0
     if n == 1 and best(b):
         end, words = best(b)
         rows, marks, first = [(*links[l][:3], q) for q, l in enumerate(words)], [(0, 1, nodes[end][2])] + [(1, 0, 0)] * len(words), len(words)
     if n > 1 and best(b):
-        ways = [(v, units(bits), nxt) for v, (_, _, bits, nxt) in zip(sources(nodes), links)]
-        _, _, taken, ways = Search(ways, [units(bits) if mark else None for _, mark, bits in nodes], start, n, as_rust).run()
-        rows = [(*((0, 0) if l is None else links[l][:2]), f(w / 64), q) for _, q, w, l in ways]
+        ways = [(v, units(bits, unit), nxt) for v, (_, _, bits, nxt) in zip(sources(nodes), links)]
+        _, _, taken, ways = Search(ways, [units(bits, unit) if mark else None for _, mark, bits in nodes], start, n, as_rust).run()
+        rows = [(*((0, 0) if l is None else links[l][:2]), f(w / unit), q) for _, q, w, l in ways]
         counts = Counter(q for q, _, _, _ in ways)
         marks, first = [(counts[q], int(q == 1), 0) for q in range(1 + max(counts))], 0
         words = [NONE if l is None else l for _, _, _, l in ways]
-    answer = sheet(rows, marks, first) + struct.pack('<%dI' % len(words), *words)
+    answer = sheet(rows, marks, first, form_of(b)) + struct.pack('<%dI' % len(words), *words)
     if len(b) < 400: hold(b, n, [reading for reading in listed(n, len(rows), answer) if reading[1] < INF])
     return len(marks), len(rows), taken, answer
 
@@ -117,6 +122,13 @@ assert [way for way, _ in readings(TWICE, 1)] == [(0, 2)] and [way for way, _ in
 for n in (1, 2): assert readings(CHAIN, n) == [(tuple(range(NODES - 1)), NODES * UNITS)]
 for n, taken, size in (1, 0, 64), (2, 13, 160), (3, 16, 160), (64, 19, 160):
     assert readings(E, n) == [((0,), 6)] and made(E, n)[2] == taken and len(made(E, n)[3]) == size
+# the longer trailer: costs in its unit, and its bytes in each answer
+assert len(A64) == len(A256) == 152 and len(longer(EMPTY, 64)) == 24
+assert [k for _, k in readings(A256, 3)] == [448, 448, 576] and [k for _, k in readings(A64, 3)] == [112, 112, 144]
+for n in range(65):
+    for b in A64, A256: assert len(made(b, n)[3]) == len(made(A, n)[3]) + 4 and labels(b, n) == labels(A, n) and made(b, n)[2] == made(A, n)[2]
+    for form in 64, 256: assert made(longer(EMPTY, form), n) == (0, 0, 0, longer(EMPTY, form))
+for n in (1, 2): assert readings(FINE, n) == [((0,), 1 - UNITS)] and readings(in_form(CHAIN, 256), n) == readings(CHAIN, n)
 
 NAMED = {1: 'P2: ', 3: 'P3: ', 4: 'P4: ', 64: 'P9: ', 65: 'P9: '}
 for n in (0, 1, 2, 3, 4, 5, 64, 65):
@@ -131,12 +143,38 @@ for n in (0, 1, 2, 64): case(f'no nodes, n = {n}, areas longer', EMPTY, n, 8 * s
 for n in (2, 64): case(f'no nodes, n = {n}, a work word short', EMPTY, n, 8 * slots(EMPTY, n) - 1, 20)
 for n in (0, 1, 2, 64): case(f'no nodes, n = {n}, a result byte short', EMPTY, n, None, 19)
 
+for b, unit in ((A64, 64), (A256, 256)):
+    for n in (0, 1, 2, 3, 4, 64, 65):
+        w, r = 8 * slots(b, n), len(made(b, min(n, 64))[3])
+        for words, room, how in ((w, r, 'exact areas'), (w - 1, r, 'a work word short'), (w, r - 1, 'a result byte short'), (w, r - 4, 'a result word short'),
+                                 (w + 20, r + 9, 'longer areas')):
+            if words >= 0 and (unit == 256 or n in (1, 2)): case(f'A, of unit {unit}, n = {n}, {how}', b, n, words, room)
+for n in (0, 1, 2, 3, 32, 63, 64, 65):
+    for form in 64, 256: case(f'no nodes and no start, of unit {form}, n = {n}', longer(EMPTY, form), n)
+for n in (0, 1, 2):
+    case(f'no nodes, of unit 256, n = {n}, room for the shorter trailer', longer(EMPTY, 256), n, None, 20)
+    case(f'no nodes, of unit 64, n = {n}, a result byte short', longer(EMPTY, 64), n, None, 23)
+    case(f'23 bytes, n = {n}', longer(EMPTY, 256)[1:], n)
+    case(f'no nodes, of unit 128, n = {n}', longer(EMPTY, 128), n)
+    for form, so in (256, 'of unit 256'), (64, 'of unit 64'), (None, 'of the shorter trailer'), (128, 'of unit 128'):
+        k = case(f'1/256 and -32, {so}, n = {n}', with_form(FINE, form), n)
+        assert k == {256: 0, 128: 14}.get(form, 4)
+    assert case(f'1/256 and -32, of unit 128, with start 7, n = {n}', with_start(with_form(FINE, 128), 7), n) == 14
+
 LONE = climbing(2, [(0, LARGEST, 1)], 0)
 for n in (0, 1, 2, 64, 65):
     case(f'P6: 19 bytes, n = {n}', EMPTY[1:], n)
     case(f'P7: weight {LARGEST:g}, n = {n}', LONE, n)
     case(f'P7: weight {LARGEST + 1 / 64}, n = {n}', with_word(LONE, 2, f(LARGEST + 1 / 64)), n)
     case(f'P8: a link to its own node, n = {n}', with_word(A, 15, 1), n)
+
+FINER = in_form(LONE, 256)
+for n in (1, 2):
+    assert case(f'weight {LARGEST / 4:g}, of unit 256, n = {n}', FINER, n) == 0
+    assert case(f'weight {(UNITS + 1) / 256}, of unit 256, n = {n}', with_word(FINER, 2, f((UNITS + 1) / 256)), n) == 4
+    assert case(f'weight {1 / 512}, of unit 256, n = {n}', with_word(FINER, 2, f(1 / 512)), n) == 4
+    assert case(f'weight {LARGEST:g}, of unit 256, n = {n}', with_word(FINER, 2, f(LARGEST)), n) == 4
+    assert case(f'weight {LARGEST:g}, of unit 64, n = {n}', in_form(LONE, 64), n) == 0
 
 LAST = sheet([], [(0, 0, 0)] * (NODES - 1) + [(0, 1, f(.5))], NODES - 1)
 ALL = sheet([], [(0, 1, f(.5))] * NODES, NODES - 1)
@@ -152,22 +190,31 @@ for n in (1, 2):
     case(f'{LINKS:,} links, n = {n}', MOST, n)
     case(f'{LINKS + 1:,} links, n = {n}', sheet([(1, 1, f(2), 1)] * (LINKS + 1), [(LINKS + 1, 0, 0), (0, 1, 0)], 0), n)
 case(f'{NODES:,} final nodes without links, n = 64', ALL, 64)
+case(f'the chain of {NODES:,} nodes, of unit 256, n = 2', in_form(CHAIN, 256), 2)
 
-# of each refusal, what brings it about in A's words; 5 goes by A with a node more than there may be, 7, 20 and 21 by n and the areas
-def large(b): return sheet(fields(b)[0], fields(b)[1] + [(0, 0, 0)] * (NODES - 3), 0)
-BREAKS = {1: lambda b: with_word(b, 24, 2), 2: lambda b: with_word(b, len(b) // 4 - 1, NONE - 1), 3: lambda b: with_word(b, 19, NONE - 1),
+# of each refusal, in the order of the tests, what brings it about in A's words; 5 goes by A with a node more than there may be, 7, 20 and 21 by n
+# and the areas
+def large(b): return sheet(fields(b)[0], fields(b)[1] + [(0, 0, 0)] * (NODES - 3), 0, form_of(b))
+BREAKS = {1: lambda b: with_word(b, 24, 2), 14: lambda b: with_form(b, 128), 2: lambda b: with_start(b, NONE - 1), 3: lambda b: with_word(b, 19, NONE - 1),
           4: lambda b: with_word(b, 2, 1), 5: lambda b: b, 6: lambda b: with_word(b, 15, 1), 7: lambda b: b, 20: lambda b: b, 21: lambda b: b}
-def refused(ks, n):
+def refused(ks, n, b=A):
     if 7 in ks: n = 65
-    whole = large(A) if 5 in ks else A
-    b = functools.reduce(lambda x, k: BREAKS[k](x), ks, whole)
-    k = case(f"refused: {' and '.join(map(str, ks))}, n = {n}", b, n, 8 * slots(whole, n) - (20 in ks), 19 if 21 in ks else 1000)
-    assert k == min(ks)
+    whole = large(b) if 5 in ks else b
+    broken = functools.reduce(lambda x, k: BREAKS[k](x), ks, whole)
+    k = case(f"refused: {' and '.join(map(str, ks))}, n = {n}", broken, n, 8 * slots(whole, n) - (20 in ks), 19 if 21 in ks else 1000)
+    assert k == ks[0]
 for n in (0, 1, 3):
     for k in BREAKS:
         if (k != 7 or n == 3) and (k != 20 or n > 0): refused([k], n)
-for ks in itertools.combinations(BREAKS, 2): refused(ks, 3)
-for ks in itertools.combinations((1, 2, 3, 4, 6), 2): refused(ks, 1)
+for i, ks in enumerate(itertools.combinations(BREAKS, 2)): refused(ks, 3, (A, A256)[i % 2])
+for i, ks in enumerate(itertools.combinations((1, 14, 2, 3, 4, 6), 2)): refused(ks, 1, (A256, A)[i % 2])
+# the fields of the longer trailer, a word more and a word less
+for i in range(TRAILER, TRAILER + 6):
+    for w in (1, NONE): case(f'A, of unit 256, word {i} {w:x}', with_word(A256, i, w), 2)
+for w in (0, 1, 63, 65, 128, 257, 320, 512, 64 << 8, 64 << 16, 1 << 31, NONE): assert case(f'A, of unit {w}', longer(A, w), 2) == 14
+for w in (0, 64, 256): assert case(f'A, of unit 256, and {w} behind it', longer(A256, w), 2) == 1
+assert case('A, of unit 256, less its last word', A256[:-4], 2) == 0 and case('A, of unit 256, less its first word', A256[4:], 2) == 1
+assert case('A, a word before its trailer', A[:-20] + bytes(4) + A[-20:], 2) == 1
 
 def other(i): return i + 1, i + 101
 KINDS = [('equal ways', climbing(4, [(0, 1, 1), (0, 1, 2), (1, 2, 3), (2, 2, 3)], 0, None, other)),
@@ -190,7 +237,7 @@ KINDS = [('equal ways', climbing(4, [(0, 1, 1), (0, 1, 2), (1, 2, 3), (2, 2, 3)]
          ('no start', with_word(A, TRAILER + 4, NONE)), ('no final node', climbing(3, [(0, 1, 1), (1, 1, 2)], 0, {}, other)),
          ('start 1', with_word(A, TRAILER + 4, 1)), ('the start the last node', with_word(A, TRAILER + 4, 3))]
 for what, b in KINDS:
-    for n in (0, 1, 2, 3, 4, 10, 64): case(f'{what}, n = {n}', b, n)
+    for n, form in zip((0, 1, 2, 3, 4, 10, 64), (64, 256, None, None, 64, 256, None)): case(f'{what}, {form or 64}ths, n = {n}', in_form(b, form), n)
 
 # with barred links or ends: how many finite readings there are, the machine's name, and its sheet
 BARS = [(1, 'E: barred links and a barred end', E),
@@ -218,10 +265,11 @@ def bound(b, n):
     """no search takes more entries"""
     links, nodes, _ = fields(b)
     return 1 + sum(mark for _, mark, _ in nodes) + n * (len(links) + 1)
-for finite, what, b in BARS:
-    for n in (1, 2, 3, 64) if finite == 0 or b is E else (1, 2, 3):
-        assert case(f'{what}, n = {n}', b, n) == 0 and len(readings(b, n)) == min(finite, n) and made(b, n)[2] <= bound(b, n)
-        if finite == 0: assert made(b, n) == (0, 0, 0, EMPTY)
+for i, (finite, what, whole) in enumerate(BARS):
+    for n, form in zip((1, 2, 3, 64) if finite == 0 or whole is E else (1, 2, 3), (FORMS + FORMS)[i % 4:]):
+        b = in_form(whole, form)
+        assert case(f'{what}, {form or 64}ths, n = {n}', b, n) == 0 and len(readings(b, n)) == min(finite, n) and made(b, n)[2] <= bound(b, n)
+        if finite == 0: assert made(b, n) == (0, 0, 0, with_form(EMPTY, form))
 w, r = 8 * slots(E, 3), len(made(E, 3)[3])
 for words, room, how in ((w - 1, r, 'a work word short'), (w, r - 1, 'a result byte short'), (w + 9, r + 3, 'longer areas')):
     case(f'E, n = 3, {how}', E, 3, words, room)
@@ -233,15 +281,16 @@ assert case('E, a barred link to its own node', with_word(E, 7, 0), 2) == 6
 
 random.seed(1)
 def some():
-    """a sheet of few distinct weights"""
+    """a sheet of few distinct weights, half of them with the longer trailer"""
     n, ws = random.randint(1, 9), random.sample([0, 0, 1, 1, 2, .5, -1, -.25, LARGEST, 1 / 64], random.randint(1, 3))
     ways = [(v, v + 1) for v in range(n - 1) if random.random() < .8]
     if n > 1: ways += [(v, random.randint(v + 1, min(n - 1, v + 3))) for v in random.choices(range(n - 1), k=random.randint(0, 8))]
     random.shuffle(ways)
     names = [(random.randrange(4), random.randrange(4)) for _ in ways]
     finals = {v: random.choice(ws) for v in range(n) if random.random() < .3 or v == n - 1 and random.random() < .9}
-    return climbing(n, [(v, random.choice(ws), nxt) for v, nxt in ways], random.choice([0] * 8 + [random.randrange(n), NONE]), finals, lambda i: names[i])
-for i in range(250):
+    b = climbing(n, [(v, random.choice(ws), nxt) for v, nxt in ways], random.choice([0] * 8 + [random.randrange(n), NONE]), finals, lambda i: names[i])
+    return in_form(b, random.choice(FORMS))
+for i in range(210):
     b, n = some(), random.choice([0, 1, 2, 2, 2, 3, 3, 4, 5, 7, random.randint(0, 66), random.randint(60, 66)])
     words, room = 8 * slots(b, n), len(made(b, min(n, 64))[3])
     case(f'random {i}', b, n, max(0, words + random.choice([0] * 9 + [3, 8, 17, -1, -8])), max(0, room + random.choice([0] * 9 + [1, 5, 12, -1, -4])))

@@ -2,7 +2,7 @@
 """Judges the lists of the two parts of a machine. Of machines that narrow to a node yeldmur_split writes the parts, and the library's own calls make
 and read the lists of the whole and of each part, as written, for every n from 1 to 64. The costs of the whole must be the n least sums of one cost of
 each part's list, or all of them where there are fewer; each reading of the whole, cut at the node, must be one of each part by the words behind the
-parts; and these words must lead to equal links. Costs are summed here, in whole sixty-fourths. It shares nothing with the library.
+parts; and these words must lead to equal links. Costs are summed here, in whole units. It shares nothing with the library.
 
     python3 tools/part_lists_judge.py [--seed S] [--machines N] LIBRARY.so
 
@@ -17,7 +17,7 @@ from drawn_parts import joined
 from parts import least_sums
 from product_judge import GUARD, Difference
 from readback_judge import LISTS, reading_in, searched
-from sheets import A, CHAIN, E, NODES, climbing, fields, input_number, sources, written
+from sheets import A, A64, A256, CHAIN, E, NODES, climbing, fields, form_of, in_form, input_number, sources, trailer_size, written
 
 # a part: its sheet, and the number that each of its links has in the whole; a reading: its cost, and its links by number
 Part, Reading = namedtuple('Part', 'sheet numbers'), namedtuple('Reading', 'cost run')
@@ -28,18 +28,20 @@ EQUAL = climbing(3, [(0, 1, 1)] * 70 + [(1, 2, 2)] * 90, 0, {1: 1, 2: 0})
 ZEROS = climbing(6, [(v, 0, v + 1) for v in range(5) for _ in range(2)], 0)
 # 125 readings in each part, of many costs and many equal ones, and barred links among them
 DEEP = climbing(7, [(0, float('inf'), 1), (4, float('inf'), 5)] + [(v, (v + 1) * k % 7, v + 1) for v in range(6) for k in range(5)], 0)
-STATED = (A, 0), (A, 3), (E, 0), (E, 1), (DIAMOND, 1), (EQUAL, 1), *((ZEROS, c) for c in range(6)), (DEEP, 3), (CHAIN, NODES // 2)
+STATED = ((A, 0), (A256, 3), (A64, 3), (in_form(E, 256), 0), (E, 1), (in_form(DIAMOND, 256), 1), (EQUAL, 1), *((ZEROS, c) for c in range(6)), (in_form(DEEP, 64), 3),
+          (in_form(CHAIN, 256), NODES // 2))
 
 def parts_of(splits, b, c):
     """the parts as the library writes them, found by the counts that it tells"""
     links, nodes, _ = fields(b)
-    room = 20 * len(links) + 12 * (len(nodes) + 1) + 40
+    trailer = trailer_size(b)
+    room = 20 * len(links) + 12 * (len(nodes) + 1) + 2 * trailer
     number, counts, memory = splits.answer(b, c, room, 0)
     if number or sum(counts) != len(links): raise Difference('the call', b, c)
     rest, out = memory[len(memory) - room - GUARD:], []
     for count, own in zip(counts, (c + 1, len(nodes) - c)):
-        size = 16 * count + 12 * own + 20
-        if input_number(rest[:size]): raise Difference('a part, which is no sheet,', b, c)
+        size = 16 * count + 12 * own + trailer
+        if input_number(rest[:size]) or form_of(rest[:size]) != form_of(b): raise Difference('a part, which is no sheet,', b, c)
         out.append(Part(rest[:size], struct.unpack_from(f'<{count}I', rest, size)))
         rest = rest[size + 4 * count:]
     return out

@@ -1,9 +1,9 @@
-"""The two parts of a machine that narrows to a node, from the text of the requirements: what the scripts beside this one share. It shares nothing
+"""The two parts of a machine that narrows to a node, each under its trailer, from the text of the requirements: what the scripts beside this one share. It shares nothing
 with the library.
 """
 import struct
 from functools import lru_cache
-from sheets import NONE, fields, input_number, sheet, sources
+from sheets import NONE, fields, form_of, input_number, sheet, sources
 
 def narrows(b, c):
     """whether an accepted sheet narrows to node c"""
@@ -16,14 +16,14 @@ def first_part(b, c):
     """nodes up to c, with c final at weight 0 and its links removed; and the numbers of the links"""
     links, nodes, start = fields(b)
     numbers = [l for l, v in enumerate(sources(nodes)) if v < c]
-    return sheet([links[l] for l in numbers], [node for v, node in enumerate(nodes) if v < c] + [(0, 1, 0)], start), numbers
+    return sheet([links[l] for l in numbers], [node for v, node in enumerate(nodes) if v < c] + [(0, 1, 0)], start, form_of(b)), numbers
 
 def second_part(b, c):
     """nodes from c, counted from 0, starting there; and the numbers of the links"""
     links, nodes, _ = fields(b)
     numbers = [l for l, v in enumerate(sources(nodes)) if v >= c]
     moved = [(ilabel, olabel, bits, nxt - c) for ilabel, olabel, bits, nxt in (links[l] for l in numbers)]
-    return sheet(moved, [node for v, node in enumerate(nodes) if v >= c], 0), numbers
+    return sheet(moved, [node for v, node in enumerate(nodes) if v >= c], 0, form_of(b)), numbers
 
 @lru_cache(16)
 def made(b, c):

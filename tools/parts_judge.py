@@ -15,12 +15,12 @@ sys.dont_write_bytecode = True
 from drawn_parts import AMISS, OVER, damaged, joined, wide
 from parts import made, outcome
 from product_judge import GUARD, MARKS, Difference, simpler
-from sheets import A, CHAIN, E, EMPTY, NODES, NONE, fields, read_number, written
+from sheets import A, A64, A256, CHAIN, E, EMPTY, FINE, NODES, NONE, fields, longer, read_number, written
 
 # what stands behind the pointers before a call
 COUNTS = 0xA5C30F1E, 0x5A3CF0E1
 # the numbers that a run must have seen
-NUMBERS = 0, 1, 2, 3, 4, 5, 6, 13, 21
+NUMBERS = 0, 1, 14, 2, 3, 4, 5, 6, 13, 21
 
 class Library:
     def __init__(self, path):
@@ -83,7 +83,7 @@ class Judge:
         return f'{kind}, damaged', *damaged(r, *(how(r, b, c) if r.random() < .4 else (b, c)))
 
     def run(self, sheets):
-        for b in A, E, EMPTY, CHAIN, *OVER:
+        for b in A, E, EMPTY, CHAIN, *OVER, A64, A256, longer(EMPTY, 256), FINE, longer(A, 128):
             for c in 0, 1, 2, 3, 4, NODES - 1, NODES, 2 ** 31, NONE: self.sheet('stated', b, c)
         while self.kinds.total() < sheets: self.sheet(*self.drawn())
 

@@ -10,7 +10,8 @@ import itertools, random
 from math import inf
 from drawn_pairs import damaged_pair, drawn_pair
 from products import outcome, paired, readings
-from sheets import (A, BARRED, CHAIN, E, EMPTY, LARGEST, LINKS, NODES, NONE, TRAILER, climbing, f, fields, input_number, read, sheet, with_word, written)
+from sheets import (A, A64, A256, BARRED, CHAIN, E, EMPTY, FINE, FORMS, LARGEST, LINKS, NODES, NONE, TRAILER, climbing, f, fields, form_of, in_form,
+                    input_number, longer, read, sheet, trailer_size, unit, with_form, with_word, written)
 
 # what the program has areas for: the bytes of a result, and of a sheet
 RESULT, SHEET = 16 * (LINKS + 1) + 12 * NODES + 20, 16 * (LINKS + 4)
@@ -29,7 +30,7 @@ def case(what, first, second, room=None):
 def by_hand(what, first, second, links, nodes, start):
     """a case whose answer is this sheet: links of a label, a weight and the node led to, and nodes of a count and perhaps a final weight"""
     rows = [(label, label, f(weight), nxt) for label, weight, nxt in links]
-    answer = sheet(rows, [(node[0], len(node) - 1, f(node[1]) if node[1:] else 0) for node in nodes], start)
+    answer = sheet(rows, [(node[0], len(node) - 1, f(node[1]) if node[1:] else 0) for node in nodes], start, form_of(first))
     assert case(what, first, second) == (0, answer), what
 
 def refused(k, what, first, second, *rooms):
@@ -49,7 +50,8 @@ def bare(n, finals=()): return ways(n, [], dict(finals))
 def end(weight): return bare(1, {0: weight})
 def units(k): return k / 64
 def parallel(count, weight=0, label=1): return ways(2, [(0, label, weight, 1)] * count)
-def without_start(b): return with_word(b, len(b) // 4 - 1, NONE)
+def with_start(b, start): return with_word(b, (len(b) - trailer_size(b)) // 4 + 4, start)
+def without_start(b): return with_start(b, NONE)
 def labelled(b, l, ilabel, olabel): return with_word(with_word(b, 4 * l, ilabel), 4 * l + 1, olabel)
 
 # ---- two by three nodes: links of labels 7, 7 and 8 to the end, and 8, then 7, from the first node, 7 from the second
@@ -71,6 +73,27 @@ for first, second, so in ((TWO, THREE, 'two by three nodes'), (A, A, 'A with its
     refused(21, f'{so}, no result area', first, second, 0)
     for more in 1, 9, 40: assert len(case(f'{so}, a result area longer by {more}', first, second, size + more)[1]) == size
 assert len(outcome(A, A, 292)[1]) == 292 and outcome(A, A, 291) == (21, b'')
+
+# ---- the longer trailer: the answer has the first's
+ANSWERS = {unit: [[(label, weight * 64 / unit, nxt) for label, weight, nxt in BOTH_LINKS], [(n, *(w * 64 / unit for w in end)) for n, *end in BOTH_NODES], 0]
+           for unit in (64, 256)}
+for form, other in (None, 64), (64, None), (64, 64), (256, 256):
+    first, second, so = in_form(TWO, form), in_form(THREE, other), f'two by three nodes, {form} and {other}'
+    by_hand(so, first, second, *ANSWERS[unit(form)])
+    size = len(outcome(first, second, RESULT)[1])
+    assert size == 172 + 4 * (form is not None)
+    refused(21, f'{so}, a result byte short', first, second, size - 1)
+    refused(21, f'{so}, a result word short', first, second, size - 4)
+    assert len(case(f'{so}, a result word longer', first, second, size + 4)[1]) == size
+    by_hand(f'no nodes, {form} and {other}', in_form(EMPTY, form), second, [], [], NONE)
+    by_hand(f'no start in the second, {form} and {other}', first, without_start(second), *ANSWERS[unit(form)][:2], NONE)
+    case(f'Sheet A with itself, {form} and {other}', with_form(A, form), with_form(A, other))
+assert len(outcome(A256, A256, 296)[1]) == 296 and outcome(A256, A256, 292) == (21, b'')
+for form, other in (None, 256), (64, 256), (256, 64), (256, None):
+    for b in A, EMPTY: refused(14, f'unequal units, {form} and {other}', with_form(b, form), with_form(b, other), RESULT, 0)
+by_hand('1/256 and -32 with 3/256 and 32', FINE, climbing(2, [(0, 3 / 256, 1)], 0, {1: 32}, form=256), [(1, 4 / 256, 3)], [(1,), (0,), (0,), (0, 0)], 0)
+refused(12, '1/256 and -32 with itself', FINE, FINE)
+for form in 64, None: refused(4, f'1/256 and -32 with itself, {form}', with_form(FINE, form), with_form(FINE, form))
 
 # ---- no nodes, and no start
 for b, so in (A, 'A'), (TWO, 'two nodes'), (EMPTY, 'itself'), (CHAIN, f'the chain of {NODES:,} nodes'), (without_start(A), 'A without a start'):
@@ -155,11 +178,12 @@ STEP, HALF = units(1), LARGEST / 2
 SUMS = [(12, LARGEST, STEP), (12, -LARGEST, -STEP), (12, LARGEST, LARGEST), (12, -LARGEST, -LARGEST), (0, LARGEST, 0), (0, -LARGEST, 0), (0, LARGEST, -STEP),
         (0, HALF, HALF), (12, HALF, HALF + STEP), (0, -HALF, -HALF), (12, -HALF - STEP, -HALF), (0, LARGEST, -LARGEST), (0, 1, -1), (0, 0, 0), (0, -STEP, STEP),
         (0, inf, -LARGEST), (0, inf, LARGEST), (0, inf, inf), (0, inf, 0), (0, 100, 28), (12, 100, 28 + STEP)]
-for k, a, b in SUMS:
+for i, (k, a, b) in enumerate(SUMS):
     for x, y in dict.fromkeys(((a, b), (b, a))):
         for kind, how in (one, 'links'), (end, 'final weights'):
-            got, answer = case(f'{how} of {x} and {y}', kind(x), kind(y), RESULT)
-            assert got == k and (k or fields(answer)[kind is end][0][2] == (BARRED if inf in (a, b) else f(a + b)))
+            form = FORMS[i % 4]
+            got, answer = case(f'{how} of {x} and {y}, {form or 64}ths', in_form(kind(x), form), in_form(kind(y), form), RESULT)
+            assert got == k and (k or fields(answer)[kind is end][0][2] == (BARRED if inf in (a, b) else f((a + b) * 64 / unit(form))))
 by_hand('links of 128 and -128', one(LARGEST), one(-LARGEST), *fan((1, 0)))
 by_hand('a barred link and one of -128', one(inf), one(-LARGEST), [(1, inf, 3)], [(1,), *LONE[1:]], 0)
 by_hand('a barred final weight and one of -128', end(inf), end(-LARGEST), [], [(0, inf)], 0)
@@ -173,9 +197,9 @@ refused(12, 'the last of some final weights', bare(3, {0: 1, 2: 100}), bare(2, {
 passes('links of 100 and 100 with unlike labels', one(100, 1), one(100, 2), 68)
 passes('final weights of 100 and 28', bare(2, {0: 100}), bare(2, {1: 28}), 68)
 
-# ---- the order of the refusals: 1 to 6 of the first, 1 to 6 of the second, 10, 11, 12, 21
+# ---- the order of the refusals: 1, 14, 2 to 6 of the first, then of the second, where 14 is of unequal units, too; 10, 11, 12, 21
 def large(b): return sheet(fields(b)[0], fields(b)[1] + [(0, 0, 0)] * (NODES - 3), 0)
-BROKEN = {1: with_word(A, 24, 2), 2: with_word(A, TRAILER + 4, NONE - 1), 3: with_word(A, 19, NONE - 1), 4: with_word(A, 2, 1), 5: large(A),
+BROKEN = {1: with_word(A, 24, 2), 14: longer(A, 128), 2: with_word(A, TRAILER + 4, NONE - 1), 3: with_word(A, 19, NONE - 1), 4: with_word(A, 2, 1), 5: large(A),
           6: with_word(A, 15, 1)}
 ZEROS = labelled(A, 4, 0, 0)
 for k, b in BROKEN.items():
@@ -187,6 +211,19 @@ for k, b in BROKEN.items():
     refused(k, f'refused {k}: the second, the first without nodes', EMPTY, b)
     refused(k, f'refused {k}: the first with itself', b, b)
 for k, j in itertools.permutations(BROKEN, 2): refused(k, f'refused {k}: the first, and {j} for the second', BROKEN[k], BROKEN[j])
+for k, b in BROKEN.items():
+    finer = with_form(b, 128 if k == 14 else 256)
+    refused(k, f'refused {k}: the first, and unequal units', finer, A)
+    refused(k, f'refused {k}: the first of unit 256, and 10 for the second', finer, with_form(ZEROS, 256))
+    refused(1 if k == 1 else 14, f'refused {k}: the second, and unequal units', A, finer, RESULT, 0)
+    refused(k, f'refused {k}: the second, both of unit 256', A256, finer)
+refused(14, 'unequal units, and 10 for both', ZEROS, with_form(ZEROS, 256))
+refused(14, 'unequal units, and 12', one(100), with_form(one(0), 256))
+for w in 0, 63, 257, 64 << 8, NONE:
+    refused(14, f'the first of unit {w}', longer(A, w), A)
+    refused(14, f'the second of unit {w}', A, longer(A, w))
+refused(1, 'a word less in the first', A64[4:], A)
+refused(1, 'a word more in the second', A, longer(A64, 64))
 refused(5, f'{LINKS + 1:,} links in the first', parallel(LINKS + 1), A)
 refused(5, f'{LINKS + 1:,} links in the second', A, parallel(LINKS + 1))
 refused(1, 'no bytes in the first', b'', A, 60, 0)
@@ -210,13 +247,13 @@ def some_room(r, first, second):
     size = len(outcome(first, second, RESULT)[1])
     return max(0, (size or r.choice((0, 20, 100))) + r.choice((0, 0, 0, 0, 1, 7, 30, -1, -12)))
 random.seed(1)
-for i in range(250):
+for i in range(205):
     pair = drawn_pair(random, 4, 4)
     case(f'random {i}', *pair, some_room(random, *pair))
-for i in range(100):
+for i in range(90):
     pair = damaged_pair(random, *drawn_pair(random, 4, 3))
     case(f'random and damaged {i}', *pair, some_room(random, *pair))
-for i in range(20):
+for i in range(18):
     pair = drawn_pair(random, 8, 14)
     case(f'random, larger {i}', *pair, some_room(random, *pair))
 

@@ -16,15 +16,16 @@ from itertools import chain
 sys.dont_write_bytecode = True
 from drawn_pairs import OVER, damaged_pair, drawn_pair, mislabelled, parallel_pair, wide_pair
 from products import made, outcome, paired, readings
-from sheets import A, CHAIN, E, EMPTY, LINKS, NODES, NONE, fields, input_number, read_number, sheet, sources, written
+from sheets import (A, A64, A256, CHAIN, E, EMPTY, FINE, LINKS, LONG, NODES, NONE, fields, form_of, input_number, longer, read_number, sheet, sources, with_form,
+                    written)
 
 # what stands behind the pointer before a call, and in the memory that it is lent, with bytes on both sides that are not
 SIZE, GUARD = 0xA5C30F1E5A3CF0E1, 48
-LONGEST = 16 * LINKS + 12 * NODES + 20
+LONGEST = 16 * LINKS + 12 * NODES + LONG
 MARKS = random.Random(7).randbytes(1024) * (3 * LONGEST // 1024 + 1)
 
 # the numbers that a run must have seen
-NUMBERS = 0, 1, 2, 3, 4, 5, 6, 10, 11, 12, 21
+NUMBERS = 0, 1, 14, 2, 3, 4, 5, 6, 10, 11, 12, 21
 
 class Library:
     def __init__(self, path):
@@ -107,30 +108,31 @@ class Judge:
         return 'damaged', *damaged_pair(self.rng, first, second)
 
     def run(self, pairs):
-        told = A, E, EMPTY, CHAIN, *OVER
+        told = A, E, EMPTY, CHAIN, *OVER, A64, A256, longer(EMPTY, 256), FINE, longer(A, 128)
         for first in told:
             for second in told: self.pair('stated', first, second)
         while self.kinds.total() < pairs:
             self.pair(*self.drawn())
 
 def simpler(b):
-    """sheets with some links less, with the last nodes, a mark or a weight less; of bytes that are no sheet none"""
+    """sheets with some links less, with the last nodes, a mark or a weight less, or with the shorter trailer; of bytes that are no sheet none"""
     if read_number(b) == 1: return
-    links, nodes, start = fields(b)
+    (links, nodes, start), form = fields(b), form_of(b)
+    if form is not None: yield with_form(b, None)
     leaves, size = sources(nodes), len(links)
     while size:
         for at in range(0, len(links), size):
             counts = Counter(leaves[:at] + leaves[at + size:])
-            yield sheet(links[:at] + links[at + size:], [(counts[v], *final) for v, (_, *final) in enumerate(nodes)], start)
+            yield sheet(links[:at] + links[at + size:], [(counts[v], *final) for v, (_, *final) in enumerate(nodes)], start, form)
         size //= 2
     used = 1 + max([v for v, node in enumerate(nodes) if node[0]] + [link[3] for link in links] + [-1 if start == NONE else start, -1])
     for n in {used, (used + len(nodes)) // 2, len(nodes) - 1}:
-        if used <= n < len(nodes): yield sheet(links, nodes[:n], start)
+        if used <= n < len(nodes): yield sheet(links, nodes[:n], start, form)
     for l, (ilabel, olabel, bits, nxt) in enumerate(links):
-        if bits: yield sheet(links[:l] + [(ilabel, olabel, 0, nxt)] + links[l + 1:], nodes, start)
+        if bits: yield sheet(links[:l] + [(ilabel, olabel, 0, nxt)] + links[l + 1:], nodes, start, form)
     for v, (count, mark, bits) in enumerate(nodes):
-        if mark: yield sheet(links, nodes[:v] + [(count, 0, 0)] + nodes[v + 1:], start)
-        if bits: yield sheet(links, nodes[:v] + [(count, mark, 0)] + nodes[v + 1:], start)
+        if mark: yield sheet(links, nodes[:v] + [(count, 0, 0)] + nodes[v + 1:], start, form)
+        if bits: yield sheet(links, nodes[:v] + [(count, mark, 0)] + nodes[v + 1:], start, form)
 
 def differing(library, first, second):
     """a call on these sheets that differs, or None"""

@@ -1,6 +1,6 @@
 #!/usr/bin/env python3
-"""Judges the calls that read back. What yeldmur_readings, yeldmur_reading, yeldmur_distance, yeldmur_sheet_counts, yeldmur_link and yeldmur_node
-answer is held to the functions below, for any bytes and numbers: the number, every value behind a pointer, and every word of the run's area, also
+"""Judges the calls that read back. What yeldmur_readings, yeldmur_reading, yeldmur_distance, yeldmur_distance_in, yeldmur_sheet_counts,
+yeldmur_unit, yeldmur_link and yeldmur_node answer is held to the functions below, for any bytes and numbers: the number, every value behind a pointer, and every word of the run's area, also
 where it is refused. These functions follow include/yeldmur.h, docs/SHEET.md and the definitions in specs/, and share nothing with the library.
 
     python3 tools/readback_judge.py [--seed S] [--cases N] LIBRARY.so
@@ -13,8 +13,8 @@ import argparse, ctypes, faulthandler, functools, random, struct, sys, time
 from collections import Counter, namedtuple
 sys.dont_write_bytecode = True
 from search_oracle import INF, Search
-from sheets import (A, BARRED, CHAIN, E, EMPTY, LARGEST, LINKS, NODES, NONE, UNITS, climbing, distances, f, fields, input_number, read_number, real,
-                    some_barred, sources, with_word)
+from sheets import (A, A256, BARRED, CHAIN, E, EMPTY, FINE, FORMS, LARGEST, LINKS, NODES, NONE, SHORT, UNITS, climbing, distances, f, fields, in_form,
+                    input_number, longer, read_number, real, some_barred, sources, trailer_size, unit_of, with_form, with_word)
 
 # the most readings that a list is asked for, and the most units of a sum
 LISTS, SUMS = 64, 2 ** 24
@@ -27,28 +27,33 @@ AREA = struct.pack(f'<{NODES + 64}I', *(0x5A000000 + 3 * i for i in range(NODES 
 
 def word(b, at): return int.from_bytes(b[at:at + 4], 'little')
 
-def units(bits, most):
+def units(bits, most, unit):
     """the units of a weight's bits, or None where they are off the grid of so many units either way"""
-    k = 64 * real(bits)
+    k = unit * real(bits)
     return int(k) if bits != 0x80000000 and abs(k) <= most and k.is_integer() else None
 
-def weight_units(bits):
+def weight_units(bits, unit):
     """the units of a weight of an accepted sheet, INF where it is barred"""
-    return INF if bits == BARRED else units(bits, UNITS)
+    return INF if bits == BARRED else units(bits, UNITS, unit)
+
+def size_of(sheet):
+    """the bytes of the trailer, as it is read: bytes that are laid out under neither are read by the shorter one"""
+    return trailer_size(sheet) or SHORT
 
 def refused(number, told): return number, *OLD[:told]
 
-def counted(result, n, states, links):
-    """7, 30 or 0, and how many readings a result holds"""
+def counted(result, n, states, links, size=SHORT):
+    """7, 30 or 0, and how many readings a result holds; where no sheet tells its trailer, it is long enough with the shorter one"""
     if n > LISTS: return refused(7, 1)
     count = 0 if states == 0 else 1 if n == 1 else word(result, 16 * links)
-    if len(result) < 20 * links + 12 * states + 20 or count > n: return refused(30, 1)
+    if len(result) < 20 * links + 12 * states + size or count > n: return refused(30, 1)
     return 0, count
 
-def way_of(result, n, states, links, k):
+def way_of(result, n, states, links, k, size):
     """the input links repeated on the way of reading k, or None where that is no way: states fall, each by its only link, as far as the last"""
-    words, last, before = 16 * links + 12 * states + 20, int(n != 1), 0 if n == 1 else word(result, 16 * links)
-    if n == 1: state = word(result, words - 4)
+    behind, last, before = 16 * links + 12 * states, int(n != 1), 0 if n == 1 else word(result, 16 * links)
+    words = behind + size
+    if n == 1: state = word(result, behind + 16)
     else: state = word(result, 16 * k + 12) if k < links else 0
     way = []
     while state > last:
@@ -60,30 +65,30 @@ def way_of(result, n, states, links, k):
 
 @functools.lru_cache(256)
 def searched(sheet):
-    """the number of 1 to 6 or 0, and the links, their sources, the nodes and the start of an accepted sheet"""
+    """the number of 1, 14, 2 to 6 or 0, and the links, their sources, the nodes, the start and the unit of an accepted sheet"""
     number = input_number(sheet)
     if number: return number, None
     links, nodes, start = fields(sheet)
-    return 0, (links, sources(nodes), nodes, start)
+    return 0, (links, sources(nodes), nodes, start, unit_of(sheet))
 
 def reading_in(machine, way):
     """the cost in units and the end of a run of links from the start to a final node, or None, also where that cost is infinite"""
-    links, leaves, nodes, start = machine
+    links, leaves, nodes, start, unit = machine
     node, cost = start, 0
     for l in way:
         if l >= len(links) or leaves[l] != node: return None
-        cost, node = cost + weight_units(links[l][2]), links[l][3]
+        cost, node = cost + weight_units(links[l][2], unit), links[l][3]
     if node == NONE or nodes[node][1] == 0: return None
-    cost += weight_units(nodes[node][2])
+    cost += weight_units(nodes[node][2], unit)
     return None if cost == INF else (cost, node)
 
 def told_reading(sheet, n, result, states, links, k, room):
-    """the number of 1 to 7, 30, 31 and 21, or 0, with the links, the cost and the end, and the links' numbers"""
+    """the number of 1, 14, 2 to 7, 30, 31 and 21, or 0, with the links, the cost and the end, and the links' numbers"""
     number, machine = searched(sheet)
-    number, count = (number, 0) if number else counted(result, n, states, links)
+    number, count = (number, 0) if number else counted(result, n, states, links, size_of(sheet))
     if number: return refused(number, 3), []
     if k >= count: return refused(31, 3), []
-    way = way_of(result, n, states, links, k)
+    way = way_of(result, n, states, links, k, size_of(sheet))
     held = None if way is None else reading_in(machine, way)
     if held is None: return refused(30, 3), []
     if len(way) > room: return refused(21, 3), []
@@ -94,12 +99,19 @@ def reading(*args):
     lent = 4 * GUARD
     return *told, AREA[:lent] + struct.pack(f'<{len(way)}I', *way) + AREA[lent + 4 * len(way):2 * lent + 4 * args[-1]]
 
-def distance(result, values, node):
+def distance(result, values, node, unit=64):
     if len(result) < 8 * values: return refused(30, 2)
     if node >= values: return refused(31, 2)
     mark, bits = word(result, 8 * node), word(result, 8 * node + 4)
-    k = units(bits, SUMS) if mark == 1 else 0 if mark == bits == 0 else None
+    k = units(bits, SUMS, unit) if mark == 1 else 0 if mark == bits == 0 else None
     return refused(30, 2) if k is None else (0, mark, k)
+
+def distance_in(result, values, node, unit):
+    return distance(result, values, node, unit) if unit in (64, 256) else refused(14, 2)
+
+def unit_told(sheet):
+    number = read_number(sheet)
+    return refused(number, 1) if number else (0, unit_of(sheet))
 
 def sheet_counts(sheet):
     number = read_number(sheet)
@@ -109,7 +121,7 @@ def sheet_counts(sheet):
 
 def stated(sheet, field):
     """a field of the trailer; 0 where the bytes have no room for one"""
-    return word(sheet, len(sheet) - 20 + 4 * field) if len(sheet) >= 20 else 0
+    return word(sheet, len(sheet) - size_of(sheet) + 4 * field) if len(sheet) >= SHORT else 0
 
 def kept_bits(bits):
     """weight bits as they are told: of bytes that are no sheet every NaN is the one that single precision is defined with"""
@@ -118,22 +130,24 @@ def kept_bits(bits):
 def link(sheet, number):
     """of bytes that are no sheet, too: the links that the trailer states, where they lie before it"""
     t, at = stated(sheet, 3), 16 * number
-    if number >= t or len(sheet) < 16 * t + 20: return refused(31, 4)
+    if number >= t or len(sheet) < 16 * t + size_of(sheet): return refused(31, 4)
     return 0, word(sheet, at), word(sheet, at + 4), kept_bits(word(sheet, at + 8)), word(sheet, at + 12)
 
 def node(sheet, number):
     """likewise the nodes, where they and the links lie before the trailer"""
     n, t = stated(sheet, 2), stated(sheet, 3)
     at = 16 * t + 12 * number
-    if number >= n or len(sheet) < 16 * t + 12 * n + 20: return refused(31, 3)
+    if number >= n or len(sheet) < 16 * t + 12 * n + size_of(sheet): return refused(31, 3)
     return 0, word(sheet, at), word(sheet, at + 4), kept_bits(word(sheet, at + 8))
 
 # of each call the judge, what it takes, what it tells, and the numbers that a run must have seen it answer
 CALLS = {
     'yeldmur_readings': (counted, 'result n states links', 'count', (0, 7, 30)),
-    'yeldmur_reading': (reading, 'sheet n result states links k room', 'count cost end', (0, 1, 2, 3, 4, 5, 6, 7, 21, 30, 31)),
+    'yeldmur_reading': (reading, 'sheet n result states links k room', 'count cost end', (0, 1, 14, 2, 3, 4, 5, 6, 7, 21, 30, 31)),
     'yeldmur_distance': (distance, 'result values node', 'reached cost', (0, 30, 31)),
-    'yeldmur_sheet_counts': (sheet_counts, 'sheet', 'nodes links finals start', (0, 1, 2, 3, 4)),
+    'yeldmur_distance_in': (distance_in, 'result values node unit', 'reached cost', (0, 14, 30, 31)),
+    'yeldmur_sheet_counts': (sheet_counts, 'sheet', 'nodes links finals start', (0, 1, 14, 2, 3, 4)),
+    'yeldmur_unit': (unit_told, 'sheet', 'unit', (0, 1, 14, 2, 3, 4)),
     'yeldmur_link': (link, 'sheet number', 'ilabel olabel weight_bits next', (0, 31)),
     'yeldmur_node': (node, 'sheet number', 'links mark weight_bits', (0, 31)),
 }
@@ -184,7 +198,7 @@ class Library:
         areas, told = self.areas(sheet, n), [ctypes.c_uint32() for _ in range(3)]
         assert self.loaded.yeldmur_shortest_path(sheet, ctypes.c_size_t(len(sheet)), n, *areas, *map(ctypes.byref, told)) == 0
         states, links, _ = (value.value for value in told)
-        return Listed(areas[2].raw[:20 * links + 12 * states + 20], n, states, links)
+        return Listed(areas[2].raw[:20 * links + 12 * states + size_of(sheet)], n, states, links)
 
     def distances_of(self, sheet):
         areas, values = self.areas(sheet, 1), ctypes.c_uint32()
@@ -194,8 +208,8 @@ class Library:
 # ---- machines
 
 def drawn(rng, nodes, count, chained):
-    """a sheet of so many nodes and links or a few more: ties or none, parallel links, any finals, often unreached nodes, sometimes no start,
-    a third with barred links or ends; chained, it has long readings"""
+    """a sheet of so many nodes and links or a few more, of sixty-fourths: ties or none, parallel links, any finals, often unreached nodes, sometimes no
+    start, a third with barred links or ends; chained, it has long readings"""
     scale, reach, marked = rng.choice((0, 1, 64, UNITS)), rng.choice((1, 2, 3, nodes + 1)), rng.choice((.1, .4, .9))
     def weight(): return rng.randint(-scale, scale) / 64
     def label(_): return rng.choice((0, 1, rng.getrandbits(32))), rng.choice((0, 2, NONE))
@@ -211,11 +225,11 @@ def drawn(rng, nodes, count, chained):
 
 def small(rng):
     nodes = rng.choice((0, 1, 2, 3, 4, 4, 5, 6, 8, 10))
-    return drawn(rng, nodes, rng.randrange(3 * nodes + 1), rng.random() < .2)
+    return in_form(drawn(rng, nodes, rng.randrange(3 * nodes + 1), rng.random() < .2), rng.choice(FORMS))
 
 def big(rng):
     nodes = rng.randrange(100, 600)
-    return drawn(rng, nodes, rng.randrange(3 * nodes), rng.random() < .7)
+    return in_form(drawn(rng, nodes, rng.randrange(3 * nodes), rng.random() < .7), rng.choice(FORMS))
 
 DEEP = climbing(NODES, [(v, -LARGEST, v + 1) for v in range(NODES - 1)], 0, {NODES - 1: -LARGEST})
 WIDE = climbing(2, [(0, 1 / 64, 1)] * LINKS, 0)
@@ -224,6 +238,9 @@ LARGE = climbing(NODES + 1, [(0, 1, NODES)], 0), climbing(2, [(0, 1, 1)] * (LINK
 TIES = climbing(4, [(v, 0, v + 1) for v in (0, 0, 1, 1, 2, 2)], 0)
 # every reading is barred
 SHUT = climbing(3, [(0, 1, 1), (0, INF, 2), (1, INF, 2)], 0, {0: INF, 2: 0})
+
+# with n = 1 the words behind the trailer begin with 64 or 256, as a unit may be
+LINES = [climbing(n + 2, [(v, 1, v + 1) for v in range(n + 1)], 0) for n in (64, 256)]
 
 # ---- damage: each gives sheets and results to judge, of a sheet and the result of its list
 
@@ -238,7 +255,7 @@ def appended(rng, sheet, r, _):
     for _ in range(3): yield sheet, r._replace(bytes=r.bytes + some_bytes(rng, 40))
 
 def cut(rng, sheet, r, _):
-    for k in range(1, 21): yield sheet, r._replace(bytes=r.bytes[:-k])
+    for k in range(1, 25): yield sheet, r._replace(bytes=r.bytes[:-k])
 
 def counts_changed(rng, sheet, r, _):
     for states, links in (-1, 0), (1, 0), (0, -1), (0, 1), (5, -3), (-5, 3), (1, -1), (-1, 1):
@@ -260,14 +277,15 @@ def byte_changed(rng, sheet, r, _):
         for value in {old ^ 1, old - 1 & 255, rng.choice((0, 255)), rng.randrange(256)} - {old}:
             yield sheet, r._replace(bytes=r.bytes[:at] + bytes([value]) + r.bytes[at + 1:])
 
-def word_places(r, sheet_links):
+def word_places(r, sheet):
     """the words that are looked at, with the bound of what may stand there: next states, numbers, the start's link count, the start"""
-    behind = 4 * r.links + 3 * r.states + 5
-    places = [(4 * l + 3, r.states) for l in range(r.links)] + [(behind + l, sheet_links) for l in range(r.links)]
-    return places + ([(4 * r.links, r.n)] if r.states else []) + [(behind - 1, r.states)]
+    behind = 4 * r.links + 3 * r.states
+    words = behind + size_of(sheet) // 4
+    places = [(4 * l + 3, r.states) for l in range(r.links)] + [(words + l, stated(sheet, 3)) for l in range(r.links)]
+    return places + ([(4 * r.links, r.n)] if r.states else []) + [(behind + 4, r.states)]
 
 def words_changed(rng, sheet, r, _):
-    places = word_places(r, stated(sheet, 3))
+    places = word_places(r, sheet)
     for _ in range(40):
         b = bytearray(r.bytes)
         for _ in range(rng.choice((1, 1, 2, 3, 5))):
@@ -277,7 +295,7 @@ def words_changed(rng, sheet, r, _):
 
 def words_swapped(rng, sheet, r, _):
     """two words of one kind change places, or the number of one link becomes another: often still a way, and at times a reading"""
-    places = [at for at, _ in word_places(r, 0)]
+    places = [at for at, _ in word_places(r, sheet)]
     for _ in range(20 if r.links > 1 else 0):
         kind = rng.choice((places[:r.links], places[r.links:2 * r.links]))
         (a, b), w = rng.sample(kind, 2), r.bytes
@@ -291,27 +309,29 @@ def foreign(rng, sheet, r, kept):
         yield sheet_too, r
 
 def sheet_changed(rng, sheet, r, _):
-    """the result of a sheet whose weights, marks, start or ways have changed since, at times to barred ones"""
-    links, nodes, start = fields(sheet)
+    """the result of a sheet whose weights, marks, start, ways or trailer have changed since, at times to barred ones"""
+    (links, nodes, start), unit, size = fields(sheet), unit_of(sheet), size_of(sheet)
+    for form in 64, 256, None: yield with_form(sheet, form), r
     for _ in range(12 if nodes else 0):
         ls, vs, s = [list(l) for l in links], [list(v) for v in nodes], start
         v = rng.randrange(len(vs))
         what = rng.randrange(4 if ls else 2)
-        if what == 0: vs[v][1:] = rng.choice(((0, 0), (1, BARRED), (1, f(rng.randint(-UNITS, UNITS) / 64))))
+        if what == 0: vs[v][1:] = rng.choice(((0, 0), (1, BARRED), (1, f(rng.randint(-UNITS, UNITS) / unit))))
         elif what == 1: s = rng.choice((v, NONE))
-        elif what == 2: rng.choice(ls)[2] = rng.choice((BARRED, f(rng.randint(-UNITS, UNITS) / 64)))
+        elif what == 2: rng.choice(ls)[2] = rng.choice((BARRED, f(rng.randint(-UNITS, UNITS) / unit)))
         else: rng.choice(ls)[3] = v
         ws = [w for record in ls + vs for w in record]
-        yield struct.pack(f'<{len(ws)}I', *ws) + sheet[len(sheet) - 20:-4] + struct.pack('<I', s), r
+        yield with_word(struct.pack(f'<{len(ws)}I', *ws) + sheet[len(sheet) - size:], len(ws) + 4, s), r
 
 OVER = LARGEST + 1 / 64
-OFF_GRID = 0x80000000, BARRED, 0xFF800000, 0x7FC00000, 0x7F800001, 0xFFFFFFFF, 1, 0x80000001, f(.3), f(1 / 128), f(OVER), f(-OVER)
+OFF_GRID = (0x80000000, BARRED, 0xFF800000, 0x7FC00000, 0x7F800001, 0xFFFFFFFF, 1, 0x80000001, f(.3), f(1 / 128), f(OVER), f(-OVER), f(1 / 256), f(1 / 512),
+            f((UNITS + 1) / 256))
 
 def broken_words(rng, sheet):
     """the places and values of words with which a sheet is refused, most of them"""
     n, t = stated(sheet, 2), stated(sheet, 3)
     trailer = 4 * t + 3 * n
-    places = [(trailer + i, near(rng, word(sheet, 4 * (trailer + i)), n)) for i in range(5)]
+    places = [(trailer + i, near(rng, word(sheet, 4 * (trailer + i)), n)) for i in range(size_of(sheet) // 4)]
     if n:
         v = 4 * t + 3 * rng.randrange(n)
         places += [(v, near(rng, word(sheet, 4 * v), t)), (v + 1, rng.choice((0, 1, 2, NONE))), (v + 2, rng.choice(OFF_GRID))]
@@ -323,6 +343,9 @@ def broken_words(rng, sheet):
 def sheet_broken(rng, sheet, r, _):
     yield sheet[:-1], r
     yield sheet + b'\0', r
+    yield sheet[:-4], r
+    yield sheet + struct.pack('<I', rng.choice((64, 256, 0, NONE))), r
+    for unit in 128, 0, rng.getrandbits(9), NONE: yield with_form(sheet, unit), r
     yield sheet[:rng.randrange(len(sheet))], r
     for _ in range(12):
         b = sheet
@@ -336,7 +359,7 @@ def invented(rng, sheet, r, _):
     """small words that no call has made a result of"""
     for _ in range(25):
         states, links = rng.randrange(8), rng.randrange(10)
-        words = [rng.choice((0, 1, 2, rng.randrange(8), rng.randrange(links + 1), NONE)) for _ in range(5 * links + 3 * states + 5)]
+        words = [rng.choice((0, 1, 2, rng.randrange(8), rng.randrange(links + 1), NONE)) for _ in range(5 * links + 3 * states + size_of(sheet) // 4)]
         yield sheet, Listed(struct.pack(f'<{len(words)}I', *words), r.n, states, links)
 
 # the words that are looked at are damaged more often
@@ -355,9 +378,10 @@ def values_changed(rng, b, values):
 
 def distance_bits(rng):
     """weight bits at the edges of what a distance is"""
-    most, k = f(SUMS / 64), rng.randint(-SUMS, SUMS)
+    unit, k = rng.choice((64, 256)), rng.randint(-SUMS, SUMS)
+    most = f(SUMS / unit)
     edges = most, most + 1, most - 1, most | 1 << 31, most + 1 | 1 << 31, most + (1 << 23)
-    return rng.choice((*OFF_GRID, *edges, 0, f(k / 64), f(k / 64), f(k / 128), f(k / 64) ^ 1 << rng.randrange(32), rng.getrandbits(32)))
+    return rng.choice((*OFF_GRID, *edges, 0, f(k / unit), f(k / unit), f(k / unit / 2), f(k / unit) ^ 1 << rng.randrange(32), rng.getrandbits(32)))
 
 def distances_changed(rng, b, values):
     for _ in range(30 if values else 0):
@@ -408,12 +432,15 @@ class Judge:
         self.kinds[kind] += 1
         most = max(values, len(b) // 8)
         nodes = range(values + 1) if values < 20 else {0, values - 1, values, self.rng.randrange(most), self.rng.randrange(most)}
-        return [self.compare('yeldmur_distance', b, values, v) for v in {*nodes, NONE}]
+        for v in {*nodes, NONE}:
+            self.compare('yeldmur_distance', b, values, v)
+            self.compare('yeldmur_distance_in', b, values, v, self.rng.choice((*(64, 256) * 5, 128, 0, 320, NONE)))
 
     def sheet(self, b):
         """the counts, links and nodes of any bytes"""
         self.kinds['fields of a sheet'] += 1
         self.compare('yeldmur_sheet_counts', b)
+        self.compare('yeldmur_unit', b)
         for name, count in ('yeldmur_link', stated(b, 3)), ('yeldmur_node', stated(b, 2)):
             for number in {*range(min(count, 12)), count - 1 & NONE, count, count + 1 & NONE, 2 ** 28, NONE, self.rng.randrange(count + 1)}:
                 self.compare(name, b, number)
@@ -422,10 +449,10 @@ class Judge:
         """the list of a sheet, as it is read back, is that of the search; of n = 1 its cost is the least"""
         r = self.library.list_of(sheet, n)
         *told, past = self.result('an answer itself', sheet, r, every=True)
-        links, leaves, nodes, start = searched(sheet)[1]
+        links, leaves, nodes, start, unit = searched(sheet)[1]
         if len(nodes) > 50 or n == 0: return r
-        ways = [(v, weight_units(bits), to) for v, (_, _, bits, to) in zip(leaves, links)]
-        search = Search(ways, [weight_units(bits) if mark else None for _, mark, bits in nodes], None if start == NONE else start, n)
+        ways = [(v, weight_units(bits, unit), to) for v, (_, _, bits, to) in zip(leaves, links)]
+        search = Search(ways, [weight_units(bits, unit) if mark else None for _, mark, bits in nodes], None if start == NONE else start, n)
         if n == 1: costs, runs = [search.total] * (search.total < INF), [run for _, (_, _, run) in told]
         else: costs, runs, _, _ = search.run() if search.total < INF else ([], [], 0, [])
         if past[0] != 31 or len(told) != len(costs) or [(k, cost, run) for k, (cost, _, run) in told] != [(0, *due) for due in zip(costs, runs)]:
@@ -435,8 +462,9 @@ class Judge:
     def whole_distances(self, sheet):
         b, values = self.library.distances_of(sheet)
         self.values('distances themselves', b, values)
-        told = [self.compare('yeldmur_distance', b, values, v) for v in range(values)]
-        if told != [(0, 0, 0) if d is None else (0, 1, 64 * d) for d in distances(sheet)]: raise Difference('the distances', (sheet,))
+        unit = unit_of(sheet)
+        told = [self.compare('yeldmur_distance_in', b, values, v, unit) for v in range(values)]
+        if told != [(0, 0, 0) if d is None else (0, 1, unit * d) for d in distances(sheet)]: raise Difference('the distances', (sheet,))
         return b, values
 
     def machine(self, sheet):
@@ -465,9 +493,9 @@ class Judge:
             for b in r.bytes[:len(r.bytes) - 4 * r.links], r.bytes: self.sheet(b)
 
     def run(self, cases):
-        for b in A, EMPTY, TIES, E, SHUT: self.machine(b)
+        for b in A, A256, EMPTY, longer(EMPTY, 256), TIES, in_form(E, 64), SHUT, FINE: self.machine(b)
         for b in LARGE: self.sheet(b)
-        for b in CHAIN, DEEP, WIDE:
+        for b in CHAIN, DEEP, WIDE, in_form(CHAIN, 256), in_form(DEEP, 64), in_form(WIDE, 256), *(in_form(b, form) for b in LINES for form in (None, 64, 256)):
             for n in 1, 2: self.result('an answer itself', b, self.library.list_of(b, n), every=True)
             self.whole_distances(b)
         while self.kinds.total() < cases: self.machine(big(self.rng) if self.machines % 16 == 15 else small(self.rng))

@@ -9,7 +9,7 @@ expected comes from rows.py, which follows the text of the requirements and shar
 import random, struct
 from drawn_rows import BAD, INFINITY, LESS, MOST, NO_INFINITY, NO_NODE, OFF, ON, damaged_sheet, damaged_text, drawn_sheet, drawn_text
 from rows import rows_size, sheet_size, to_rows, to_sheet
-from sheets import A, BARRED, E, EMPTY, LARGEST, NONE, f, read, sheet, with_word, written
+from sheets import A, A64, A256, BARRED, E, EMPTY, FINE, LARGEST, NONE, f, longer, read, sheet, with_form, with_word, written
 
 # what the program has areas for
 ROOM, GIVEN = 16384, 8192
@@ -133,6 +133,20 @@ def barred():
     assert number(TO_ROWS, 'E without a start', with_word(E, len(E) // 4 - 1, NONE)) == 9
     assert number(TO_ROWS, 'a bare last node behind a barred end', sheet([], [(0, 1, BARRED), (0, 0, 0)], 0)) == 9
 
+LONGER_REFUSED = ((9, A64), (9, A256), (9, FINE), (9, longer(EMPTY, 64)), (9, longer(EMPTY, 256)), (9, with_word(A256, START, NONE)), (9, longer(E, 256)), (14, longer(A, 128)),
+                  (14, longer(A, 0)), (14, longer(A, NONE)), (14, longer(EMPTY, 128)), (14, with_word(longer(A, 128), START, 4)), (14, with_word(longer(A, 128), 2, 1)),
+                  (1, with_word(longer(A, 128), 24, 2)), (1, A256 + bytes(4)), (1, A256[:-1]), (1, A256[1:]), (2, with_word(A256, START, 4)), (3, with_word(A64, 3, 4)),
+                  (4, with_form(FINE, 64)), (4, with_form(FINE, None)), (4, with_word(A256, 2, f(LARGEST))), (4, with_word(A64, 2, f(1 / 256))))
+
+def longer_trailers():
+    for i, (k, b) in enumerate(LONGER_REFUSED): assert number(TO_ROWS, f'the longer trailer {i}, {k}', b, ROOM, 0) == k, i
+    for i in range(len(A256) // 4):
+        for w in (NONE, 1): case(TO_ROWS, f'A in 256ths with word {i} {w:08x}', with_word(A256, i, w))
+    r = random.Random(3)
+    for i in range(60):
+        b = drawn_sheet(r, 4, 5, barred=.1, longer=1)
+        case(TO_ROWS, f'longer {i}', b if i % 3 else damaged_sheet(r, b))
+
 def drawn(r, count, name, nodes, links, barred):
     for call, draw, damage, what in ((TO_SHEET, drawn_text, damaged_text, 'text'), (TO_ROWS, drawn_sheet, damaged_sheet, 'sheet')):
         for i in range(count):
@@ -148,4 +162,5 @@ if __name__ == '__main__':
     drawn(random.Random(1), 90, 'drawn', 9, 14, 0)
     barred()
     drawn(random.Random(2), 20, 'barred', 4, 5, .3)
+    longer_trailers()
     for line, what in lines.items(): print(line, '#', what)

@@ -1,10 +1,10 @@
-"""Text rows and sheets, both ways, as document 02's requests (a) and (e) word them, with exact fractions: what the scripts beside this one and
+"""Text rows and sheets, both ways, as document 02's requests (a), (e) and (h) word them, with exact fractions: what the scripts beside this one and
 the comparing run in oracle/ share. It shares nothing with the library.
 """
 import re, sys
 from fractions import Fraction
 from math import inf
-from sheets import BARRED, NONE, UNITS, f, fields, read_number, real, sheet, sources
+from sheets import BARRED, NONE, UNITS, f, fields, form_of, read_number, real, sheet, sources
 
 # a weight may have any number of digits before its point
 sys.set_int_max_str_digits(0)
@@ -74,7 +74,7 @@ def written_row(numbers, bits):
 
 def has_rows(b):
     links, nodes, start = fields(b)
-    if start == NONE: return False
+    if form_of(b) is not None or start == NONE: return False
     last = len(nodes) - 1
     return any(nodes[start][:2]) and (any(nodes[last][:2]) or any(nxt == last for *_, nxt in links))
 
@@ -88,7 +88,7 @@ def text_of(b):
     return ''.join([parts[start]] + parts[:start] + parts[start + 1:]).encode()
 
 def rows_size(b):
-    """what the call for the text's length answers: the refusal, 1 to 4, 9, or 0, and the length"""
+    """what the call for the text's length answers: the refusal, 1, 14, 2 to 4, 9, or 0, and the length"""
     k = read_number(b) or (0 if has_rows(b) else 9)
     return (k, 0) if k else (0, len(text_of(b)))
 

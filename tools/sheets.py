@@ -1,5 +1,7 @@
-"""Sheets as the requirements lay them out, their tests 1 to 6 and their distances with exact fractions, and how stored cases write bytes:
-what the scripts beside this one share. It shares nothing with the library.
+"""Sheets as the requirements lay them out, under either trailer, their tests 1, 14 and 2 to 6 and their distances with exact fractions, and how
+stored cases write bytes: what the scripts beside this one share. It shares nothing with the library.
+
+A sheet's form is None for the shorter trailer, which means sixty-fourths, or the sixth field of the longer one, its unit.
 
 Stored bytes are in hexadecimal (- for none); *bbcccccc repeats the last bb bytes over cccccc bytes, and +bbcccccc too, with the last word one
 higher each time.
@@ -9,9 +11,13 @@ from fractions import Fraction
 
 NONE = 0xFFFFFFFF
 
-# the limits: the most nodes and links of a machine, and the most sixty-fourths of a weight either way; the largest weight
+# the limits: the most nodes and links of a machine, and the most units of a weight either way; the largest weight in sixty-fourths
 NODES, LINKS, UNITS = 2048, 16384, 8192
 LARGEST = UNITS / 64
+# the bytes of the two trailers
+SHORT, LONG = 20, 24
+# the forms of sheets, as often as they are drawn
+FORMS = None, None, 64, 256
 # the weight bits of what is barred, positive infinity
 BARRED = 0x7F800000
 
@@ -19,47 +25,86 @@ def f(x): return struct.unpack('<I', struct.pack('<f', x))[0]
 
 def real(bits): return struct.unpack('<f', struct.pack('<I', bits))[0]
 
-def on_grid(bits):
+def on_grid(bits, unit=64):
     x = real(bits)
     if not math.isfinite(x) or bits == 0x80000000: return False
-    k = Fraction(x) * 64
+    k = Fraction(x) * unit
     return k.denominator == 1 and abs(k) <= UNITS
 
-def fits(bits):
+def fits(bits, unit=64):
     """test 4 of a weight"""
-    return bits == BARRED or on_grid(bits)
+    return bits == BARRED or on_grid(bits, unit)
 
-def sheet(links, nodes, start):
-    ws = [w for l in links for w in l] + [w for v in nodes for w in v] + [0, 16 * len(links), len(nodes), len(links), start]
+def unit(form): return 64 if form is None else form
+
+def largest(form): return UNITS / unit(form)
+
+def trailer(links, nodes, start, form=None):
+    """the fields of the trailer of so many links and nodes"""
+    return [0, 16 * links, nodes, links, start] + ([] if form is None else [form])
+
+def sheet(links, nodes, start, form=None):
+    ws = [w for l in links for w in l] + [w for v in nodes for w in v] + trailer(len(links), len(nodes), start, form)
     return struct.pack('<%dI' % len(ws), *ws)
 
 def with_word(b, i, w): return b[:4 * i] + struct.pack('<I', w) + b[4 * i + 4:]
 
+def longer(b, form):
+    """a sheet of the shorter trailer with the longer one"""
+    return b + struct.pack('<I', form)
+
+def with_form(b, form):
+    """a sheet with another trailer"""
+    short = b if form_of(b) is None else b[:-4]
+    return short if form is None else longer(short, form)
+
+def in_form(b, form):
+    """the machine of a sheet under another trailer, each weight as many units as it was"""
+    links, nodes, start = fields(b)
+    def moved(bits): return bits if bits == BARRED else f(real(bits) * unit_of(b) / unit(form))
+    return sheet([(i, o, moved(bits), nxt) for i, o, bits, nxt in links], [(count, mark, moved(bits)) for count, mark, bits in nodes], start, form)
+
+def laid_out(b, size):
+    """whether offsets, counts and length agree under a trailer of so many bytes"""
+    if len(b) < size: return False
+    link_offset, node_offset, n, t, _ = struct.unpack_from('<5I', b, len(b) - size)
+    return link_offset == 0 and node_offset == 16 * t and len(b) == 16 * t + 12 * n + size
+
+def trailer_size(b):
+    """the bytes of its trailer, or 0 where it is laid out under neither; no byte string is laid out under both"""
+    sizes = [size for size in (SHORT, LONG) if laid_out(b, size)]
+    assert len(sizes) < 2, 'laid out under both trailers'
+    return sizes[0] if sizes else 0
+
+def form_of(b): return struct.unpack('<I', b[-4:])[0] if trailer_size(b) == LONG else None
+
+def unit_of(b): return unit(form_of(b))
+
 def fields(b):
-    _, _, n, t, start = struct.unpack('<5I', b[-20:])
+    _, _, n, t, start = struct.unpack_from('<5I', b, len(b) - (trailer_size(b) or SHORT))
     links = [struct.unpack_from('<4I', b, 16 * l) for l in range(t)]
     nodes = [struct.unpack_from('<3I', b, 16 * t + 12 * v) for v in range(n)]
     return links, nodes, start
 
 def read_number(b):
-    """the refusal of reading, 1 to 4, or 0"""
-    if len(b) < 20: return 1
-    link_offset, node_offset, n, t, start = struct.unpack('<5I', b[-20:])
-    if link_offset != 0 or node_offset != 16 * t or len(b) != 16 * t + 12 * n + 20: return 1
+    """the refusal of reading, 1, 14 or 2 to 4, or 0"""
+    if not trailer_size(b): return 1
     links, nodes, start = fields(b)
     for count, mark, bits in nodes:
         if mark not in (0, 1) or (mark == 0 and bits != 0): return 1
-    if sum(count for count, _, _ in nodes) != t: return 1
+    if sum(count for count, _, _ in nodes) != len(links): return 1
+    n, unit = len(nodes), unit_of(b)
+    if unit not in (64, 256): return 14
     if not (start < n or start == NONE): return 2
     if any(nxt >= n for _, _, _, nxt in links): return 3
-    if any(not fits(bits) for _, _, bits, _ in links): return 4
-    if any(mark == 1 and not fits(bits) for _, mark, bits in nodes): return 4
+    if any(not fits(bits, unit) for _, _, bits, _ in links): return 4
+    if any(mark == 1 and not fits(bits, unit) for _, mark, bits in nodes): return 4
     return 0
 
 def sources(nodes): return [v for v, (count, _, _) in enumerate(nodes) for _ in range(count)]
 
 def input_number(b):
-    """the refusal from the input, 1 to 6, or 0"""
+    """the refusal from the input, 1, 14 or 2 to 6, or 0"""
     k = read_number(b)
     if k: return k
     links, nodes, _ = fields(b)
@@ -81,11 +126,11 @@ def distances(b):
         if least[nxt] is None or to < least[nxt]: least[nxt] = to
     return least[:1 + highest]
 
-def climbing(n, ways, start, finals=None, label=lambda i: (i + 1, i + 1)):
+def climbing(n, ways, start, finals=None, label=lambda i: (i + 1, i + 1), form=None):
     """a sheet of n nodes from (source, weight, next), with the final weights of some nodes, or none of its nodes final but the last"""
     ways, finals = sorted(ways, key=lambda w: w[0]), {n - 1: 0} if finals is None else finals
     links = [(*label(i), f(weight), nxt) for i, (_, weight, nxt) in enumerate(ways)]
-    return sheet(links, [(sum(w[0] == v for w in ways), int(v in finals), f(finals.get(v, 0))) for v in range(n)], start)
+    return sheet(links, [(sum(w[0] == v for w in ways), int(v in finals), f(finals.get(v, 0))) for v in range(n)], start, form)
 
 def some_barred(r, b):
     """a sheet with some of its links, of its final weights or of both barred; r draws which"""
@@ -93,7 +138,7 @@ def some_barred(r, b):
     kinds, share = r.choice(('links', 'finals', 'links and finals')), r.choice((.15, .4, .8))
     def barred(kind, bits): return BARRED if kind in kinds and r.random() < share else bits
     return sheet([(i, o, barred('links', bits), nxt) for i, o, bits, nxt in links],
-                 [(count, mark, barred('finals', bits) if mark else bits) for count, mark, bits in nodes], start)
+                 [(count, mark, barred('finals', bits) if mark else bits) for count, mark, bits in nodes], start, form_of(b))
 
 def raised(block):
     w = struct.unpack('<H', block[-4:-2])[0]
@@ -140,8 +185,12 @@ A = sheet([(1, 1, f(1), 1), (2, 2, f(.5), 2), (3, 3, f(.25), 3), (5, 5, f(0), 2)
           [(2, 0, 0), (2, 0, 0), (1, 0, 0), (0, 1, f(.5))], 0)
 # the word at which its trailer begins
 TRAILER = len(A) // 4 - 5
+# Sheet A with the longer trailer, in either unit
+A64, A256 = longer(A, 64), longer(A, 256)
 EMPTY = sheet([], [], NONE)
 # with barred links and a barred end: node 3 is led to from node 2 alone, which is not reached
 E = sheet([(1, 1, f(5 / 64), 1), (2, 2, BARRED, 1), (3, 3, BARRED, 2), (4, 4, f(0), 3)], [(2, 0, 0), (1, 1, f(1 / 64)), (1, 1, BARRED), (0, 1, f(0))], 0)
 # of as many nodes as there may be, each weight the largest
 CHAIN = sheet([(1, 1, f(LARGEST), v + 1) for v in range(NODES - 1)], [(1, 0, 0)] * (NODES - 1) + [(0, 1, f(LARGEST))], 0)
+# a weight of one unit, and the lowest, in 256ths
+FINE = sheet([(1, 1, f(1 / 256), 1)], [(1, 0, 0), (0, 1, f(-UNITS / 256))], 0, 256)

@@ -6,7 +6,7 @@ use std::time::Duration;
 use oracle::bytes;
 use oracle::reference::plain;
 use yeldmur::raw::{self, Split};
-use yeldmur::{Part, Parts, Refusal, Sheet};
+use yeldmur::{Part, Parts, Refusal, Sheet, Trailer};
 
 use crate::clock::{repeated, Run, Times};
 #[cfg(openfst)]
@@ -120,7 +120,7 @@ impl Ready {
 
 /// The bytes that both parts of a sheet have.
 fn size(sheet: &Sheet) -> usize {
-    raw::split_len(sheet.node_count(), sheet.link_count())
+    raw::split_len(sheet.node_count(), sheet.link_count(), sheet.trailer())
 }
 
 fn bytes_and_words(sheet: &Sheet, words: std::ops::Range<u32>) -> Vec<u8> {
@@ -273,7 +273,7 @@ fn print_growing(rows: &[Row]) {
     for row in rows {
         let (nodes, links) = (row.kind.nodes, row.kind.links);
         let count = f64::from(nodes + links);
-        let bytes = raw::split_len(nodes, links);
+        let bytes = raw::split_len(nodes, links, Trailer::Short);
         let [tests, all, library] = [0, 1, 2].map(|place| row.times.at(place));
         println!(
             "| {nodes} | {links} | {bytes} | {tests:.2} | {all:.2} | {library:.2} | {:.2} | {:.2} | {:.3} |",

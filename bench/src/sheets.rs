@@ -1,6 +1,6 @@
 //! The machines that are timed.
 
-use oracle::machine::{weight, Link, Machine, Node, LINKS, NODES, UNITS};
+use oracle::machine::{weight, Form, Link, Machine, Node, LINKS, NODES, UNITS};
 use oracle::random::Random;
 
 /// Machines of one kind, drawn alike.
@@ -64,6 +64,7 @@ fn tangle(seed: u64, nodes: usize, links: usize, reach: usize, weights: &[i32]) 
     Machine {
         nodes: made,
         start: Some(0),
+        form: Form::Short,
     }
 }
 

@@ -1,34 +1,23 @@
-//! Sixty-fourths as exact decimals, by whole numbers: one is 15,625 millionths, so that six digits behind the point are enough.
+//! Weights as exact decimals. Those of costs are the crate's own.
 #![forbid(unsafe_code)]
 
 use std::fmt;
 
-use yeldmur::units;
+use yeldmur::{units, Cost, Unit};
 
 /// How rows write the weight of what is barred.
 pub const INFINITY: &str = "Infinity";
 
-/// So many sixty-fourths, shown in their shortest form: 112 is `1.75`.
-#[derive(Clone, Copy, Debug, PartialEq, Eq)]
-pub struct Decimal(pub i32);
-
-impl fmt::Display for Decimal {
-    fn fmt(&self, f: &mut fmt::Formatter<'_>) -> fmt::Result {
-        let sign = if self.0 < 0 { "-" } else { "" };
-        let size = self.0.unsigned_abs();
-        let text = format!("{sign}{}.{:06}", size / 64, size % 64 * 15_625);
-        f.pad(text.trim_end_matches('0').trim_end_matches('.'))
-    }
-}
-
-/// A weight as rows have it: its shortest form, or `Infinity` where it is barred.
+/// A weight of a sheet in its shortest form, as rows have it: `Infinity` where it is barred.
 #[derive(Clone, Copy, Debug, PartialEq)]
 pub struct Weight(pub f32);
 
 impl fmt::Display for Weight {
     fn fmt(&self, f: &mut fmt::Formatter<'_>) -> fmt::Result {
-        match units(self.0) {
-            Some(units) => Decimal(units).fmt(f),
+        // a whole number of the coarser unit is one of the finer, too
+        let unit = Unit::Of256;
+        match units(self.0, unit) {
+            Some(units) => Cost { units, unit }.fmt(f),
             None => f.pad(INFINITY),
         }
     }
@@ -39,41 +28,35 @@ mod tests {
     use super::*;
 
     #[test]
-    fn weights() {
-        assert_eq!(Weight(-1.75).to_string(), "-1.75");
-        assert_eq!(Weight(0.0).to_string(), "0");
-        assert_eq!(Weight(yeldmur::BARRED).to_string(), "Infinity");
-    }
-
-    #[test]
     fn shortest_forms() {
-        for (units, text) in [
-            (0, "0"),
-            (1, "0.015625"),
-            (-1, "-0.015625"),
-            (32, "0.5"),
-            (64, "1"),
-            (112, "1.75"),
-            (-112, "-1.75"),
-            (640, "10"),
-            (6400, "100"),
-            (63, "0.984375"),
-            (1 << 24, "262144"),
-            (-(1 << 24), "-262144"),
-            (i32::MIN, "-33554432"),
-            (i32::MAX, "33554431.984375"),
+        for (weight, text) in [
+            (0.0, "0"),
+            (0.5, "0.5"),
+            (10.0, "10"),
+            (100.0, "100"),
+            (-1.75, "-1.75"),
+            (1.0 / 64.0, "0.015625"),
+            (-63.0 / 64.0, "-0.984375"),
+            (1.0 / 256.0, "0.00390625"),
+            (-1.0 / 256.0, "-0.00390625"),
+            (8191.0 / 256.0, "31.99609375"),
+            (-128.0, "-128"),
+            (yeldmur::BARRED, "Infinity"),
         ] {
-            assert_eq!(Decimal(units).to_string(), text);
+            assert_eq!(Weight(weight).to_string(), text);
         }
-        assert_eq!(format!("{:>8}|", Decimal(112)), "    1.75|");
+        assert_eq!(format!("{:>8}|", Weight(1.75)), "    1.75|");
     }
 
     // Read back in double precision, which has all of them exactly.
     #[test]
     fn every_weight() {
         for units in -8_192..=8_192 {
-            let read: f64 = Decimal(units).to_string().parse().unwrap();
-            assert_eq!(read * 64.0, f64::from(units));
+            for count in [64.0, 256.0] {
+                let weight = units as f32 / count;
+                let read: f64 = Weight(weight).to_string().parse().unwrap();
+                assert_eq!(read * f64::from(count), f64::from(units));
+            }
         }
     }
 }

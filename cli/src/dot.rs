@@ -5,7 +5,7 @@ use std::fmt::Write;
 
 use yeldmur::{Link, List, Sheet, BARRED};
 
-use crate::decimal::{Decimal, Weight};
+use crate::decimal::Weight;
 
 const HEAD: &str = r##"digraph machine {
   rankdir = LR;
@@ -126,12 +126,13 @@ fn legend(list: &List) -> String {
         .readings()
         .enumerate()
         .map(|(place, reading)| {
-            let (rank, cost) = (place + 1, Decimal(reading.cost()));
+            let (rank, cost) = (place + 1, reading.cost_with_unit());
             format!(
-                r#"    <tr><td width="30" bgcolor="{}"></td><td align="left">rank {rank}, cost {cost} ({})</td></tr>
+                r#"    <tr><td width="30" bgcolor="{}"></td><td align="left">rank {rank}, cost {cost} ({}/{})</td></tr>
 "#,
                 colour(place),
-                reading.cost()
+                cost.units,
+                cost.unit.count()
             )
         })
         .collect();

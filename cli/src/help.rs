@@ -18,23 +18,25 @@ const WORDS: [Words; 9] = [
         command: Command::Compile,
         line: "turn text rows into a sheet",
         usage: "[-o PLACE] [FILE...]",
-        text: "Turns text rows into a sheet. A sheet that is given comes out as it is.\n\
-               Bytes of a sheet are not written to a terminal unless -o - says so.",
+        text: "Turns text rows into a sheet, with the shorter trailer, since rows are in units of 1/64.\n\
+               A sheet that is given comes out as it is. Bytes of a sheet are not written to a terminal\n\
+               unless -o - says so.",
     },
     Words {
         command: Command::Print,
         line: "turn a sheet into text rows",
         usage: "[-o PLACE] [FILE...]",
-        text: "Turns a sheet into text rows, which compile to that very sheet. Rows that are\n\
-               given come out in the order and form that a sheet's rows have.",
+        text: "Turns a sheet into text rows, which compile to that very sheet. A sheet with the longer\n\
+               trailer, which states its unit, has none. Rows that are given come out in the order and\n\
+               form that a sheet's rows have.",
     },
     Words {
         command: Command::List,
         line: "list the cheapest readings",
         usage: "[-n COUNT] [--json] [FILE...]",
         text: "Lists the cheapest readings: how many there are and how many entries the search\n\
-               has taken; then for each its rank, its cost as a decimal and in units of 1/64,\n\
-               the node where it ends, and the input labels of its links.",
+               has taken; then for each its rank, its cost as a decimal and in the sheet's own\n\
+               units, 64ths or 256ths, the node where it ends, and the input labels of its links.",
     },
     Words {
         command: Command::Best,
@@ -49,8 +51,9 @@ const WORDS: [Words; 9] = [
         usage: "[--json] [FILE...]",
         text:
             "Finds for each node the least cost of a way from the start to it, as a decimal and\n\
-               in units of 1/64, or that it is unreached; up to the highest node that is reached\n\
-               or that a link, barred or not, leads to from a reached one.",
+               in the sheet's own units, 64ths or 256ths, or that it is unreached; up to the\n\
+               highest node that is reached or that a link, barred or not, leads to from a\n\
+               reached one.",
     },
     Words {
         command: Command::Both,
@@ -59,8 +62,9 @@ const WORDS: [Words; 9] = [
         text: "Writes the sheet of what two machines both allow, such as those of two probes in one\n\
                oven. Its readings are the pairs of a reading of each with the same labels, and cost\n\
                their sum. Its node for i and j is i times the second's number of nodes, plus j. No\n\
-               label may be 0 or differ between input and output. Bytes of a sheet are not written\n\
-               to a terminal unless -o - says so.",
+               label may be 0 or differ between input and output, and both must be in the same unit.\n\
+               Its trailer is the first's. Bytes of a sheet are not written to a terminal unless -o -\n\
+               says so.",
     },
     Words {
         command: Command::Split,
@@ -70,7 +74,8 @@ const WORDS: [Words; 9] = [
                nodes up to it, and the nodes from it on. FIRST has that node final at weight 0 and\n\
                without links. SECOND starts there, and its nodes count from 0. The costs of the whole\n\
                list are the least sums of one cost from each part's list. Link k of FIRST is link k of\n\
-               the whole, and link k of SECOND is link L + k, where FIRST has L links.",
+               the whole, and link k of SECOND is link L + k, where FIRST has L links. Both have the\n\
+               trailer of the whole.",
     },
     Words {
         command: Command::Draw,
@@ -79,34 +84,37 @@ const WORDS: [Words; 9] = [
         text: "Draws the machine in Graphviz's language, or with its program dot as SVG or PNG.\n\
                Links and final nodes that are barred, by a weight of Infinity, are dashed.\n\
                With -n the links of the cheapest readings are coloured by rank, and a legend\n\
-               has the ranks and costs.",
+               has the ranks and costs, each as a decimal and in the sheet's own units.",
     },
     Words {
         command: Command::Check,
         line: "say whether a search accepts it, or what is wrong and where",
         usage: "[--json] [FILE...]",
-        text: "Says whether a search accepts the input; if not, with which number it is refused,\n\
-               what that means, and where the fault is: the row and column of a text, the\n\
-               link, node or field of a sheet. The place is found apart from the library,\n\
-               and its number is compared with the library's.",
+        text: "Says whether a search accepts the input, with its counts, its start, its unit and its\n\
+               trailer; if not, with which number it is refused, what that means, and where the fault\n\
+               is: the row and column of a text, the link, node or field of a sheet. The place is found\n\
+               apart from the library, and its number is compared with the library's.",
     },
 ];
 
 const JSON_LIST: &str = "\
 fields with --json:
   input     the input's name, - for standard input
+  unit      how many of its units are 1: 64 or 256
   readings  how many readings are listed
   taken     how many entries the search has taken
-  list      for each reading rank, cost (a decimal, as text), units (sixty-fourths),
-            end (a node), links (numbers in the sheet), ilabels and olabels
+  list      for each reading rank, cost (a decimal, as text), units (the cost as a
+            number of them), end (a node), links (numbers in the sheet), ilabels and
+            olabels
 of an input that is refused: input, refused (the number), meaning, place
 ";
 
 const JSON_DISTANCES: &str = "\
 fields with --json:
   input      the input's name, - for standard input
-  distances  for each node node, cost (a decimal, as text) and units (sixty-fourths);
-             both are null where it is unreached
+  unit       how many of its units are 1: 64 or 256
+  distances  for each node node, cost (a decimal, as text) and units (the cost as a
+             number of them); both are null where it is unreached
 of an input that is refused: input, refused (the number), meaning, place
 ";
 
@@ -115,8 +123,9 @@ fields with --json:
   input     the input's name, - for standard input
   form      rows or sheet
   accepted  true or false
-  nodes, links, finals, start, rows    of one that is accepted: its counts, its start
-            or null, and whether it has rows
+  nodes, links, finals, start, unit, trailer, rows    of one that is accepted: its
+            counts, its start or null, how many of its units are 1, the bytes of its
+            trailer or null of rows, and whether it has rows
   refused, meaning, place, row, column, link, node, field    of one that is refused:
             the number, what it means, the place and what is wrong there in words;
             then, as far as they name it, row and column from 1, the numbers of a

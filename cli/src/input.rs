@@ -7,7 +7,7 @@ use std::fs;
 use std::io::{self, Read};
 use std::path::PathBuf;
 
-use yeldmur::{raw, Refusal, Sheet, LINK_LIMIT, NODE_LIMIT};
+use yeldmur::{raw, Refusal, Sheet, Unit, LINK_LIMIT, NODE_LIMIT};
 
 use crate::diagnose::{form, Form};
 
@@ -60,7 +60,7 @@ pub struct Input {
     pub form: Form,
 }
 
-// The bytes of the longest sheet that is searched.
+// The bytes of the longest sheet that is searched and that rows give.
 const SEARCHED: usize = 16 * LINK_LIMIT as usize + 12 * NODE_LIMIT as usize + 20;
 
 impl Input {
@@ -70,7 +70,7 @@ impl Input {
         Input { bytes, form }
     }
 
-    /// The sheet that it is or gives. Refusals 1 to 4 of a sheet; 8, 1 and 4 of rows.
+    /// The sheet that it is or gives. Refusals 1, 14 and 2 to 4 of a sheet; 8, 1 and 4 of rows.
     pub fn sheet(&self) -> Result<Sheet, Refusal> {
         match self.form {
             Form::Rows => Sheet::from_rows(&self.bytes),
@@ -92,6 +92,20 @@ impl Input {
         let sheet = self.sheet_to_search()?;
         raw::areas(sheet.bytes(), 0)?;
         Ok(sheet)
+    }
+
+    /// The sheet where it is accepted as the second of two, beside a first that is. Right after 1 it is refused with 14 where its unit is not
+    /// the first's, too, which the call for two tells. Rows are of unit 1/64, also where the sheet would be too long.
+    pub fn accepted_beside(&self, first: &Sheet) -> Result<Sheet, Refusal> {
+        let told = match self.form {
+            Form::Sheet => raw::two_probes(first.bytes(), &self.bytes, &mut []).map(|_| ()),
+            Form::Rows if first.unit() == Unit::Of64 => Ok(()),
+            Form::Rows => raw::rows_sheet_bytes(&self.bytes).and(Err(Refusal::Unit)),
+        };
+        match told {
+            Err(Refusal::Unit) => Err(Refusal::Unit),
+            _ => self.accepted(),
+        }
     }
 }
 

@@ -5,8 +5,8 @@ mod common;
 
 use std::collections::BTreeMap;
 
-use common::{bytes, chain, Random, A};
-use yeldmur::{raw, two_probes, Refusal, Sheet};
+use common::{bytes, chain, stating, Random, A};
+use yeldmur::{raw, two_probes, Link, Refusal, Sheet, Unit};
 use yeldmur_cli::diagnose::{fault, fault_of_both, form, Form, Place, Tests};
 
 const NONE: u32 = 0xFFFF_FFFF;
@@ -22,11 +22,26 @@ fn library_of_rows(text: &[u8], tests: Tests) -> Option<u32> {
     told().unwrap_or_else(|refusal| Some(refusal.number()))
 }
 
+// A sheet without nodes, of this unit.
+fn empty(unit: Unit) -> Vec<u8> {
+    match unit {
+        Unit::Of64 => bytes(&[0, 0, 0, 0, NONE]),
+        Unit::Of256 => bytes(&[0, 0, 0, 0, NONE, 256]),
+    }
+}
+
 fn library_of_sheet(sheet: &[u8], tests: Tests) -> Option<u32> {
     let refused = match tests {
         Tests::Search => raw::areas(sheet, 0).err(),
-        // beside a sheet without nodes there is nothing else to refuse
-        Tests::Labels => raw::two_probes(sheet, &bytes(&[0, 0, 0, 0, NONE]), &mut [0; 20]).err(),
+        // beside a sheet without nodes and of the same unit there is nothing else to refuse
+        Tests::Labels => {
+            let unit = raw::unit(sheet).unwrap_or(Unit::Of64);
+            raw::two_probes(sheet, &empty(unit), &mut [0; 24]).err()
+        }
+        Tests::Second(unit) => {
+            let told = raw::two_probes(&empty(unit), sheet, &mut [0; 24]).err();
+            told.filter(|&refusal| refusal != Refusal::Labels)
+        }
         // no part has more than two words where the sheet has one
         Tests::Narrow(c) => raw::split(sheet, c, &mut vec![0; 2 * sheet.len() + 32]).err(),
         Tests::Rows => raw::sheet_rows_bytes(sheet).err(),
@@ -123,13 +138,14 @@ fn damaged_rows(random: &mut Random) -> Vec<u8> {
 #[test]
 fn damaged_texts() {
     let mut random = Random(1);
-    let [mut search, mut labels, mut narrow] = [0; 3].map(|_| Tally::default());
+    let [mut search, mut labels, mut narrow, mut second] = [0; 4].map(|_| Tally::default());
     for round in 0..60_000 {
         let text = damaged_rows(&mut random);
         for (tests, tally) in [
             (Tests::Search, &mut search),
             (Tests::Labels, &mut labels),
             (Tests::Narrow(round % 9), &mut narrow),
+            (Tests::Second(Unit::Of64), &mut second),
         ] {
             tally.add(Form::Rows, &text, tests, library_of_rows(&text, tests));
         }
@@ -137,6 +153,23 @@ fn damaged_texts() {
     search.holds(&[1, 4, 5, 6, 8]);
     labels.holds(&[1, 4, 5, 6, 8, 10]);
     narrow.holds(&[1, 4, 5, 6, 8, 13]);
+    second.holds(&[1, 4, 5, 6, 8]);
+}
+
+// Beside a sheet of the finer unit rows are refused with 14, unless they give no sheet.
+#[test]
+fn damaged_texts_beside_the_finer_unit() {
+    let (mut random, mut counts) = (Random(6), BTreeMap::new());
+    for _ in 0..20_000 {
+        let text = damaged_rows(&mut random);
+        let library = raw::rows_sheet_bytes(&text).err();
+        let due = library.unwrap_or(Refusal::Unit).number();
+        let found = fault(Form::Rows, &text, Tests::Second(Unit::Of256)).unwrap();
+        assert_eq!(found.number, due, "{found:?}");
+        *counts.entry(due).or_insert(0) += 1;
+    }
+    let seen: Vec<_> = counts.keys().copied().collect();
+    assert_eq!(seen, [1, 4, 8, 14]);
 }
 
 // Each byte of the rows of Sheet A taken out, doubled, and changed to each other byte.
@@ -160,7 +193,11 @@ fn every_byte_of_a_text() {
     labels.holds(&[4, 6, 8, 10]);
 }
 
-// Sheets of several kinds: Sheet A, one whose start is bare, one without start, one whose last node is bare, two at the limits and two beyond.
+// How many of the sheets are small.
+const SMALL: usize = 10;
+
+// Sheets of several kinds: Sheet A with both trailers and in both units, one whose start is bare, one without start, one without nodes, one
+// whose last node is bare, one with weights of the finer unit; two at the limits and two beyond.
 fn sheets() -> Vec<Vec<u8>> {
     let of_rows = |text: &str| Sheet::from_rows(text.as_bytes()).unwrap().into_bytes();
     let mut bare = of_rows(A);
@@ -176,6 +213,10 @@ fn sheets() -> Vec<Vec<u8>> {
         none,
         bytes(&[0, 0, 0, 0, NONE]),
         bytes(&[1, 1, 0, 1, 1, 1, 0, 0, 0, 0, 0, 0, 0, 0, 16, 3, 1, 0]),
+        stating(64, &of_rows(A)),
+        stating(256, &of_rows(A)),
+        empty(Unit::Of256),
+        finest(),
         of_rows(&chain(2048, "128")),
         of_rows(&chain(2049, "0.5")),
         of_rows(&many),
@@ -183,10 +224,24 @@ fn sheets() -> Vec<Vec<u8>> {
     ]
 }
 
+// Weights of the finer unit: the least, the largest and one that bars.
+fn finest() -> Vec<u8> {
+    bytes(
+        &[
+            [1, 1, 0x3B80_0000, 1].as_slice(),
+            &[2, 2, 0x7F80_0000, 2],
+            &[3, 3, 0xC200_0000, 2],
+            &[2, 0, 0, 1, 1, 0xBB80_0000, 0, 1, 0x4200_0000],
+            &[0, 48, 3, 3, 0, 256],
+        ]
+        .concat(),
+    )
+}
+
 #[rustfmt::skip]
-const WORDS: [u32; 24] = [
-    0, 1, 2, 3, 4, 5, 16, 64, 80, 2048, 1 << 28, 1 << 30, NONE - 1, NONE, 0x3F80_0000, 0x3E99_999A, 0x8000_0000, 0x7F80_0000,
-    0x7F80_0001, 0xFF80_0000, 0xFFC0_0000, 0x4300_0000, 0x4300_0001, 0xC300_0000,
+const WORDS: [u32; 29] = [
+    0, 1, 2, 3, 4, 5, 16, 64, 80, 128, 256, 2048, 1 << 28, 1 << 30, NONE - 1, NONE, 0x3F80_0000, 0x3E99_999A, 0x8000_0000, 0x7F80_0000,
+    0x7F80_0001, 0xFF80_0000, 0xFFC0_0000, 0x4300_0000, 0x4300_0001, 0xC300_0000, 0x3B80_0000, 0x4200_0000, 0x4200_0400,
 ];
 
 // One or two words changed, near the ends more often; at times bytes cut off or added.
@@ -214,9 +269,10 @@ fn damaged_sheet(random: &mut Random, sheet: &[u8]) -> Vec<u8> {
 fn damaged_sheets() {
     let (mut random, sheets) = (Random(2), sheets());
     let [mut search, mut labels, mut narrow, mut rows] = [0; 4].map(|_| Tally::default());
-    for round in 0..60_000 {
+    let [mut second, mut finer] = [0; 2].map(|_| Tally::default());
+    for round in 0..80_000 {
         // the large ones less often
-        let kind = if round % 40 == 0 { sheets.len() } else { 6 };
+        let kind = if round % 40 == 0 { sheets.len() } else { SMALL };
         let sheet = random.one_of(&sheets[..kind]);
         let damaged = damaged_sheet(&mut random, &sheet);
         for (tests, tally) in [
@@ -224,15 +280,19 @@ fn damaged_sheets() {
             (Tests::Labels, &mut labels),
             (Tests::Narrow(round % 5), &mut narrow),
             (Tests::Rows, &mut rows),
+            (Tests::Second(Unit::Of64), &mut second),
+            (Tests::Second(Unit::Of256), &mut finer),
         ] {
             let library = library_of_sheet(&damaged, tests);
             tally.add(Form::Sheet, &damaged, tests, library);
         }
     }
-    search.holds(&[1, 2, 3, 4, 5, 6]);
-    labels.holds(&[1, 2, 3, 4, 5, 6, 10]);
-    narrow.holds(&[1, 2, 3, 4, 5, 6, 13]);
-    rows.holds(&[1, 2, 3, 4, 9]);
+    search.holds(&[1, 2, 3, 4, 5, 6, 14]);
+    labels.holds(&[1, 2, 3, 4, 5, 6, 10, 14]);
+    narrow.holds(&[1, 2, 3, 4, 5, 6, 13, 14]);
+    rows.holds(&[1, 2, 3, 4, 9, 14]);
+    second.holds(&[1, 2, 3, 4, 5, 6, 14]);
+    finer.holds(&[1, 2, 3, 4, 6, 14]);
 }
 
 // Two machines with few labels, of which 0 is one now and then, and weights that often add up to more than there may be; at times so wide, or
@@ -259,32 +319,55 @@ fn one_of_two(random: &mut Random) -> Sheet {
     Sheet::from_rows(text.as_bytes()).unwrap()
 }
 
-// 10 by each sheet's place, 11 and 12 by that of both.
+// The same with the shorter trailer, the longer one, or in the finer unit, where every number of units is what it was.
+fn of_any_unit(random: &mut Random, sheet: Sheet) -> Sheet {
+    let unit = random.one_of(&[None, Some(Unit::Of64), Some(Unit::Of256), Some(Unit::Of256)]);
+    let Some(unit) = unit else {
+        return sheet;
+    };
+    let scale = 64.0 / unit.count() as f32;
+    let scaled = |link: Link| Link {
+        weight: link.weight * scale,
+        ..link
+    };
+    let links: Vec<Link> = sheet.links().map(scaled).collect();
+    let finals: Vec<_> = sheet
+        .finals()
+        .map(|weight| weight.map(|weight| weight * scale))
+        .collect();
+    Sheet::write_in(&links, &finals, sheet.start(), unit).unwrap()
+}
+
+// 14 by the second's place, 10 by each sheet's, 11 and 12 by that of both.
 #[test]
 fn drawn_pairs() {
     let (mut random, mut counts) = (Random(4), BTreeMap::new());
-    for _ in 0..4_000 {
-        let [first, second] = [0, 1].map(|_| one_of_two(&mut random));
+    for _ in 0..8_000 {
+        let [first, second] = [0, 1].map(|_| {
+            let sheet = one_of_two(&mut random);
+            of_any_unit(&mut random, sheet)
+        });
         let library = two_probes(&first, &second).err().map(Refusal::number);
         let each = [&first, &second].map(|sheet| {
-            let text = sheet.to_rows().unwrap();
-            let of_rows = fault(Form::Rows, &text, Tests::Labels).map(|fault| fault.number);
             let found = fault(Form::Sheet, sheet.bytes(), Tests::Labels);
-            assert_eq!(found.as_ref().map(|fault| fault.number), of_rows);
-            assert!(found.as_ref().is_none_or(|fault| within(
-                Form::Sheet,
-                sheet.bytes(),
-                fault.place
-            )));
+            let number = found.as_ref().map(|fault| fault.number);
+            if let Ok(text) = sheet.to_rows() {
+                let of_rows = fault(Form::Rows, &text, Tests::Labels);
+                assert_eq!(of_rows.map(|fault| fault.number), number);
+            }
+            let place = found.as_ref().map(|fault| fault.place);
+            assert!(place.is_none_or(|place| within(Form::Sheet, sheet.bytes(), place)));
             found
         });
         let [one, other] = each;
-        let found = one.or(other).or_else(|| fault_of_both(&first, &second));
+        let unequal = fault(Form::Sheet, second.bytes(), Tests::Second(first.unit()));
+        let found = unequal.or(one).or(other);
+        let found = found.or_else(|| fault_of_both(&first, &second));
         assert_eq!(found.map(|fault| fault.number), library);
         *counts.entry(library).or_insert(0) += 1;
     }
     let seen: Vec<_> = counts.keys().copied().collect();
-    assert_eq!(seen, [None, Some(10), Some(11), Some(12)]);
+    assert_eq!(seen, [None, Some(10), Some(11), Some(12), Some(14)]);
     assert!(counts.values().all(|&count| count >= 100), "{counts:?}");
 }
 
@@ -334,29 +417,34 @@ fn drawn_nodes() {
     assert!(counts.values().all(|&count| count >= 1_000), "{counts:?}");
 }
 
-// Each bit of Sheet A flipped, and each length.
+// Each bit of Sheet A flipped, with each trailer and in each unit, and each length.
 #[test]
 fn every_bit_of_a_sheet() {
     let a = Sheet::from_rows(A.as_bytes()).unwrap().into_bytes();
     let (mut search, mut labels) = (Tally::default(), Tally::default());
-    for at in 0..8 * a.len() {
-        let mut damaged = a.clone();
-        damaged[at / 8] ^= 1 << (at % 8);
-        for (tests, tally) in [(Tests::Search, &mut search), (Tests::Labels, &mut labels)] {
-            let library = library_of_sheet(&damaged, tests);
-            tally.add(Form::Sheet, &damaged, tests, library);
+    for sheet in [a.clone(), stating(64, &a), stating(256, &a)] {
+        for at in 0..8 * sheet.len() {
+            let mut damaged = sheet.clone();
+            damaged[at / 8] ^= 1 << (at % 8);
+            for (tests, tally) in [(Tests::Search, &mut search), (Tests::Labels, &mut labels)] {
+                let library = library_of_sheet(&damaged, tests);
+                tally.add(Form::Sheet, &damaged, tests, library);
+            }
         }
     }
-    search.holds(&[1, 2, 3, 4, 6]);
-    labels.holds(&[1, 2, 3, 4, 6, 10]);
-    for length in 0..a.len() {
-        let found = fault(Form::Sheet, &a[..length], Tests::Search).unwrap();
+    search.holds(&[1, 2, 3, 4, 6, 14]);
+    labels.holds(&[1, 2, 3, 4, 6, 10, 14]);
+    // without its last word the longer trailer is the shorter
+    let longer = stating(256, &a);
+    for length in (0..longer.len()).filter(|&length| length != a.len()) {
+        let found = fault(Form::Sheet, &longer[..length], Tests::Search).unwrap();
         assert_eq!(found.number, 1);
-        assert_eq!(library_of_sheet(&a[..length], Tests::Search), Some(1));
+        let library = library_of_sheet(&longer[..length], Tests::Search);
+        assert_eq!(library, Some(1));
     }
 }
 
-// Every sign and exponent of a weight, with no, one or all bits of the significand.
+// Every sign and exponent of a weight, with no, one or all bits of the significand, in each unit.
 #[test]
 fn patterns_of_weights() {
     let mut tally = Tally::default();
@@ -364,8 +452,10 @@ fn patterns_of_weights() {
     for digits in digits {
         for top in 0..512 {
             let sheet = bytes(&[0, 1, top << 23 | digits, 0, 0, 1, 0, 0]);
-            let library = library_of_sheet(&sheet, Tests::Search);
-            tally.add(Form::Sheet, &sheet, Tests::Search, library);
+            for sheet in [sheet.clone(), stating(64, &sheet), stating(256, &sheet)] {
+                let library = library_of_sheet(&sheet, Tests::Search);
+                tally.add(Form::Sheet, &sheet, Tests::Search, library);
+            }
         }
     }
     tally.holds(&[4]);
@@ -381,7 +471,7 @@ fn told_apart() {
         if raw::rows_sheet_bytes(&text).is_ok() {
             assert_eq!(form(&text), Form::Rows);
         }
-        let kind = random.below(6);
+        let kind = random.below(SMALL);
         let sheet = damaged_sheet(&mut random, &sheets[kind]);
         if raw::read_sheet(&sheet).is_ok() {
             assert_eq!(form(&sheet), Form::Sheet);

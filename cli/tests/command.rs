@@ -8,7 +8,7 @@ use std::io::Write;
 use std::os::unix::fs::{symlink, PermissionsExt};
 use std::process::Stdio;
 
-use common::{bytes, chain, command, is_json, run, run_on, Folder, Ran, Random, A};
+use common::{bytes, chain, command, is_json, run, run_on, stating, Folder, Ran, Random, A};
 
 // Laid out by hand, apart from the library.
 fn sheet_a() -> Vec<u8> {
@@ -54,8 +54,25 @@ fn every_command_takes_both_forms() {
             on_file.out
         };
         let [rows, sheet] = files.each_ref().map(|file| of(file));
-        let named = |bytes: Vec<u8>| String::from_utf8_lossy(&bytes).replace("sheet", "rows");
+        let named = |bytes: Vec<u8>| {
+            let text = String::from_utf8_lossy(&bytes).replace("sheet", "rows");
+            text.replace(", trailer of 20 bytes", "")
+        };
         assert_eq!(named(rows), named(sheet), "{arguments:?}");
+    }
+}
+
+#[test]
+fn the_longer_trailer() {
+    let folder = Folder::new("the_longer_trailer");
+    for unit in [64, 256] {
+        let sheet = folder.file("sheet", stating(unit, &sheet_a()));
+        // it comes out as it is, and has no rows
+        assert_eq!(run(&["compile", &sheet], "").ok().out, folder.read("sheet"));
+        let printed = run(&["print", &sheet], "");
+        assert_eq!((printed.status, printed.text()), (1, ""));
+        let said = "refused 9: a sheet that has no rows: trailer: it has 24 bytes, and only sheets whose trailer has 20 have rows";
+        assert_eq!(printed.err, format!("yeldmur: {sheet}: {said}\n"));
     }
 }
 
@@ -69,11 +86,11 @@ fn standard_input() {
     let verdicts: Vec<&str> = both.text().lines().collect();
     assert_eq!(
         verdicts[0],
-        format!("{file}: accepted: rows, 1 node, 0 links, 1 final, start 0")
+        format!("{file}: accepted: rows, 1 node, 0 links, 1 final, start 0, unit 1/64")
     );
     assert_eq!(
         verdicts[1],
-        "standard input: accepted: rows, 4 nodes, 5 links, 1 final, start 0"
+        "standard input: accepted: rows, 4 nodes, 5 links, 1 final, start 0, unit 1/64"
     );
 }
 
@@ -172,6 +189,44 @@ fn what_both_allow() {
     assert_eq!(folder.read("a.sheet"), whole);
 }
 
+#[test]
+fn both_have_the_first_trailer() {
+    let folder = Folder::new("both_have_the_first_trailer");
+    let rows = folder.file("rows", A);
+    let sheet = folder.file("sheet", sheet_a());
+    let [longer, fine] = [64, 256].map(|unit| {
+        let name = unit.to_string();
+        folder.file(&name, stating(unit, &sheet_a()))
+    });
+    let whole = a_with_itself();
+    for (first, second, due) in [
+        (&sheet, &longer, whole.clone()),
+        (&rows, &longer, whole.clone()),
+        (&longer, &sheet, stating(64, &whole)),
+        (&longer, &rows, stating(64, &whole)),
+        (&longer, &longer, stating(64, &whole)),
+        (&fine, &fine, stating(256, &whole)),
+    ] {
+        assert_eq!(run(&["both", first, second], "").ok().out, due);
+    }
+    let output = folder.file("out", "as it was");
+    for (first, second) in [
+        (&fine, &rows),
+        (&fine, &sheet),
+        (&fine, &longer),
+        (&rows, &fine),
+        (&sheet, &fine),
+        (&longer, &fine),
+    ] {
+        let ran = run(&["both", "-o", &output, first, second], "");
+        assert_eq!((ran.status, ran.text()), (1, ""));
+        // it is about the second
+        let said = format!("yeldmur: {second}: refused 14: a unit that does not fit: ");
+        assert!(ran.err.starts_with(&said), "{}", ran.err);
+    }
+    assert_eq!(folder.read("out"), b"as it was");
+}
+
 // The order matters: the node for i and j is i times the second's nodes, plus j.
 #[test]
 fn the_first_and_the_second() {
@@ -223,7 +278,7 @@ fn the_largest_of_two() {
     let both = run(&["both", &wide, &two], "").ok().out;
     assert_eq!(both.len(), 286_740);
     let checked = run(&["check"], both).ok();
-    let verdict = "standard input: accepted: sheet, 2048 nodes, 16384 links, 1 final, start 0\n";
+    let verdict = "standard input: accepted: sheet, 2048 nodes, 16384 links, 1 final, start 0, unit 1/64, trailer of 20 bytes\n";
     assert_eq!(checked.text(), verdict);
 }
 
@@ -274,6 +329,22 @@ fn two_parts() {
     // an input may be an output
     run(&["split", &sheet, "1", "-o", &sheet, &second], "").ok();
     assert_eq!(folder.read("diamond.sheet"), whole[0]);
+}
+
+#[test]
+fn two_parts_have_the_trailer_of_the_whole() {
+    let folder = Folder::new("trailers_of_parts");
+    let sheet = run(&["compile"], DIAMOND).ok().out;
+    let [first, second] = ["first", "second"].map(|name| folder.path(name));
+    for unit in [64, 256] {
+        let whole = folder.file("whole", stating(unit, &sheet));
+        run(&["split", &whole, "1", "-o", &first, &second], "").ok();
+        let parts = ["first", "second"].map(|name| folder.read(name));
+        assert_eq!(
+            parts,
+            parts_of_the_diamond().map(|part| stating(unit, &part))
+        );
+    }
 }
 
 #[test]
@@ -634,6 +705,23 @@ fn the_largest_machine() {
 }
 
 #[test]
+fn the_largest_machine_of_the_finer_unit() {
+    let sheet = stating(256, &run(&["compile"], chain(2048, "32")).ok().out);
+    let best = run(&["best"], &sheet).ok();
+    let line = best.text().lines().nth(2).unwrap();
+    assert!(line.starts_with("   1  65536  16777216  2047  1 2 3 "));
+    let distances = run(&["distances"], &sheet).ok();
+    assert!(distances.text().ends_with("2047  65504  16769024\n"));
+    // a weight of 33 is too large there
+    let more = run(
+        &["best"],
+        stating(256, &run(&["compile"], "0 33\n").ok().out),
+    );
+    let said = "yeldmur: standard input: refused 4: a weight off the grid: node 0: its final weight 33 (bits 42040000) is beyond 32\n";
+    assert_eq!((more.status, more.err.as_str()), (1, said));
+}
+
+#[test]
 fn as_many_links_as_may_be() {
     let mut random = Random(7);
     let mut rows: String = (0..16_384 - 2_047)
@@ -652,7 +740,7 @@ fn as_many_links_as_may_be() {
     assert!(is_json(listed.text().trim_end()));
     assert!(listed
         .text()
-        .starts_with("{\"input\":\"-\",\"readings\":64,"));
+        .starts_with("{\"input\":\"-\",\"unit\":64,\"readings\":64,"));
     let drawn = run(&["draw", "-n", "64"], &rows).ok();
     assert_eq!(drawn.text().matches(" -> ").count(), 16_384 + 1);
 }
@@ -664,10 +752,10 @@ fn damaged_inputs() {
     let mut random = Random(5);
     let files: Vec<String> = (0..300)
         .map(|i| {
-            let mut input = if i % 2 == 0 {
-                A.as_bytes().to_vec()
-            } else {
-                sheet_a()
+            let mut input = match i % 4 {
+                0 | 2 => A.as_bytes().to_vec(),
+                1 => sheet_a(),
+                _ => stating(256, &sheet_a()),
             };
             for _ in 0..1 + random.below(2) {
                 let place = random.below(input.len());
@@ -761,7 +849,7 @@ fn pictures_by_graphviz() {
         return;
     }
     let svg = svg.ok();
-    assert!(svg.text().contains("</svg>") && svg.text().contains("rank 3, cost 2.25 (144)"));
+    assert!(svg.text().contains("</svg>") && svg.text().contains("rank 3, cost 2.25 (144/64)"));
     let png = run(&["draw", "-T", "png"], A).ok();
     assert!(png.out.starts_with(b"\x89PNG\r\n"));
 }

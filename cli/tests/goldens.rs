@@ -8,13 +8,33 @@ use std::env;
 use std::fs;
 use std::path::Path;
 
-use common::{bytes, run, Folder, A};
+use common::{bytes, run, stating, Folder, A};
 
 // Start 1, a node below it, negative weights, two labels, a reading without links, a node that is not reached.
 const MIXED: &str = "1 2 7 8 -0.5\n1 2 7 7 -0.5\n2 4 8 8 1\n2 3 0 0 0.25\n3 4 9 9 -2\n1 0.25\n3 -1\n4 0.5\n0 6 1 1\n7 8 1 1\n";
 
 // A barred link beside another, one on the way, a barred final node, and a node that is not even led to from a reached one.
 const BARRED: &str = "0 1 1 1 5\n0 1 2 2 Infinity\n1 2 3 3 Infinity\n1 1\n2 3 4 4\n2 Infinity\n3\n";
+
+// In the finer unit: the least weight, the lowest, one a unit below the highest, and a barred link.
+fn fine() -> Vec<u8> {
+    bytes(
+        &[
+            [7, 7, 0x3B80_0000, 1].as_slice(),
+            &[8, 9, 0xC200_0000, 2],
+            &[7, 7, 0x41FF_F800, 2],
+            &[6, 6, 0x7F80_0000, 2],
+            &[2, 0, 0, 2, 1, 0x3F00_0000, 0, 1, 0xBB80_0000],
+            &[0, 64, 3, 4, 0, 256],
+        ]
+        .concat(),
+    )
+}
+
+// Sheet A with the longer trailer.
+fn a_in(unit: u32) -> Vec<u8> {
+    stating(unit, &run(&["compile"], A).ok().out)
+}
 
 // Two machines with labels and readings in common and others of their own. A link that one bars is barred in both.
 const LEFT: &str = "0 1 1 1 1\n0 1 2 2 0.5\n1 2 3 3 0.25\n1 2 4 4 Infinity\n1 2 5 5\n2 0.5\n";
@@ -34,7 +54,7 @@ fn held(name: &str, printed: &str) {
 
 // Runs on standard input.
 #[track_caller]
-fn on(name: &str, arguments: &[&str], input: &str) {
+fn on(name: &str, arguments: &[&str], input: impl AsRef<[u8]>) {
     held(name, run(arguments, input).ok().text());
 }
 
@@ -53,6 +73,17 @@ fn lists() {
     let all = "0 1 1 1 Infinity\n1\n";
     on("list_all_barred.txt", &["list"], all);
     on("best_all_barred.txt", &["best"], all);
+}
+
+#[test]
+fn lists_of_either_unit() {
+    on("list_a.txt", &["list", "-n", "2"], a_in(64));
+    on("list_a_256.txt", &["list", "-n", "2"], a_in(256));
+    on("list_fine.txt", &["list"], fine());
+    on("list_fine_json.txt", &["list", "--json"], fine());
+    on("best_fine.txt", &["best"], fine());
+    on("distances_fine.txt", &["distances"], fine());
+    on("distances_fine_json.txt", &["distances", "--json"], fine());
 }
 
 #[test]
@@ -107,6 +138,19 @@ fn both_refused() {
         ("11-links", "11-links"),
         ("12-link", "12-link"),
         ("a", "12-final"),
+        ("12-finer", "12-finer"),
+        ("14-unit", "01-short"),
+        ("a", "14-unit"),
+        ("a", "14-a-256"),
+        ("14-a-64", "14-a-256"),
+        ("14-a-256", "14-a-64"),
+        ("14-a-256", "a"),
+        ("14-a-256", "10-differs-sheet"),
+        ("14-a-256", "01-short"),
+        ("14-a-256", "02-start"),
+        ("14-a-256", "08-empty"),
+        ("14-a-256", "04-row-weight"),
+        ("14-a-256", "05-nodes-far"),
     ] {
         let files = [first, second].map(|name| folder.file(name, &inputs[name]));
         let ran = run(&["both", &files[0], &files[1]], "");
@@ -149,6 +193,7 @@ fn split_refused() {
         ("06-climb", "1"),
         ("06-climb-row", "9"),
         ("08-empty", "9"),
+        ("14-before-start", "9"),
         ("13", "6"),
         ("13-sheet", "6"),
         ("13", "4294967295"),
@@ -178,6 +223,7 @@ fn pictures() {
     on("draw_no_reading.txt", &["draw", "-n", "3"], "0 1 1 1\n");
     on("draw_barred.txt", &["draw"], BARRED);
     on("draw_barred_list.txt", &["draw", "-n", "2"], BARRED);
+    on("draw_fine_list.txt", &["draw", "-n", "2"], fine());
 }
 
 #[test]
@@ -207,6 +253,7 @@ fn refused() -> Vec<(&'static str, Vec<u8>)> {
         changed[4 * place..4 * place + 4].copy_from_slice(&word.to_le_bytes());
         changed
     };
+    let fine = |sheet: Vec<u8>| stating(256, &sheet);
     vec![
         ("01-length", a[1..].to_vec()),
         ("01-offset-of-links", word(32, 4)),
@@ -237,6 +284,15 @@ fn refused() -> Vec<(&'static str, Vec<u8>)> {
         ("08-weight", text("0 1 1 1 1e3\n")),
         ("08-infinity", text("0 1 1 1 Infinity\n1 infinity\n")),
         ("08-byte-order-mark", text("\u{feff}0\n")),
+        ("01-longer-length", fine(a.clone())[1..].to_vec()),
+        ("01-longer-offset-of-links", fine(word(32, 4))),
+        ("01-longer-offset-of-nodes", fine(word(33, 64))),
+        ("01-longer-mark", stating(128, &word(24, 2))),
+        ("14-unit", stating(128, &a)),
+        ("14-before-start", stating(0, &word(36, 4))),
+        ("02-longer-start", fine(word(36, 4))),
+        ("04-finer-weight", fine(word(10, 0.3f32.to_bits()))),
+        ("04-finer-beyond", fine(word(31, 0x4200_0400))),
     ]
 }
 
@@ -256,6 +312,9 @@ fn labelled() -> Vec<(&'static str, Vec<u8>)> {
         ("11-links", text(&"0 1 7 7 128\n".repeat(129))),
         ("12-link", text("1 2 8 8\n0 1 7 7 -64.015625\n")),
         ("12-final", text("2 127.515625\n")),
+        ("12-finer", stating(256, &sheet("0 16.015625\n"))),
+        ("14-a-64", a_in(64)),
+        ("14-a-256", a_in(256)),
     ]
 }
 
@@ -307,6 +366,26 @@ fn checks() {
 }
 
 #[test]
+fn checks_of_either_unit() {
+    let folder = Folder::new("checks_of_either_unit");
+    let files = [
+        folder.file("rows", A),
+        folder.file("shorter", run(&["compile"], A).ok().out),
+        folder.file("longer", a_in(64)),
+        folder.file("fine", fine()),
+    ];
+    for (golden, first) in [
+        ("check_units.txt", vec!["check"]),
+        ("check_units_json.txt", vec!["check", "--json"]),
+    ] {
+        let files = files.iter().map(String::as_str);
+        let arguments: Vec<&str> = first.into_iter().chain(files).collect();
+        let ran = run(&arguments, "").ok();
+        held(golden, &ran.text().replace(&folder.path(""), ""));
+    }
+}
+
+#[test]
 fn sheets_without_rows() {
     let folder = Folder::new("without_rows");
     let none = 0xFFFF_FFFF;
@@ -315,6 +394,9 @@ fn sheets_without_rows() {
         ("no-start", bytes(&[0, 1, 0, 0, 0, 1, 0, none])),
         ("bare-start", bytes(&[0, 0, 0, 0, 1, 0, 0, 0, 2, 0, 0])),
         ("bare-last", bytes(&[0, 1, 0, 0, 0, 0, 0, 0, 2, 0, 0])),
+        ("longer", a_in(64)),
+        ("longer-fine", fine()),
+        ("longer-no-nodes", bytes(&[0, 0, 0, 0, none, 256])),
     ];
     let files: Vec<String> = sheets
         .iter()

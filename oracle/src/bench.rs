@@ -1,7 +1,7 @@
 //! Bench values of the requirements, as far as the Rust can give them, and one known list with ties.
 
 use crate::bytes;
-use crate::machine::{weight, Link, Machine, Node, NODES, UNITS};
+use crate::machine::{weight, Form, Link, Machine, Node, NODES, UNITS};
 use crate::readings::{readings, Reading};
 use crate::reference::{distances, list};
 
@@ -20,6 +20,7 @@ fn built(count: usize, links: &[(usize, u32, i32, u32)], last: i32) -> Machine {
     Machine {
         nodes,
         start: Some(0),
+        form: Form::Short,
     }
 }
 
@@ -60,6 +61,10 @@ fn reading(cost: i32, links: &[u32]) -> Reading {
 
 /// Each check, with whether it holds.
 pub fn checks() -> Vec<(&'static str, bool)> {
+    [checks_of_short(), checks_of_long()].concat()
+}
+
+fn checks_of_short() -> Vec<(&'static str, bool)> {
     let a = sheet_a();
     let best = || reading(112, &[0, 2]);
     let three = || vec![best(), reading(112, &[1, 4]), reading(144, &[0, 3, 4])];
@@ -95,5 +100,51 @@ pub fn checks() -> Vec<(&'static str, bool)> {
             "ties, n = 2",
             told(&twice(), 2).0 == [zero(&[1, 2]), zero(&[0, 3])],
         ),
+    ]
+}
+
+/// The longer trailer: Sheet A with either unit behind it, no nodes, and the edges of the grid of 256ths.
+fn checks_of_long() -> Vec<(&'static str, bool)> {
+    let form = |form| Machine { form, ..sheet_a() };
+    let [coarse, fine] = [64, 256].map(|unit| form(Form::Long(unit)));
+    let three = |unit: i32| {
+        let cost = |k| k * unit / 64;
+        vec![
+            reading(cost(112), &[0, 2]),
+            reading(cost(112), &[1, 4]),
+            reading(cost(144), &[0, 3, 4]),
+        ]
+    };
+    let longer = |machine: &Machine, n| {
+        let short = bytes::list(&list(&sheet_a(), n)).len();
+        bytes::list(&list(machine, n)).len() == short + 4
+    };
+    let none = Machine {
+        form: Form::Long(256),
+        ..Machine::default()
+    };
+    let empty = |n| bytes::list(&list(&none, n)) == bytes::sheet(&none);
+    let least = built(2, &[(0, 1, 1, 1)], -UNITS).in_form(Form::Long(256));
+    let all: Vec<u32> = (0..NODES as u32 - 1).collect();
+    let whole = vec![reading(64 * 262_144, &all)];
+    let chain = chain().in_form(Form::Long(256));
+    vec![
+        ("unit 64, 152 bytes", bytes::sheet(&coarse).len() == 152),
+        ("unit 64, n = 3", told(&coarse, 3) == (three(64), 11)),
+        ("unit 256, n = 3", told(&fine, 3) == (three(256), 11)),
+        (
+            "both, answers",
+            (0..=64).all(|n| longer(&coarse, n) && longer(&fine, n)),
+        ),
+        (
+            "unit 256, no nodes",
+            (0..=64).all(empty) && bytes::sheet(&none).len() == 24,
+        ),
+        (
+            "unit 256, 1/256 and -32",
+            told(&least, 1).0 == [reading(1 - UNITS, &[0])]
+                && distances(&least) == [0.0, 1.0 / 256.0],
+        ),
+        ("unit 256, chain", told(&chain, 2).0 == whole),
     ]
 }

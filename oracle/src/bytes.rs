@@ -1,6 +1,6 @@
 //! Bytes as the requirements lay them out: all fields are 32-bit, little-endian.
 
-use crate::machine::{Link, Machine, Node};
+use crate::machine::{Form, Link, Machine, Node};
 use crate::reference::{List, NONE};
 
 fn bytes_of(words: impl IntoIterator<Item = u32>) -> Vec<u8> {
@@ -25,13 +25,24 @@ pub fn sheet(machine: &Machine) -> Vec<u8> {
     }
     let start = machine.start.unwrap_or(NONE);
     words.extend([0, 16 * links, machine.nodes.len() as u32, links, start]);
+    if let Form::Long(unit) = machine.form {
+        words.push(unit);
+    }
     bytes_of(words)
+}
+
+/// The words before the trailer, and the trailer, where these are of a sheet that ends in one of so many.
+fn parted(words: &[u32], size: usize) -> Option<(&[u32], &[u32])> {
+    let (fields, trailer) = words.split_at(words.len().checked_sub(size)?);
+    let (nodes, links) = (trailer[2] as usize, trailer[3] as usize);
+    (fields.len() == 4 * links + 3 * nodes && trailer[1] as usize == 16 * links)
+        .then_some((fields, trailer))
 }
 
 /// The machine of a sheet that is laid out as it must be.
 pub fn machine(sheet: &[u8]) -> Machine {
     let words = words_of(sheet);
-    let (fields, trailer) = words.split_at(words.len() - 5);
+    let (fields, trailer) = parted(&words, 5).or(parted(&words, 6)).expect("a trailer");
     let (links, nodes) = fields.split_at(4 * trailer[3] as usize);
     let mut links = links.chunks(4).map(|l| Link {
         input: l[0],
@@ -46,6 +57,7 @@ pub fn machine(sheet: &[u8]) -> Machine {
     let machine = Machine {
         nodes: nodes.chunks(3).map(node).collect(),
         start: (trailer[4] != NONE).then_some(trailer[4]),
+        form: trailer.get(5).map_or(Form::Short, |unit| Form::Long(*unit)),
     };
     assert!(self::sheet(&machine) == sheet, "not a sheet");
     machine

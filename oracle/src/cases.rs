@@ -1,6 +1,6 @@
 //! Cases: machines whose links climb, each with an n. Few weights, so that ties abound.
 
-use crate::machine::{weight, Link, Machine, Node, BARRED, LINKS, NODES, UNITS};
+use crate::machine::{weight, Form, Link, Machine, Node, BARRED, LINKS, NODES, UNITS};
 use crate::random::Random;
 
 pub struct Case {
@@ -15,6 +15,8 @@ pub struct Cases {
     most: Option<(usize, usize)>,
     /// Where some are barred, what draws which: the machines are those of the seed without it.
     bars: Option<Random>,
+    /// Where some have the longer trailer, what draws which.
+    forms: Option<Random>,
 }
 
 impl Cases {
@@ -24,6 +26,7 @@ impl Cases {
             random: Random::new(seed),
             most: None,
             bars: None,
+            forms: None,
         }
     }
 
@@ -32,6 +35,15 @@ impl Cases {
         Self {
             bars: Some(Random::new(seed.rotate_left(32) ^ 0x7F80_0000)),
             ..Self::new(seed)
+        }
+    }
+
+    /// The same, half of them with the longer trailer: a quarter of unit 64, and a quarter of unit 256,
+    /// with as many 256ths at each weight as there were sixty-fourths.
+    pub fn of_both_forms(seed: u64) -> Self {
+        Self {
+            forms: Some(Random::new(seed.rotate_left(16) ^ 256)),
+            ..Self::barred(seed)
         }
     }
 
@@ -73,9 +85,15 @@ impl Iterator for Cases {
                 bar_some(bars, &mut machine);
             }
         }
+        if let Some(forms) = &mut self.forms {
+            machine = machine.in_form(forms.pick(&FORMS));
+        }
         Some(Case { machine, n })
     }
 }
+
+/// The forms of sheets, as often as they are drawn.
+const FORMS: [Form; 4] = [Form::Short, Form::Short, Form::Long(64), Form::Long(256)];
 
 /// A link without its labels and weight: source and next node.
 type Way = (usize, usize);
@@ -194,7 +212,11 @@ fn dressed(random: &mut Random, count: usize, ways: &[Way]) -> Machine {
         1 | 2 if count > 0 => Some(random.below(count) as u32),
         _ => (count > 0).then_some(0),
     };
-    Machine { nodes, start }
+    Machine {
+        nodes,
+        start,
+        form: Form::Short,
+    }
 }
 
 /// Gives final weights to none of the nodes, to all, to the last, or to the last and some others.

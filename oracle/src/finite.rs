@@ -34,6 +34,7 @@ fn trimmed(list: &List, count: usize) -> List {
     let mut machine = Machine {
         nodes: vec![],
         start: list.machine.start,
+        form: list.machine.form,
     };
     let mut words = vec![];
     for state in stay {

@@ -13,6 +13,7 @@ const USAGE: &str = "usage:
   oracle cases SEED COUNT NODES LINKS
                            the same, of at most so many nodes and links
   oracle barred SEED COUNT the cases of a seed, half of them with barred links or ends
+  oracle forms SEED COUNT  the same, half of them with the longer trailer
   oracle answer            the same for sheets read from standard input: SHEET N, one a line
   oracle rows              prints the sheets of text rows read from standard input, one text a line";
 
@@ -99,6 +100,10 @@ fn run(arguments: &[&str]) -> Option<bool> {
         }
         ["barred", seed, count] => {
             let cases = Cases::barred(seed.parse().ok()?).take(count.parse().ok()?);
+            Some(print_cases(cases).is_ok())
+        }
+        ["forms", seed, count] => {
+            let cases = Cases::of_both_forms(seed.parse().ok()?).take(count.parse().ok()?);
             Some(print_cases(cases).is_ok())
         }
         ["answer"] => {

@@ -1,10 +1,10 @@
 //! The readings that a list holds.
 
-use crate::machine::{units, Machine};
+use crate::machine::Machine;
 use crate::reference::{List, NONE};
 
-/// A reading: its cost in sixty-fourths, `INFINITE` for one over a barred link or end, which the Rust
-/// lists too, and its input links.
+/// A reading: its cost in the machine's units, `INFINITE` for one over a barred link or end, which the
+/// Rust lists too, and its input links.
 #[derive(Debug, PartialEq)]
 pub struct Reading {
     pub cost: i32,
@@ -67,6 +67,6 @@ fn follow(list: &List, numbers: &[usize], begun: Reading, from: u32, sum: f32) -
     }
     assert!(list.machine.nodes[node].links.is_empty());
     sum += list.machine.nodes[node].end.expect("a final node");
-    reading.cost = units(sum);
+    reading.cost = list.machine.form.units(sum);
     reading
 }

@@ -8,7 +8,7 @@ use crate::machine::Machine;
 macro_rules! calls {
     ($name:ident, $rust:ident) => {
         mod $name {
-            use crate::machine::{Link, Machine, Node};
+            use crate::machine::{Form, Link, Machine, Node};
             use $rust::algorithms::queues::AutoQueue;
             use $rust::algorithms::tr_filters::AnyTrFilter;
             use $rust::algorithms::{shortest_distance_with_config, shortest_path_with_config};
@@ -44,7 +44,7 @@ macro_rules! calls {
                 fst
             }
 
-            /// The Rust's machine as plain data.
+            /// The Rust's machine as plain data. It knows of no unit.
             pub fn plain(fst: &Fst) -> Machine {
                 let node = |state| Node {
                     end: fst.final_weight(state).unwrap().map(|w| w.take_value()),
@@ -60,6 +60,7 @@ macro_rules! calls {
                 Machine {
                     nodes: fst.states_range().map(node).collect(),
                     start: fst.start(),
+                    form: Form::Short,
                 }
             }
 
@@ -80,7 +81,10 @@ macro_rules! calls {
             pub fn list(machine: &Machine, n: usize) -> Machine {
                 let config = ShortestPathConfig::new(1e-6, n, false);
                 let list: Fst = shortest_path_with_config(&built(machine), config).unwrap();
-                plain(&list)
+                Machine {
+                    form: machine.form,
+                    ..plain(&list)
+                }
             }
         }
     };
@@ -107,7 +111,7 @@ pub struct List {
     pub taken: usize,
 }
 
-/// The Rust's list. The Rust doesn't say which input links it repeats. So the links are given
+/// The Rust's list, in the machine's form. The Rust doesn't say which input links it repeats. So the links are given
 /// labels that tell them apart, and their own labels are put back in the answer; the answer to
 /// the machine with its own labels must be that very machine.
 pub fn list(machine: &Machine, n: usize) -> List {

@@ -5,7 +5,7 @@ use std::collections::HashSet;
 use oracle::bytes;
 use oracle::cases::{Case, Cases};
 use oracle::finite::finite;
-use oracle::machine::{units, Link, Machine, Node, BARRED, INFINITE, LINKS, NODES, UNITS};
+use oracle::machine::{Form, Link, Machine, Node, BARRED, INFINITE, LINKS, NODES, UNITS};
 use oracle::readings::{readings, Reading};
 use oracle::{bench, reference};
 
@@ -16,7 +16,11 @@ fn bench_values_hold() {
     }
 }
 
-/// The tests of the requirements that concern a machine: 2 to 5, and 6.
+fn fits(form: Form, weight: f32) -> bool {
+    form.units(weight).abs() <= UNITS && weight.to_bits() != 0x8000_0000
+}
+
+/// The tests of the requirements that concern a machine: 14, 2 to 5, and 6.
 fn accepted(machine: &Machine) -> bool {
     let count = machine.nodes.len();
     let climbs = |(v, next): (usize, u32)| v < next as usize && (next as usize) < count;
@@ -26,14 +30,16 @@ fn accepted(machine: &Machine) -> bool {
     let mut weights = machine.links().map(|l| l.weight).chain(ends);
     machine.start.is_none_or(|s| (s as usize) < count)
         && ways.all(climbs)
-        && weights.all(|w| w == BARRED || units(w).abs() <= UNITS && w.to_bits() != 0x8000_0000)
+        && weights.all(|w| w == BARRED || fits(machine.form, w))
+        && matches!(machine.form, Form::Short | Form::Long(64 | 256))
         && count <= NODES
         && machine.links().count() <= LINKS
 }
 
 #[test]
 fn cases_are_accepted_and_come_back() {
-    for case in Cases::new(7).take(3000).chain(Cases::barred(7).take(3000)) {
+    let all = [Cases::new(7), Cases::barred(7), Cases::of_both_forms(7)];
+    for case in all.into_iter().flat_map(|cases| cases.take(3000)) {
         assert!(accepted(&case.machine) && case.n <= 64);
         let sheet = bytes::sheet(&case.machine);
         assert_eq!(bytes::from_hex(&bytes::hex(&sheet)).unwrap(), sheet);
@@ -69,14 +75,51 @@ fn bars_keep_the_machines() {
     assert!(mixed.filter(infinite).count() > 50);
 }
 
+/// Half of the machines have the shorter trailer, and a quarter each the longer one with one of its units; a longer one
+/// has as many units at each weight.
+#[test]
+fn forms_keep_the_machines() {
+    let pairs: Vec<_> = (Cases::barred(5).zip(Cases::of_both_forms(5)))
+        .take(2000)
+        .collect();
+    let of = |form| {
+        pairs
+            .iter()
+            .filter(move |(_, case)| case.machine.form == form)
+    };
+    for (form, least) in [
+        (Form::Short, 900),
+        (Form::Long(64), 400),
+        (Form::Long(256), 400),
+    ] {
+        assert!(of(form).count() > least);
+    }
+    for (without, with) in pairs {
+        let same = without.machine.in_form(with.machine.form);
+        assert!(bytes::sheet(&same) == bytes::sheet(&with.machine) && without.n == with.n);
+    }
+}
+
+/// The search knows of no unit: the list of as many units is the same but for the form.
+#[test]
+fn lists_go_by_whole_units() {
+    for (without, with) in Cases::barred(17).zip(Cases::of_both_forms(17)).take(1000) {
+        let short = reference::list(&without.machine, without.n);
+        let list = reference::list(&with.machine, with.n);
+        assert!(list.machine.form == with.machine.form && list.words == short.words);
+        assert!(list.taken == short.taken && readings(&list, with.n) == readings(&short, with.n));
+        assert!(
+            bytes::sheet(&list.machine) == bytes::sheet(&short.machine.in_form(with.machine.form))
+        );
+    }
+}
+
 /// A list is in order, and its readings run from the start to a final node and differ. The
 /// cheapest one costs what n = 1 costs.
 #[test]
 fn lists_are_in_order() {
-    for case in Cases::new(11)
-        .take(1000)
-        .chain(Cases::barred(11).take(1000))
-    {
+    let all = [Cases::new(11), Cases::barred(11), Cases::of_both_forms(11)];
+    for case in all.into_iter().flat_map(|cases| cases.take(1000)) {
         let told = readings(&reference::list(&case.machine, case.n), case.n);
         assert!(told.windows(2).all(|pair| pair[0].cost <= pair[1].cost));
         let ways: HashSet<_> = told.iter().map(|reading| &reading.links).collect();
@@ -121,6 +164,7 @@ fn the_rust_lists_an_infinite_reading() {
     let machine = Machine {
         nodes: vec![node(vec![link]), node(vec![])],
         start: Some(0),
+        form: Form::Short,
     };
     assert_eq!(bytes::sheet(&machine).len(), 60);
     assert_eq!(reference::distances(&machine), [0.0, BARRED]);
@@ -151,5 +195,5 @@ fn cost_of(machine: &Machine, run: &[u32]) -> Option<i32> {
         at = link.next;
         cost += link.weight;
     }
-    Some(units(cost + machine.nodes[at as usize].end?))
+    Some(machine.form.units(cost + machine.nodes[at as usize].end?))
 }

@@ -1,7 +1,7 @@
 /* Calls the library in every rounding mode, with denormal numbers kept and flushed to zero: each answer must be the one of the default
  * environment, cell by cell, and its costs those worked out here, also as the library reads them back. The one difference is a distance of 0 in which weights cancel: rounding
- * downward it is negative zero. Such a sum of what two sheets both allow is positive zero in every mode. All arithmetic of this program is in integers, so that no
- * compiler can assume a mode for it. */
+ * downward it is negative zero. Such a sum of what two sheets both allow is positive zero in every mode. Both units come in turn, and the same machines, whose costs are the same
+ * whole numbers. All arithmetic of this program is in integers, so that no compiler can assume a mode for it. */
 #include <fenv.h>
 #include <stdio.h>
 #include <stdlib.h>
@@ -11,12 +11,16 @@
 
 enum { NODES = YELDMUR_NODE_LIMIT, UNITS = YELDMUR_WEIGHT_LIMIT, WIDEST = YELDMUR_LINK_LIMIT / NODES, MOST = 10, FLUSHED = 0x8040 };
 
-/* A chain of nodes with parallel links. Weights are in sixty-fourths, or this one. */
+/* How many units are 1, 64 or 256; as a power of two; and the bytes of the trailer, the shorter with 64. */
+static uint32_t unit, places;
+static size_t ends;
+
+/* A chain of nodes with parallel links. Weights are in units, or this one. */
 enum { BARRED = INT32_MAX };
 static uint32_t nodes, links, first[NODES + 1];
 static int32_t weight[NODES * WIDEST], final_weight;
-static uint8_t sheet[NODES * (16 * WIDEST + 12) + 20];
-static uint64_t size;
+static uint8_t sheet[YELDMUR_LONG_SHEET_BYTES(NODES, NODES * WIDEST)];
+static uint64_t size, drawings;
 
 /* What a call leaves. */
 struct answer { uint32_t number, counts[3], *work; uint8_t *result; };
@@ -31,27 +35,26 @@ static void fail(const char *what) {
 
 static uint32_t word(const uint8_t *at) { return at[0] | at[1] << 8 | at[2] << 16 | (uint32_t)at[3] << 24; }
 
-/* The bits of so many sixty-fourths, and back. */
+/* The bits of so many units, and back. */
 static uint32_t bits_of(int32_t units) {
     uint32_t size = units < 0 ? -units : units, top = 0;
     if (units == BARRED) return YELDMUR_BARRED;
     if (size == 0) return 0;
     while (size >> top != 1) top++;
-    return (units < 0 ? 0x80000000u : 0) | (top + 121) << 23 | (size << (23 - top) & 0x7fffff);
+    return (units < 0 ? 0x80000000u : 0) | (top + 127 - places) << 23 | (size << (23 - top) & 0x7fffff);
 }
 
 static int32_t units_of(uint32_t bits) {
     if (bits == 0) return 0;
-    int32_t exponent = (int32_t)(bits >> 23 & 255) - 144, digits = (bits & 0x7fffff) | 0x800000;
+    int32_t exponent = (int32_t)((bits >> 23 & 255) + places) - 150, digits = (bits & 0x7fffff) | 0x800000;
     if (exponent > 1 || exponent < -23 || (exponent < 0 && digits % (1 << -exponent))) fail("a value off the grid");
     digits = exponent < 0 ? digits >> -exponent : digits << exponent;
     return bits >> 31 ? -digits : digits;
 }
 
 static uint32_t drawn(uint32_t below) {
-    static uint64_t state = 1;
-    state = state * 6364136223846793005u + 1442695040888963407u;
-    return (uint32_t)(state >> 33) % below;
+    drawings = drawings * 6364136223846793005u + 1442695040888963407u;
+    return (uint32_t)(drawings >> 33) % below;
 }
 
 static void write_chain(void) {
@@ -64,7 +67,9 @@ static void write_chain(void) {
         uint32_t last = v + 1 == nodes, fields[] = {first[v + 1] - first[v], last, last ? bits_of(final_weight) : 0};
         memcpy(node_words + 3 * v, fields, sizeof fields);
     }
-    if (yeldmur_write_sheet(link_words, 4 * links, node_words, 3 * nodes, 0, sheet, sizeof sheet, &size)) fail("not written");
+    uint32_t number = unit == 64 ? yeldmur_write_sheet(link_words, 4 * links, node_words, 3 * nodes, 0, sheet, sizeof sheet, &size)
+                                 : yeldmur_write_sheet_in(link_words, 4 * links, node_words, 3 * nodes, 0, unit, sheet, sizeof sheet, &size);
+    if (number) fail("not written");
 }
 
 /* Weights from `least` on, `spread` of them, drawn for each link. Where `balanced`, each second one has the other sign. */
@@ -125,7 +130,7 @@ static void check_distances(const struct answer *a) {
 
 /* The cost along link l of the list's machine and then each state's only link. */
 static int32_t cost_along(const struct answer *a, uint32_t l, uint32_t *inputs) {
-    const uint8_t *states = a->result + 16 * a->counts[1], *words = states + 12 * a->counts[0] + 20;
+    const uint8_t *states = a->result + 16 * a->counts[1], *words = states + 12 * a->counts[0] + ends;
     static uint32_t firsts[MOST * (NODES + 2) + 2];
     for (uint32_t s = 0, sum = 0; s < a->counts[0]; s++) firsts[s] = sum, sum += word(states + 12 * s);
     for (int32_t cost = 0;;) {
@@ -191,7 +196,7 @@ static void read_distances(const struct answer *a, int mode, uint32_t flushed) {
     for (uint32_t v = 0; v < nodes; v += nodes > 64 ? nodes / 7 : 1) {
         uint32_t reached;
         enter(mode, flushed);
-        uint32_t number = yeldmur_distance(a->result, bytes, a->counts[0], v, &reached, &cost);
+        uint32_t number = yeldmur_distance_in(a->result, bytes, a->counts[0], v, unit, &reached, &cost);
         leave(mode, flushed);
         cheapest(1, v, costs);
         if (number || !reached || cost != costs[0]) fail("another distance read back");
@@ -243,8 +248,9 @@ static void compare(uint32_t n) {
     free(plain.work), free(plain.result), free(other.work), free(other.result);
 }
 
-/* The sheet's text rows, and the sheet that these give. */
+/* The sheet's text rows, and the sheet that these give: with the shorter trailer alone. */
 static void compare_rows(void) {
+    if (unit != 64) return;
     static uint8_t text[NODES * (56 * WIDEST + 23)], other[sizeof text], again[sizeof sheet];
     uint64_t length, bytes = 0;
     if (yeldmur_sheet_to_rows(sheet, size, text, sizeof text, &length)) fail("no rows");
@@ -293,7 +299,7 @@ static void compare_barred(uint32_t count, int32_t least) {
 
 /* A chain of one label a link, and another with the same labels: what both allow has a link for each, of the sum of the two weights. */
 enum { BOTH_NODES = 33, BOTH_LINKS = (BOTH_NODES - 1) * WIDEST };
-static uint8_t one[BOTH_LINKS * 16 + BOTH_NODES * 12 + 20];
+static uint8_t one[YELDMUR_LONG_SHEET_BYTES(BOTH_NODES, BOTH_LINKS)];
 static int32_t one_weight[BOTH_LINKS + 1];
 
 static void keep_one(void) {
@@ -317,14 +323,14 @@ static uint32_t number_due(void) {
 }
 
 static void check_both(const uint8_t *result, uint64_t told) {
-    uint64_t most = 16 * links + 12 * nodes * nodes + 20;
-    if (told != most || word(result + most - 8) != links) fail("another machine of what both allow");
+    uint64_t trailer = 16 * links + 12 * nodes * nodes;
+    if (told != trailer + ends || word(result + trailer + 12) != links) fail("another machine of what both allow");
     for (uint32_t l = 0; l < links; l++) if (word(result + 16 * l + 8) != bits_of(sum_for(l))) fail("another sum");
-    if (word(result + most - 24) != bits_of(sum_for(links))) fail("another final sum");
+    if (word(result + trailer - 4) != bits_of(sum_for(links))) fail("another final sum");
 }
 
 static void compare_both(const char *kind) {
-    static uint8_t result[16 * BOTH_LINKS + 12 * BOTH_NODES * BOTH_NODES + 20];
+    static uint8_t result[YELDMUR_LONG_SHEET_BYTES(BOTH_NODES * BOTH_NODES, BOTH_LINKS)];
     uint32_t done = 0;
     for (uint32_t m = 0; m < 8; m++) {
         uint64_t told = 0;
@@ -372,7 +378,7 @@ static void compare_denormal(void) {
     printf("denormal weights and negative zero: refused %d\n", YELDMUR_WEIGHT);
 }
 
-int main(void) {
+static void compare_unit(void) {
     /* above half the limit sums pass 2^23 units, and take all digits of single precision */
     static const uint32_t COUNTS[] = {2, 33, NODES / 2 + 1, NODES / 2 + 2, NODES - 500, NODES};
     for (uint32_t i = 0; i < 6; i++) {
@@ -392,5 +398,15 @@ int main(void) {
     compare_barred(NODES, UNITS - 1);
     compare_denormal();
     compare_two();
+}
+
+int main(void) {
+    for (unit = 64; unit <= 256; unit *= 4) {
+        places = unit == 64 ? 6 : 8;
+        ends = unit == 64 ? YELDMUR_TRAILER : YELDMUR_LONG_TRAILER;
+        drawings = 1;
+        printf("unit %u\n", unit);
+        compare_unit();
+    }
     return 0;
 }

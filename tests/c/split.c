@@ -7,12 +7,13 @@
 
 enum { NODES = YELDMUR_NODE_LIMIT, LINKS = YELDMUR_LINK_LIMIT, LISTED = YELDMUR_LIST_LIMIT, KEPT = 0xa5 };
 
-/* Room for a node and a link more than the limits allow. */
-struct sheet { uint8_t bytes[YELDMUR_SHEET_BYTES(NODES + 1, LINKS + 1)]; uint64_t size; };
+/* Room for a node and a link more than the limits allow. All sheets here have the shorter trailer, but the largest. */
+struct sheet { uint8_t bytes[YELDMUR_LONG_SHEET_BYTES(NODES + 1, LINKS + 1)]; uint64_t size; };
 
 static const char A[] = "0 1 1 1 1\n0 2 2 2 0.5\n1 3 3 3 0.25\n1 2 5 5\n2 3 4 4 0.75\n3 0.5\n";
 
 static struct sheet sheet;
+static size_t ends = YELDMUR_TRAILER;
 static uint8_t area[YELDMUR_SPLIT_BYTES(NODES, LINKS) + 8];
 static uint32_t first, second;
 
@@ -30,7 +31,7 @@ static uint32_t word(const uint8_t *bytes) { return bytes[0] | bytes[1] << 8 | b
 static void put_word(size_t at, uint32_t word) { for (size_t i = 0; i < 4; i++) sheet.bytes[at + i] = (uint8_t)(word >> 8 * i); }
 
 /* A field of the trailer: the number of nodes, that of links, the start. */
-static uint32_t trailer(uint32_t field) { return word(sheet.bytes + sheet.size - 20 + 4 * field); }
+static uint32_t trailer(uint32_t field) { return word(sheet.bytes + sheet.size - ends + 4 * field); }
 
 static int kept(size_t from, size_t room) {
     while (from < room && area[from] == KEPT) from++;
@@ -70,11 +71,11 @@ static int by_cost(const void *one, const void *other) {
 /* For every n the whole's list has the n least sums of one cost from each part's list. */
 static uint32_t check_sums(uint32_t c) {
     static int32_t whole[LISTED], low[LISTED], high[LISTED], sums[LISTED * LISTED];
-    const uint8_t *later = area + YELDMUR_SPLIT_SECOND(c, first);
+    const uint8_t *later = area + YELDMUR_SPLIT_SECOND(ends, c, first);
     uint32_t count = 0;
     for (uint32_t n = 1; n <= LISTED; n++) {
-        uint32_t firsts = list_costs(area, YELDMUR_SPLIT_NUMBERS(c, first), n, low), made = 0;
-        uint32_t seconds = list_costs(later, YELDMUR_SHEET_BYTES(trailer(2) - c, second), n, high);
+        uint32_t firsts = list_costs(area, YELDMUR_SPLIT_NUMBERS(ends, c, first), n, low), made = 0;
+        uint32_t seconds = list_costs(later, YELDMUR_SHEET_WITH(ends, trailer(2) - c, second), n, high);
         for (uint32_t i = 0; i < firsts; i++) for (uint32_t j = 0; j < seconds; j++) sums[made++] = low[i] + high[j];
         qsort(sums, made, sizeof *sums, by_cost);
         count = list_costs(sheet.bytes, sheet.size, n, whole);
@@ -85,10 +86,10 @@ static uint32_t check_sums(uint32_t c) {
 
 /* Both parts, link by link, against the sheet: equal fields, but that the second's nodes count from c. */
 static void check_links(uint32_t c) {
-    const uint8_t *later = area + YELDMUR_SPLIT_SECOND(c, first), *numbers = later + YELDMUR_SHEET_BYTES(trailer(2) - c, second);
+    const uint8_t *later = area + YELDMUR_SPLIT_SECOND(ends, c, first), *numbers = later + YELDMUR_SHEET_WITH(ends, trailer(2) - c, second);
     if (first + second != trailer(3)) fail("another number of links");
     for (uint32_t l = 0; l < first; l++) {
-        if (word(area + YELDMUR_SPLIT_NUMBERS(c, first) + 4 * l) != l || memcmp(area + 16 * l, sheet.bytes + 16 * l, 16)) fail("another link before");
+        if (word(area + YELDMUR_SPLIT_NUMBERS(ends, c, first) + 4 * l) != l || memcmp(area + 16 * l, sheet.bytes + 16 * l, 16)) fail("another link before");
     }
     for (uint32_t l = 0; l < second; l++) {
         const uint8_t *whole = sheet.bytes + 16 * (first + l), *part = later + 16 * l;
@@ -123,11 +124,11 @@ static size_t print_part(size_t at, uint32_t nodes, uint32_t links) {
 /* Both parts at c, record by record. */
 static void print_split(const char *what, uint32_t c) {
     uint32_t nodes = trailer(2);
-    size_t length = YELDMUR_SPLIT_BYTES(nodes, trailer(3));
+    size_t length = YELDMUR_SPLIT_WITH(ends, nodes, trailer(3));
     if (split(c, sizeof area)) fail(what);
     printf("%s: %zu bytes\n", what, length);
-    if (print_part(0, c + 1, first) != YELDMUR_SPLIT_SECOND(c, first)) fail("another place");
-    if (print_part(YELDMUR_SPLIT_SECOND(c, first), nodes - c, second) != length || !kept(length, sizeof area)) fail("another end");
+    if (print_part(0, c + 1, first) != YELDMUR_SPLIT_SECOND(ends, c, first)) fail("another place");
+    if (print_part(YELDMUR_SPLIT_SECOND(ends, c, first), nodes - c, second) != length || !kept(length, sizeof area)) fail("another end");
     check_links(c);
     printf("readings: %u\n", check_sums(c));
     each_room(c, length);
@@ -155,7 +156,10 @@ static void bare(uint32_t nodes, uint32_t links) {
     }
     node_words[0] = links;
     uint32_t start = nodes ? 0 : YELDMUR_NONE;
-    if (yeldmur_write_sheet(link_words, 4 * links, node_words, 3 * nodes, start, sheet.bytes, sizeof sheet.bytes, &sheet.size)) fail("not written");
+    uint32_t number = ends == YELDMUR_TRAILER
+        ? yeldmur_write_sheet(link_words, 4 * links, node_words, 3 * nodes, start, sheet.bytes, sizeof sheet.bytes, &sheet.size)
+        : yeldmur_write_sheet_in(link_words, 4 * links, node_words, 3 * nodes, start, 256, sheet.bytes, sizeof sheet.bytes, &sheet.size);
+    if (number) fail("not written");
 }
 
 /* Sheet A with a fault of each number from 1 to 6. */
@@ -216,11 +220,11 @@ static void refuse_links(void) {
 /* As large as may be, and each part in its turn has all links. */
 static void print_largest(uint32_t c) {
     bare(NODES, LINKS);
-    size_t length = YELDMUR_SPLIT_BYTES(NODES, LINKS);
+    size_t length = YELDMUR_SPLIT_WITH(ends, NODES, LINKS);
     if (split(c, length - 1) != YELDMUR_RESULT || !unchanged()) fail("not 21");
     if (split(c, length) || !kept(length, sizeof area)) fail("not as many bytes as named");
     check_links(c);
-    printf("the largest sheet at %u: %u links and %u\n", c, first, second);
+    printf("the largest sheet at %u, trailer of %zu: %u links and %u\n", c, ends, first, second);
 }
 
 int main(void) {
@@ -238,6 +242,10 @@ int main(void) {
     refuse_starts();
     refuse_marks();
     refuse_links();
+    print_largest(0);
+    print_largest(1);
+    print_largest(NODES - 1);
+    ends = YELDMUR_LONG_TRAILER;
     print_largest(0);
     print_largest(1);
     print_largest(NODES - 1);

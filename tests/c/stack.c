@@ -1,5 +1,5 @@
-/* Makes every call on sheets at the limits in a thread whose stack is painted beforehand, and holds what was written of it, beyond what
- * a thread writes that calls nothing, to the bytes that the header names. */
+/* Makes every call on sheets at the limits, with either trailer, in a thread whose stack is painted beforehand, and holds what was written of
+ * it, beyond what a thread writes that calls nothing, to the bytes that the header names. */
 #define _POSIX_C_SOURCE 200809L
 #include <pthread.h>
 #include <stdio.h>
@@ -10,9 +10,12 @@
 enum { NODES = YELDMUR_NODE_LIMIT, WIDTH = YELDMUR_LINK_LIMIT / NODES, LINKS = WIDTH * (NODES - 1), STACK = 1 << 20, PAINT = 0xa5 };
 
 static uint32_t link_words[4 * LINKS], node_words[3 * NODES];
-static uint8_t sheet[16 * LINKS + 12 * NODES + 20], *result;
+static uint8_t sheet[YELDMUR_LONG_SHEET_BYTES(NODES, LINKS)], *result;
 static uint32_t n, *work, values, states, links, taken, run_area[NODES];
 static uint64_t size, slots, bytes;
+
+/* Whether sheets have the longer trailer, with unit 256. */
+static int longer;
 
 /* Two sheets of which one answer is made, and the answer. */
 static struct { uint8_t bytes[sizeof sheet]; uint64_t size; } probes[2];
@@ -22,24 +25,37 @@ static uint8_t allowed[YELDMUR_TWO_PROBES_BYTES];
 static uint8_t text[56 * LINKS + 23];
 static uint64_t text_bytes;
 
+/* The same sheet with the shorter trailer, which alone has rows. */
+static uint8_t rowed[sizeof sheet];
+static uint64_t rowed_size;
+
 static void nothing(void) {}
 
-static void write_sheet(void) {
-    if (yeldmur_write_sheet(link_words, 4 * LINKS, node_words, 3 * NODES, 0, sheet, sizeof sheet, &size)) exit(1);
+/* So many of the links and nodes that are drawn up. */
+static void write_to(uint8_t *to, uint64_t *told, size_t links, size_t nodes) {
+    uint32_t number = longer ? yeldmur_write_sheet_in(link_words, 4 * links, node_words, 3 * nodes, 0, 256, to, sizeof sheet, told)
+                             : yeldmur_write_sheet(link_words, 4 * links, node_words, 3 * nodes, 0, to, sizeof sheet, told);
+    if (number) exit(1);
+}
+
+static void write_sheet(void) { write_to(sheet, &size, LINKS, NODES); }
+
+static void write_rowed(void) {
+    if (yeldmur_write_sheet(link_words, 4 * LINKS, node_words, 3 * NODES, 0, rowed, sizeof rowed, &rowed_size)) exit(1);
 }
 
 static void read_sheet(void) { if (yeldmur_read_sheet(sheet, size)) exit(1); }
 
 static void to_rows(void) {
     uint64_t told;
-    if (yeldmur_sheet_rows_bytes(sheet, size, &told)) exit(1);
-    if (yeldmur_sheet_to_rows(sheet, size, text, sizeof text, &text_bytes) || told != text_bytes) exit(1);
+    if (yeldmur_sheet_rows_bytes(rowed, rowed_size, &told)) exit(1);
+    if (yeldmur_sheet_to_rows(rowed, rowed_size, text, sizeof text, &text_bytes) || told != text_bytes) exit(1);
 }
 
 static void to_sheet(void) {
     uint64_t told;
     if (yeldmur_rows_sheet_bytes(text, text_bytes, &told)) exit(1);
-    if (yeldmur_rows_to_sheet(text, text_bytes, sheet, sizeof sheet, &size) || told != size) exit(1);
+    if (yeldmur_rows_to_sheet(text, text_bytes, rowed, sizeof rowed, &rowed_size) || told != rowed_size) exit(1);
 }
 
 static void areas(void) {
@@ -55,6 +71,7 @@ static void read_distance(void) {
     uint32_t reached;
     int32_t cost;
     if (yeldmur_distance(result, bytes, values, NODES - 1, &reached, &cost)) exit(1);
+    if (yeldmur_distance_in(result, bytes, values, NODES - 1, longer ? 256 : 64, &reached, &cost)) exit(1);
 }
 
 static void list(void) {
@@ -81,7 +98,7 @@ static void split(void) {
 
 static void fields(void) {
     uint32_t a, b, c, d;
-    if (yeldmur_sheet_counts(sheet, size, &a, &b, &c, &d)) exit(1);
+    if (yeldmur_sheet_counts(sheet, size, &a, &b, &c, &d) || yeldmur_unit(sheet, size, &a)) exit(1);
     if (yeldmur_link(sheet, size, LINKS - 1, &a, &b, &c, &d) || yeldmur_node(sheet, size, NODES - 1, &a, &b, &c)) exit(1);
 }
 
@@ -127,8 +144,7 @@ static void make_probe(uint32_t which, uint32_t nodes, uint32_t width, uint32_t 
         uint32_t fields[] = {v + 1 == nodes ? 0 : width, 0, 0};
         memcpy(node_words + 3 * v, fields, sizeof fields);
     }
-    uint32_t links_words = 4 * width * (nodes - 1);
-    if (yeldmur_write_sheet(link_words, links_words, node_words, 3 * nodes, 0, probes[which].bytes, sizeof probes[which].bytes, &probes[which].size)) exit(1);
+    write_to(probes[which].bytes, &probes[which].size, width * (nodes - 1), nodes);
 }
 
 /* As many pairs of links as may be, or nearly: of one label, or of many in disorder, one link of each label in the first. */
@@ -149,10 +165,12 @@ enum { COUNT = sizeof CALLS / sizeof *CALLS };
 
 int main(void) {
     size_t most[COUNT] = {0}, plain = written(nothing);
-    for (uint32_t round = 0; round < 4; round++) {
+    for (uint32_t round = 0; round < 8; round++) {
         n = round % 2 ? 64 : 1;
-        make_probes(round);
-        make_links(round / 2);
+        longer = round / 4;
+        make_probes(round % 4);
+        make_links(round / 2 % 2);
+        write_rowed();
         write_sheet();
         areas();
         work = malloc(4 * YELDMUR_SLOT * slots), result = malloc(bytes);

@@ -9,7 +9,7 @@ enum { NODES = YELDMUR_NODE_LIMIT, LINKS = YELDMUR_LINK_LIMIT, KEPT = 0xa5 };
 
 /* A sheet as it is drawn up here, room for a node and a link more than the limits allow. */
 struct drawn { uint32_t links[4 * (LINKS + 1)], nodes[3 * (NODES + 1)], start; };
-struct sheet { uint8_t bytes[16 * (LINKS + 1) + 12 * (NODES + 1) + 20]; uint64_t size; };
+struct sheet { uint8_t bytes[YELDMUR_LONG_SHEET_BYTES(NODES + 1, LINKS + 1)]; uint64_t size; };
 
 static const char A[] = "0 1 1 1 1\n0 2 2 2 0.5\n1 3 3 3 0.25\n1 2 5 5\n2 3 4 4 0.75\n3 0.5\n";
 
@@ -156,6 +156,12 @@ static void faults_in_order(void) {
     printf("faults of two sheets: the first's come first\n");
 }
 
+/* The shorter trailer and the unit, 64, are the longer one. */
+static void lengthen(struct sheet *sheet) {
+    put_word(sheet, sheet->size, 64);
+    sheet->size += 4;
+}
+
 static void print_limits(const char *what, const uint32_t sizes[4]) {
     parallel(&first, sizes[0], sizes[1]), parallel(&second, sizes[2], sizes[3]);
     print_number(what);
@@ -171,6 +177,9 @@ static void refuse_products(void) {
     print_limits("two of the largest sheets", (uint32_t[]){NODES, LINKS, NODES, LINKS});
     print_limits("as many links and nodes as may be", (uint32_t[]){2, 128, NODES / 2, 128});
     uint64_t size = 7;
+    if (both(sizeof area, &size) || size != YELDMUR_SHEET_BYTES(NODES, LINKS)) fail("another length");
+    if (both(size - 1, &size) != YELDMUR_RESULT) fail("not 21");
+    lengthen(&first);
     if (both(sizeof area, &size) || size != sizeof area) fail("not as many bytes as named");
     if (both(sizeof area - 1, &size) != YELDMUR_RESULT) fail("not 21");
 }

@@ -26,6 +26,10 @@ A = [
 ]
 
 
+# by the unit that a trailer states, or None for the shorter: its bytes
+TRAILERS = {None: 20, 64: 24, 256: 24}
+
+
 def packed(words):
     return struct.pack(f"<{len(words)}I", *words)
 
@@ -37,6 +41,11 @@ def a_with(place, word):
 
 def sheet_a():
     return Sheet.read(packed(A))
+
+
+def a_in(unit):
+    """The bytes of Sheet A with the longer trailer."""
+    return packed([*A, unit])
 
 
 def refused(call, *arguments):
@@ -54,15 +63,17 @@ def found(sheet, n, areas):
 
 
 class Machine:
-    """Links by rising source, final weights and a start, with weights in sixty-fourths or barred."""
+    """Links by rising source, final weights and a start, with weights in the unit or barred. The unit is the one that
+    the trailer states, or None for sixty-fourths and the shorter."""
 
-    def __init__(self, links, finals, start):
+    def __init__(self, links, finals, start, unit=None):
         self.links = sorted(links, key=lambda link: link[0])
-        self.finals, self.start = finals, start
+        self.finals, self.start, self.unit = finals, start, unit
 
     @classmethod
     def drawn(cls, r, nodes, links, spread, barred=0):
-        """Few different weights make ties, many make none. One in so many is barred, or none."""
+        """Few different weights make ties, many make none. One in so many is barred, or none. The trailer is drawn,
+        too."""
 
         def weight():
             return BARRED if barred and r.randrange(barred) == 0 else r.randint(-spread, spread)
@@ -73,12 +84,22 @@ class Machine:
             following = r.randrange(source + 1, nodes)
             made.append((source, r.randrange(3), weight(), following))
         finals = [weight() if r.randrange(3) == 0 else None for _ in range(nodes)]
-        return cls(made, finals, r.randrange((nodes + 3) // 4))
+        return cls(made, finals, r.randrange((nodes + 3) // 4), r.choice(list(TRAILERS)))
+
+    @property
+    def count(self):
+        """How many of its units are 1."""
+        return self.unit or 64
+
+    def in_256ths(self):
+        """The same machine in the finer unit. Here nothing is barred."""
+        links = [(s, label, 4 * units, following) for s, label, units, following in self.links]
+        return Machine(links, [None if units is None else 4 * units for units in self.finals], self.start, 256)
 
     def sheet(self):
-        links = [Link(s, label, label, units / 64, following) for s, label, units, following in self.links]
-        finals = [None if units is None else units / 64 for units in self.finals]
-        return Sheet.write(links, finals, self.start)
+        links = [Link(s, label, label, units / self.count, following) for s, label, units, following in self.links]
+        finals = [None if units is None else units / self.count for units in self.finals]
+        return Sheet.write(links, finals, self.start, self.unit)
 
     def runs(self):
         """Every run from the start that is not barred: where it leads, what its links cost, and their numbers."""

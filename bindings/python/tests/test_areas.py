@@ -2,7 +2,7 @@
 import ctypes
 import unittest
 
-from common import A, A_ROWS, Machine, packed, refused, seeded, sheet_a
+from common import A, A_ROWS, Machine, a_in, packed, refused, seeded, sheet_a
 
 from yeldmur import LINK_LIMIT, LIST_LIMIT, NODE_LIMIT, Areas, Refusal, Sheet, list_readings, raw
 
@@ -23,18 +23,21 @@ class ShortAreas(unittest.TestCase):
         self.assertEqual(work[:], [0] * needed + [WORD] * (len(work) - needed))
 
     def test_lists(self):
-        a = packed(A)
         for n, slots in [(0, 0), (1, 4), (2, 25), (3, 31), (LIST_LIMIT, 397)]:
-            needed = raw.areas(a, n)
-            self.assertEqual(needed.slots, slots)
-            work, result = work_area(8 * slots + 13), result_area(needed.bytes + 3)
-            listed = raw.shortest_path(a, n, work, result)
-            length = raw.sheet_size(listed.states, listed.links) + 4 * listed.links
-            self.assert_cleared(work, slots)
-            self.assertEqual(result[length:], BYTE * (len(result) - length))
-            self.short_result(a, n, slots, length)
-            if slots:
-                self.short_work(a, n, slots, length)
+            for a, trailer in [(packed(A), 20), (a_in(64), 24), (a_in(256), 24)]:
+                self.of_every_length(a, n, slots, trailer)
+
+    def of_every_length(self, a, n, slots, trailer):
+        needed = raw.areas(a, n)
+        self.assertEqual(needed.slots, slots)
+        work, result = work_area(8 * slots + 13), result_area(needed.bytes + 3)
+        listed = raw.shortest_path(a, n, work, result)
+        length = raw.sheet_size(listed.states, listed.links, trailer) + 4 * listed.links
+        self.assert_cleared(work, slots)
+        self.assertEqual(result[length:], BYTE * (len(result) - length))
+        self.short_result(a, n, slots, length)
+        if slots:
+            self.short_work(a, n, slots, length)
 
     def short_result(self, a, n, slots, length):
         for short in [0, 19, length - 1]:
@@ -66,9 +69,18 @@ class ShortAreas(unittest.TestCase):
         links, nodes = raw.words(A[:20]), raw.words(A[20:32])
         self.assertEqual(refused(raw.write_sheet, links, nodes, 0, result_area(147)), Refusal.RESULT)
         self.assertEqual(raw.write_sheet(links, nodes, 0, result), 148)
+        for unit in [64, 256]:
+            self.assertEqual(refused(raw.write_sheet_in, links, nodes, 0, unit, result_area(151)), Refusal.RESULT)
+            result = result_area(153)
+            self.assertEqual(raw.write_sheet_in(links, nodes, 0, unit, result), 152)
+            self.assertEqual(result[:], a_in(unit) + BYTE)
 
     def test_areas_of_counts(self):
-        self.assertEqual(raw.areas_of(4, 5, 1, 2), raw.areas(packed(A), 2))
+        of_counts = raw.areas_of(4, 5, 1, 2)
+        self.assertEqual(of_counts, raw.areas(a_in(64), 2))
+        self.assertEqual(of_counts, raw.areas(a_in(256), 2))
+        # enough for either trailer
+        self.assertEqual((of_counts.slots, of_counts.bytes - 4), raw.areas(packed(A), 2))
         most = raw.areas_of(NODE_LIMIT, LINK_LIMIT, NODE_LIMIT, LIST_LIMIT)
         self.assertEqual(most.slots, 2048 + 16384 + 2 * 2048 + 2 + 64 * 16385)
         self.assertEqual(refused(raw.areas_of, NODE_LIMIT + 1, 0, 0, 65), Refusal.LIMITS)

@@ -16,7 +16,7 @@ E_ROWS = "0\t1\t1\t1\t5\n0\t1\t2\t2\tInfinity\n1\t2\t3\t3\tInfinity\n1\t1\n2\t3\
 class Weights(unittest.TestCase):
     def test_one_pattern_alone(self):
         link = Sheet.read(a_with(2, BITS)).link(0)
-        self.assertEqual((link.weight, link.units), (BARRED, None))
+        self.assertEqual((link.weight, link.units(64), link.units(256)), (BARRED, None, None))
         self.assertEqual(Sheet.read(a_with(31, BITS)).finals[3], BARRED)
         self.assertEqual(raw.link(a_with(2, BITS), 0), (1, 1, BITS, 1))
         self.assertEqual(raw.node(a_with(31, BITS), 3), (0, 1, BITS))

@@ -48,7 +48,8 @@ class Drawn(unittest.TestCase):
             machine = Machine.drawn(r, 6, 12, 3)
             for reading in areas.list_readings(machine.sheet(), 10):
                 expected = [machine.links[number] for number in reading.numbers]
-                self.assertEqual([(l.source, l.ilabel, l.units, l.next) for l in reading.links], expected)
+                fields = [(l.source, l.ilabel, l.units(reading.unit), l.next) for l in reading.links]
+                self.assertEqual(fields, expected)
 
     def test_a_large_machine(self):
         r, areas = seeded(5), Areas()

@@ -55,8 +55,10 @@ class Header(unittest.TestCase):
         for name in ["NODE_LIMIT", "LINK_LIMIT", "WEIGHT_LIMIT", "LIST_LIMIT"]:
             (stated,) = re.findall(rf"#define YELDMUR_{name} (\d+)u?$", self.text, re.MULTILINE)
             self.assertEqual(getattr(yeldmur, name), int(stated))
-        (slot,) = re.findall(r"#define YELDMUR_SLOT (\d+)u$", self.text, re.MULTILINE)
-        self.assertEqual(yeldmur.raw.SLOT, int(slot))
+        raw = yeldmur.raw
+        for name, here in [("SLOT", raw.SLOT), ("TRAILER", raw.SHORT_TRAILER), ("LONG_TRAILER", raw.LONG_TRAILER)]:
+            (stated,) = re.findall(rf"#define YELDMUR_{name} (\d+)u$", self.text, re.MULTILINE)
+            self.assertEqual(here, int(stated))
 
 
 class Finding(unittest.TestCase):

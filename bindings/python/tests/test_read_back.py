@@ -1,9 +1,9 @@
 """Results read back, whole and damaged: what is told is refused, or a reading of the sheet at its cost."""
 import unittest
 
-from common import MACHINE_A, Machine, packed, refused, seeded, sheet_a
+from common import MACHINE_A, Machine, a_in, packed, refused, seeded, sheet_a
 
-from yeldmur import LIST_LIMIT, NODE_LIMIT, Refusal, raw
+from yeldmur import LIST_LIMIT, NODE_LIMIT, Refusal, Sheet, raw
 
 MARK = 0xDEADBEEF
 
@@ -13,7 +13,7 @@ def answer(sheet, n):
     needed = raw.areas(sheet.bytes, n)
     result = raw.byte_area(needed.bytes)
     listed = raw.shortest_path(sheet.bytes, n, raw.word_area(raw.SLOT * needed.slots), result)
-    length = raw.sheet_size(listed.states, listed.links) + 4 * listed.links
+    length = raw.sheet_size(listed.states, listed.links, sheet.trailer) + 4 * listed.links
     return result[:length], listed.states, listed.links
 
 
@@ -25,6 +25,9 @@ def damaged(data):
 
 
 class Lists(unittest.TestCase):
+    # the bytes of the trailer beyond those of the shorter, which `readings`, without a sheet, does not ask for
+    more = 0
+
     def setUp(self):
         self.sheet, self.machine = sheet_a(), MACHINE_A
 
@@ -68,8 +71,11 @@ class Lists(unittest.TestCase):
     def test_short_and_long_results(self):
         for n in [0, 1, 2, 3]:
             result, *counts = answer(self.sheet, n)
-            for length in [0, 19, len(result) - 1]:
+            least = len(result) - self.more
+            for length in [0, 19, least - 1]:
                 self.assertEqual(refused(raw.readings, result[:length], n, *counts), Refusal.NO_ANSWER)
+            self.assertEqual(raw.readings(result[:least], n, *counts), min(n, 3))
+            for length in [0, 19, len(result) - 1]:
                 self.assertEqual(self.told(n, result[:length], counts, 0), Refusal.NO_ANSWER)
             self.assertEqual(raw.readings(result + b"\xff" * 7, n, *counts), min(n, 3))
             for k in range(n):
@@ -110,6 +116,13 @@ class Lists(unittest.TestCase):
                 self.assertIn(self.told(n, result, counts, k), [0, Refusal.NO_ANSWER, Refusal.ABSENT])
 
 
+class ListsOfTheLongerTrailer(Lists):
+    more = 4
+
+    def setUp(self):
+        self.sheet, self.machine = Sheet.read(a_in(256)), MACHINE_A.in_256ths()
+
+
 class Distances(unittest.TestCase):
     def setUp(self):
         work, self.result = raw.word_area(4 * raw.SLOT), raw.byte_area(32)
@@ -133,6 +146,28 @@ class Distances(unittest.TestCase):
         half_a_unit, infinity, nan = 0x3C000000, 0x7F800000, 0x7FC00000
         for pair in [(0, 1), (2, 0), (1, half_a_unit), (1, infinity), (1, nan), (2**32 - 1, 0)]:
             self.assertEqual(refused(raw.distance, packed(pair), 1, 0), Refusal.NO_ANSWER)
+            self.assertEqual(refused(raw.distance_in, packed(pair), 1, 0, 64), Refusal.NO_ANSWER)
+        # of the finer unit the same bits are two, and half a unit is another
+        self.assertEqual(raw.distance_in(packed((1, half_a_unit)), 1, 0, 256), 2)
+        for pair in [(0, 1), (2, 0), (1, 0x3B000000), (1, infinity), (1, nan), (2**32 - 1, 0)]:
+            self.assertEqual(refused(raw.distance_in, packed(pair), 1, 0, 256), Refusal.NO_ANSWER)
+
+    def test_units(self):
+        for unit in [64, 256]:
+            values = [raw.distance_in(self.result, 4, v, unit) for v in range(4)]
+            self.assertEqual(values, [0, unit, unit // 2, 5 * unit // 4])
+            self.assertIsNone(raw.distance_in(bytes(8), 1, 0, unit))
+            self.assertEqual(refused(raw.distance_in, self.result, 4, 4, unit), Refusal.ABSENT)
+        # before all else
+        for unit in [0, 1, 63, 128, 257, 2**32 - 1]:
+            for given in [(self.result, 4, 0), (self.result, 4, 4), (b"", 1, 0)]:
+                self.assertEqual(refused(raw.distance_in, *given, unit), Refusal.UNIT)
+
+    def test_the_bits_do_not_depend_on_the_unit(self):
+        for unit in [64, 256]:
+            result = raw.byte_area(32)
+            self.assertEqual(raw.shortest_distance(a_in(unit), raw.word_area(4 * raw.SLOT), result), 4)
+            self.assertEqual(result[:], self.result[:])
 
     def test_each_byte_damaged(self):
         numbers = [refused(raw.distance, changed, 4, 3) for changed in damaged(self.result.raw)]

@@ -10,7 +10,7 @@ from yeldmur import BARRED, WEIGHT_LIMIT, Link, Refusal, Sheet, decimal, raw
 
 
 def again(sheet):
-    return Sheet.write(sheet.links, sheet.finals, sheet.start)
+    return Sheet.write(sheet.links, sheet.finals, sheet.start, sheet.stated_unit)
 
 
 class Fields(unittest.TestCase):
@@ -20,7 +20,7 @@ class Fields(unittest.TestCase):
         self.assertEqual(a.finals, (None, None, None, 0.5))
         self.assertEqual(a.link(3), Link(1, 5, 5, 0.0, 2))
         self.assertEqual([link.source for link in a.links], [0, 0, 1, 1, 2])
-        self.assertEqual([link.units for link in a.links], [64, 32, 16, 0, 48])
+        self.assertEqual([link.units(64) for link in a.links], [64, 32, 16, 0, 48])
         self.assertEqual(raw.node(a.bytes, 3), (0, 1, 0x3F000000))
         for call, number in [(raw.link, 5), (raw.node, 4), (raw.link, 2**32 - 1), (raw.node, 2**32 - 1)]:
             self.assertEqual(refused(call, a.bytes, number), Refusal.ABSENT)
@@ -85,13 +85,14 @@ class Writing(unittest.TestCase):
 class RoundTrips(unittest.TestCase):
     def test_drawn_machines(self):
         r, with_rows = seeded(1), 0
-        for _ in range(500):
+        for _ in range(1500):
             machine = Machine.drawn(r, r.randint(2, 9), r.randrange(15), r.choice([1, WEIGHT_LIMIT]), barred=4)
             sheet = machine.sheet()
             self.assertEqual(again(sheet), sheet)
             self.assertEqual(Sheet.read(sheet.bytes), sheet)
             if refused(sheet.rows) == 0:
                 with_rows += 1
+                self.assertIsNone(machine.unit)
                 self.assertEqual(Sheet.from_rows(sheet.rows()), sheet)
                 self.assertEqual(Sheet.from_rows(sheet.rows().encode()), sheet)
         self.assertGreater(with_rows, 100)
@@ -103,11 +104,13 @@ class RoundTrips(unittest.TestCase):
         with localcontext() as context:
             context.prec = 2  # decimals are exact whatever the precision of the context is
             for units in range(-WEIGHT_LIMIT, WEIGHT_LIMIT + 1):
-                text = f"{decimal(units):f}"
+                text = f"{decimal(units, 64):f}"
                 sheet = Sheet.from_rows(f"0 {text}\n")
                 self.assertEqual(int(sheet.finals[0] * 64), units)
-        self.assertEqual(str(decimal(2**24)), "262144")
-        self.assertEqual(str(decimal(1 - 2**24)), "-262143.984375")
+        self.assertEqual(str(decimal(2**24, 64)), "262144")
+        self.assertEqual(str(decimal(1 - 2**24, 64)), "-262143.984375")
+        self.assertEqual(str(decimal(2**24, 256)), "65536")
+        self.assertEqual(str(decimal(1 - 2**24, 256)), "-65535.99609375")
 
 
 class Rows(unittest.TestCase):

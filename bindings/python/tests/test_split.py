@@ -38,7 +38,7 @@ class ByHand(unittest.TestCase):
     def test_the_bytes(self):
         result = (ctypes.c_char * 200)(*BYTE * 200)
         self.assertEqual(raw.split(Sheet.from_rows(DIAMOND).bytes, 1, result), (3, 2))
-        self.assertEqual(raw.split_size(3, 5), 188)
+        self.assertEqual([raw.split_size(3, 5, trailer) for trailer in [20, 24]], [188, 196])
         parts = split(Sheet.from_rows(DIAMOND), 1)
         whole = [parts.first.sheet.bytes, packed([0, 1, 2]), parts.second.sheet.bytes, packed([3, 4])]
         self.assertEqual(result[:], b"".join(whole) + BYTE * 12)
@@ -129,8 +129,8 @@ def judged(machine, c):
         return None
     low = [link for link in machine.links if link[0] < c]
     high = [(s - c, label, units, following - c) for s, label, units, following in machine.links if s >= c]
-    first = Machine(low, machine.finals[:c] + [0], machine.start)
-    return first, Machine(high, machine.finals[c:], 0)
+    first = Machine(low, machine.finals[:c] + [0], machine.start, machine.unit)
+    return first, Machine(high, machine.finals[c:], 0, machine.unit)
 
 
 class Drawn(unittest.TestCase):
@@ -139,7 +139,7 @@ class Drawn(unittest.TestCase):
         machine = Machine.drawn(r, r.randint(c + 2, c + 5), r.randrange(14), spread, barred=r.choice([0, 4]))
         if r.randrange(6):
             cut = [(s, l, u, min(f, c) if s < c else f) for s, l, u, f in machine.links]
-            machine = Machine(cut, [None] * c + machine.finals[c:], min(machine.start, c))
+            machine = Machine(cut, [None] * c + machine.finals[c:], min(machine.start, c), machine.unit)
         return machine
 
     def test_drawn_machines(self):

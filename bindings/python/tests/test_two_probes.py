@@ -38,7 +38,7 @@ class ByHand(unittest.TestCase):
 
     def test_two_by_three(self):
         both = two_probes(Sheet.from_rows(FIRST), Sheet.from_rows(SECOND))
-        fields = [(link.source, link.ilabel, link.units, link.next) for link in both.links]
+        fields = [(link.source, link.ilabel, link.units(64), link.next) for link in both.links]
         self.assertEqual(fields, [(0, 7, 21, 4), (0, 7, 22, 4), (0, 8, 15, 5), (1, 7, 31, 5), (1, 7, 32, 5)])
         self.assertTrue(all(link.olabel == link.ilabel for link in both.links))
         self.assertEqual(both.finals, (None, None, None, None, 103 / 64, 203 / 64))
@@ -152,7 +152,7 @@ def judged(first, second):
     sums = [link[2] for link in links] + [units for units in finals if units is not None]
     if any(units != BARRED and abs(units) > WEIGHT_LIMIT for units in sums):
         return None
-    return Machine(links, finals, node(first.start, second.start))
+    return Machine(links, finals, node(first.start, second.start), first.unit)
 
 
 class Drawn(unittest.TestCase):
@@ -169,10 +169,14 @@ class Drawn(unittest.TestCase):
         return [([machine.links[l][1] for l in numbers], cost, end) for cost, numbers, end in machine.readings()]
 
     def test_drawn_pairs(self):
-        r, sums, listed = seeded(9), 0, 0
-        for turn in range(800):
+        r, units, sums, listed = seeded(9), 0, 0, 0
+        for turn in range(1600):
             spread = [1, 8, 4096, WEIGHT_LIMIT][turn % 4]
             first, second = self.drawn(r, spread), self.drawn(r, spread)
+            if first.count != second.count:
+                units += 1
+                self.assertEqual(refused(two_probes, first.sheet(), second.sheet()), Refusal.UNIT)
+                continue
             expected = judged(first, second)
             if expected is None:
                 sums += 1
@@ -183,6 +187,7 @@ class Drawn(unittest.TestCase):
             pairs = self.pairs(first, second)
             self.assertEqual(sorted(self.readings(expected)), pairs)
             listed += self.listed(both, pairs)
+        self.assertGreater(units, 100)
         self.assertGreater(sums, 100)
         self.assertGreater(listed, 1000)
 

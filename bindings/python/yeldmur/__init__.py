@@ -1,7 +1,8 @@
 """Distances and lists of the cheapest readings of a machine, the machine of what two both allow, and the two parts of
 one that narrows to a node, over Yeldmur's shared library.
 
-A *sheet* is a machine of nodes and links, as bytes. A *reading* is a run of links from its start to a final node;
+A *sheet* is a machine of nodes and links, as bytes. Its weights are whole numbers of a unit, 1/64, or 1/256 where its
+trailer says so. A *reading* is a run of links from its start to a final node;
 its cost is the sum of its weights and the final weight, and is finite: no reading goes over a link or ends at a node
 whose weight is `BARRED`, in rows `Infinity`. Of every sheet that it accepts, and for every n from 1 to 64, the
 library is proved to list as many readings as the smaller of n and the number of readings: each once, in order of
@@ -16,7 +17,7 @@ Python's numbers, is plain Python with tests.
 ...                            2 3 4 4 0.75
 ...                            3 0.5
 ... ''')
->>> distances(sheet)  # in sixty-fourths
+>>> distances(sheet)  # in the sheet's unit, here sixty-fourths
 [0, 64, 32, 80]
 >>> [(reading.cost, [link.ilabel for link in reading.links]) for reading in list_readings(sheet, 2)]
 [(112, [1, 3]), (112, [2, 4])]

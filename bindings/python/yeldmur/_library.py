@@ -46,6 +46,7 @@ _LONG = POINTER(c_uint64)
 TAKES = {
     "yeldmur_read_sheet": (*_READ,),
     "yeldmur_write_sheet": (*_WORDS, *_WORDS, Number, *_BYTES, _LONG),
+    "yeldmur_write_sheet_in": (*_WORDS, *_WORDS, Number, Number, *_BYTES, _LONG),
     "yeldmur_rows_to_sheet": (*_READ, *_BYTES, _LONG),
     "yeldmur_sheet_to_rows": (*_READ, *_BYTES, _LONG),
     "yeldmur_rows_sheet_bytes": (*_READ, _LONG),
@@ -60,6 +61,8 @@ TAKES = {
         *(*_WORDS, _TOLD, _COST, _TOLD),
     ),
     "yeldmur_distance": (*_READ, Number, Number, _TOLD, _COST),
+    "yeldmur_distance_in": (*_READ, Number, Number, Number, _TOLD, _COST),
+    "yeldmur_unit": (*_READ, _TOLD),
     "yeldmur_sheet_counts": (*_READ, _TOLD, _TOLD, _TOLD, _TOLD),
     "yeldmur_link": (*_READ, Number, _TOLD, _TOLD, _TOLD, _TOLD),
     "yeldmur_node": (*_READ, Number, _TOLD, _TOLD, _TOLD),

@@ -7,7 +7,7 @@ LINK_LIMIT = 16384
 """The most links of a sheet that is searched."""
 
 WEIGHT_LIMIT = 8192
-"""The most sixty-fourths of a weight, either way."""
+"""The most units of a weight, either way: 128 in sixty-fourths, 32 in 256ths."""
 
 LIST_LIMIT = 64
 """The most readings that a list is asked for."""

@@ -51,9 +51,9 @@ def split(sheet: Sheet, c: int) -> Parts:
 
     The first part has the nodes up to c and the links that leave those below c; c is final in it, at weight 0, and
     has no links. The second has the nodes from c on and their links, and starts at c; its nodes count from c, which
-    keeps its mark, weight and links there. Both keep the order of links. The machine narrows to c if c is one of its
-    nodes, the start is present and not above c, no node below c is final and no link leads from below c to above
-    it, reached or not, barred or not.
+    keeps its mark, weight and links there. Both keep the order of links and the sheet's trailer. The machine narrows
+    to c if c is one of its nodes, the start is present and not above c, no node below c is final and no link leads
+    from below c to above it, reached or not, barred or not.
 
     For every n from 1 to 64 the costs of the sheet's list are the n least sums of one cost from each part's list for
     n, or all of them where there are fewer.
@@ -70,14 +70,14 @@ second=Part(sheet=<Sheet: 2 nodes, 2 links, start 0>, numbers=range(2, 4)))
     >>> [reading.cost for reading in list_readings(whole, 2)]  # 32 + 48 and 64 + 48
     [80, 112]
     >>> parts.join(preheat[0], bake[0])
-    Reading(cost=80, numbers=(1, 2), end=2)
+    Reading(cost=80, unit=64, numbers=(1, 2), end=2)
     """
     c = min(c, raw.NONE)
     result = raw.byte_area(_enough(sheet))
     told = raw.split(sheet.bytes, c, result)
-    end = raw.sheet_size(c + 1, told.first)
+    end = raw.sheet_size(c + 1, told.first, sheet.trailer)
     begin = end + 4 * told.first
-    last = begin + raw.sheet_size(sheet.node_count - c, told.second)
+    last = begin + raw.sheet_size(sheet.node_count - c, told.second, sheet.trailer)
     # the words behind each part say the same numbers, as is proved
     first = Part(Sheet.read(result[:end]), range(told.first))
     second = Part(Sheet.read(result[begin:last]), range(told.first, told.first + told.second))
@@ -89,4 +89,4 @@ def _enough(sheet: Sheet) -> int:
     area is made for it."""
     if sheet.node_count > NODE_LIMIT or sheet.link_count > LINK_LIMIT:
         return 0
-    return raw.split_size(sheet.node_count, sheet.link_count)
+    return raw.split_size(sheet.node_count, sheet.link_count, sheet.trailer)

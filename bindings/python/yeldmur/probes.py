@@ -8,13 +8,14 @@ from .sheet import Sheet
 
 def two_probes(first: Sheet, second: Sheet) -> Sheet:
     """The sheet of what two sheets both allow, as two probes in one oven give two machines of the same bake.
-    Refusals 5 and 6 of the first sheet, then of the second, then 10 to 12.
+    Refusals 5 and 6 of the first sheet, then 14 where the second's unit is another, 5 and 6 of the second, then 10
+    to 12.
 
     Its node for node i of the first and j of the second is i times the second's number of nodes, plus j. It has a
     link for each link of the first and each of the second that has the same label, between their nodes and with
     the sum of their weights; a node's links stand by the first's number, then the second's. A node is final if
     both are, and the final weights add. What is added to `BARRED` is barred. There is no start where either sheet
-    has none.
+    has none. Its trailer is the first's.
 
     Its readings are the pairs of a reading of each sheet with the same labels, each pair once, and cost their sum.
     The searches accept it. The call takes some 390 KB of stack.
@@ -38,4 +39,4 @@ def _enough(first: Sheet, second: Sheet) -> int:
     so many bytes 21 cannot come."""
     nodes = min(first.node_count * second.node_count, NODE_LIMIT)
     links = min(first.link_count * second.link_count, LINK_LIMIT)
-    return raw.sheet_size(nodes, links)
+    return raw.sheet_size(nodes, links, first.trailer)

@@ -21,6 +21,12 @@ SLOT = 8
 NONE = 0xFFFFFFFF
 """The start of a sheet that has none."""
 
+SHORT_TRAILER = 20
+"""The bytes of the trailer that means unit 64."""
+
+LONG_TRAILER = 24
+"""The bytes of the trailer that states its unit, 64 or 256."""
+
 ByteArea = ctypes.Array[c_char]
 WordArea = ctypes.Array[c_uint32]
 Readable = Union[bytes, ByteArea]
@@ -42,14 +48,15 @@ def words(values: Iterable[int]) -> WordArea:
     return (c_uint32 * len(held)).from_buffer_copy(held)
 
 
-def sheet_size(nodes: int, links: int) -> int:
-    """The bytes of a sheet."""
-    return 16 * links + 12 * nodes + 20
+def sheet_size(nodes: int, links: int, trailer: int) -> int:
+    """The bytes of a sheet with a trailer of so many. An answer has the trailer of its sheet."""
+    return 16 * links + 12 * nodes + trailer
 
 
-def split_size(nodes: int, links: int) -> int:
-    """The bytes of both parts of a sheet, and of a word for each link, wherever the parts meet."""
-    return 20 * links + 12 * (nodes + 1) + 40
+def split_size(nodes: int, links: int, trailer: int) -> int:
+    """The bytes of both parts of a sheet with a trailer of so many, and of a word for each link, wherever the parts
+    meet."""
+    return 20 * links + 12 * (nodes + 1) + 2 * trailer
 
 
 class Needed(NamedTuple):
@@ -81,6 +88,7 @@ class Told(NamedTuple):
 
     links: int
     cost: int
+    """In the sheet's own unit."""
     end: int
 
 
@@ -111,16 +119,25 @@ class NodeFields(NamedTuple):
 
 
 def read_sheet(sheet: Readable) -> None:
-    """Tests bytes as a sheet: tests 1 to 4."""
+    """Tests bytes as a sheet: tests 1, 14 and 2 to 4."""
     library.yeldmur_read_sheet(sheet, len(sheet))
 
 
 def write_sheet(links: WordArea, nodes: WordArea, start: int, result: ByteArea) -> int:
-    """Writes a sheet and tells its bytes: tests 1 to 4, then 21. A link is four words (input label, output
-    label, weight bits, next node), a node three (link count, final mark, final weight bits)."""
+    """Writes a sheet of weights in sixty-fourths, with the shorter trailer, and tells its bytes: tests 1 to 4, then
+    21. A link is four words (input label, output label, weight bits, next node), a node three (link count, final
+    mark, final weight bits)."""
     size = c_uint64()
     areas = (links, len(links), nodes, len(nodes), start, result, len(result))
     library.yeldmur_write_sheet(*areas, byref(size))
+    return size.value
+
+
+def write_sheet_in(links: WordArea, nodes: WordArea, start: int, unit: int, result: ByteArea) -> int:
+    """The same with the longer trailer, of weights in this unit, 64 or 256: tests 1, 14, 2 to 4, then 21."""
+    size = c_uint64()
+    areas = (links, len(links), nodes, len(nodes), start, unit, result, len(result))
+    library.yeldmur_write_sheet_in(*areas, byref(size))
     return size.value
 
 
@@ -132,7 +149,8 @@ def rows_to_sheet(text: Readable, result: ByteArea) -> int:
 
 
 def sheet_to_rows(sheet: Readable, result: ByteArea) -> int:
-    """Turns a sheet into text rows and tells their bytes: tests 1 to 4, 9, then 21."""
+    """Turns a sheet into text rows and tells their bytes: tests 1, 14, 2 to 4, 9, then 21. One with the longer
+    trailer has none."""
     size = c_uint64()
     library.yeldmur_sheet_to_rows(sheet, len(sheet), result, len(result), byref(size))
     return size.value
@@ -146,14 +164,14 @@ def rows_sheet_bytes(text: Readable) -> int:
 
 
 def sheet_rows_bytes(sheet: Readable) -> int:
-    """The bytes of the text rows that a sheet gives: tests 1 to 4 and 9."""
+    """The bytes of the text rows that a sheet gives: tests 1, 14, 2 to 4 and 9."""
     size = c_uint64()
     library.yeldmur_sheet_rows_bytes(sheet, len(sheet), byref(size))
     return size.value
 
 
 def shortest_distance(sheet: Readable, work: WordArea, result: ByteArea) -> int:
-    """Writes the distances of a sheet's nodes and tells how many there are: tests 1 to 6, 20 and 21."""
+    """Writes the distances of a sheet's nodes and tells how many there are: tests 1, 14, 2 to 6, 20 and 21."""
     values = c_uint32()
     areas = (sheet, len(sheet), work, len(work), result, len(result))
     library.yeldmur_shortest_distance(*areas, byref(values))
@@ -161,7 +179,7 @@ def shortest_distance(sheet: Readable, work: WordArea, result: ByteArea) -> int:
 
 
 def shortest_path(sheet: Readable, n: int, work: WordArea, result: ByteArea) -> Listed:
-    """Writes the list of the n cheapest readings: tests 1 to 7, 20 and 21."""
+    """Writes the list of the n cheapest readings: tests 1, 14, 2 to 7, 20 and 21."""
     states, links, taken = c_uint32(), c_uint32(), c_uint32()
     areas = (sheet, len(sheet), n, work, len(work), result, len(result))
     library.yeldmur_shortest_path(*areas, byref(states), byref(links), byref(taken))
@@ -169,8 +187,9 @@ def shortest_path(sheet: Readable, n: int, work: WordArea, result: ByteArea) -> 
 
 
 def two_probes(first: Readable, second: Readable, result: ByteArea) -> int:
-    """Writes the sheet of what two sheets both allow and tells its bytes: tests 1 to 6 of the first sheet, 1 to 6
-    of the second, then 10, 11, 12 and 21. It takes some 390 KB of stack."""
+    """Writes the sheet of what two sheets both allow, with the first's trailer, and tells its bytes: tests 1, 14 and
+    2 to 6 of the first sheet, then the same of the second, of which 14 is also a unit other than the first's, then
+    10, 11, 12 and 21. It takes some 390 KB of stack."""
     size = c_uint64()
     areas = (first, len(first), second, len(second), result, len(result))
     library.yeldmur_two_probes(*areas, byref(size))
@@ -179,7 +198,7 @@ def two_probes(first: Readable, second: Readable, result: ByteArea) -> int:
 
 def split(sheet: Readable, c: int, result: ByteArea) -> Split:
     """Writes the two parts of a sheet at node c, each with a word for each of its links behind it, the number that
-    the link has in the whole: tests 1 to 6, then 13 and 21. `split_size` bytes are as many as there are."""
+    the link has in the whole: tests 1, 14, 2 to 6, then 13 and 21. `split_size` bytes are as many as there are."""
     first, second = c_uint32(), c_uint32()
     areas = (sheet, len(sheet), c, result, len(result))
     library.yeldmur_split(*areas, byref(first), byref(second))
@@ -196,7 +215,7 @@ def readings(result: Readable, n: int, states: int, links: int) -> int:
 def reading(
     sheet: Readable, n: int, result: Readable, states: int, links: int, k: int, run: WordArea
 ) -> Told:
-    """Reading k, from 0, of the result of a list of this sheet for n: tests 1 to 7, 30, 31, 30, then 21. `run`
+    """Reading k, from 0, of the result of a list of this sheet for n: tests 1, 14, 2 to 7, 30, 31, 30, then 21. `run`
     begins with the numbers of its links; `NODE_LIMIT` words are always enough."""
     count, cost, end = c_uint32(), c_int32(), c_uint32()
     given = (sheet, len(sheet), n, result, len(result), states, links, k)
@@ -206,14 +225,29 @@ def reading(
 
 def distance(result: Readable, values: int, node: int) -> Optional[int]:
     """The distance of a node in sixty-fourths, or None where it is unreached, from the result of
-    `shortest_distance`, which told `values`: tests 30, 31, 30."""
+    `shortest_distance` on a sheet of that unit, which told `values`: tests 30, 31, 30."""
     reached, cost = c_uint32(), c_int32()
     library.yeldmur_distance(result, len(result), values, node, byref(reached), byref(cost))
     return cost.value if reached.value else None
 
 
+def distance_in(result: Readable, values: int, node: int, unit: int) -> Optional[int]:
+    """The same in the unit of the sheet, which `unit` tells: tests 14, 30, 31, 30. The result does not say which it
+    is: with another unit the cost told is another."""
+    reached, cost = c_uint32(), c_int32()
+    library.yeldmur_distance_in(result, len(result), values, node, unit, byref(reached), byref(cost))
+    return cost.value if reached.value else None
+
+
+def unit(sheet: Readable) -> int:
+    """Reads a sheet, tests 1, 14 and 2 to 4, and tells how many of its units are 1: 64 or 256."""
+    told = c_uint32()
+    library.yeldmur_unit(sheet, len(sheet), byref(told))
+    return told.value
+
+
 def sheet_counts(sheet: Readable) -> Counts:
-    """Reads a sheet, tests 1 to 4, and tells its counts and its start."""
+    """Reads a sheet, tests 1, 14 and 2 to 4, and tells its counts and its start."""
     nodes, links, finals, start = c_uint32(), c_uint32(), c_uint32(), c_uint32()
     told = (byref(nodes), byref(links), byref(finals), byref(start))
     library.yeldmur_sheet_counts(sheet, len(sheet), *told)
@@ -221,7 +255,7 @@ def sheet_counts(sheet: Readable) -> Counts:
 
 
 def link(sheet: Readable, number: int) -> LinkFields:
-    """The fields of a link, of a sheet that has passed tests 1 to 4: 31 past the last."""
+    """The fields of a link, of a sheet that has been read: 31 past the last."""
     ilabel, olabel, bits, following = c_uint32(), c_uint32(), c_uint32(), c_uint32()
     told = (byref(ilabel), byref(olabel), byref(bits), byref(following))
     library.yeldmur_link(sheet, len(sheet), number, *told)
@@ -229,21 +263,22 @@ def link(sheet: Readable, number: int) -> LinkFields:
 
 
 def node(sheet: Readable, number: int) -> NodeFields:
-    """The fields of a node, of a sheet that has passed tests 1 to 4: 31 past the last."""
+    """The fields of a node, of a sheet that has been read: 31 past the last."""
     links, mark, bits = c_uint32(), c_uint32(), c_uint32()
     library.yeldmur_node(sheet, len(sheet), number, byref(links), byref(mark), byref(bits))
     return NodeFields(links.value, mark.value, bits.value)
 
 
 def areas(sheet: Readable, n: int) -> Needed:
-    """The areas that a list for n is made in: tests 1 to 7. Those for n = 1 are enough for distances, too."""
+    """The areas that a list for n is made in: tests 1, 14 and 2 to 7. Those for n = 1 are enough for distances, too."""
     slots, size = c_uint64(), c_uint64()
     library.yeldmur_areas(sheet, len(sheet), n, byref(slots), byref(size))
     return Needed(slots.value, size.value)
 
 
 def areas_of(nodes: int, links: int, finals: int, n: int) -> Needed:
-    """The same for every accepted sheet with at most so many nodes, links and final nodes: tests 5 and 7."""
+    """The same for every accepted sheet, with either trailer, of at most so many nodes, links and final nodes: tests 5
+    and 7."""
     slots, size = c_uint64(), c_uint64()
     library.yeldmur_areas_of(nodes, links, finals, n, byref(slots), byref(size))
     return Needed(slots.value, size.value)

@@ -3,7 +3,7 @@ from __future__ import annotations
 
 _WORDS = {
     1: "length, offsets, a count or offset too big for its field, marks, "
-    "an absent final's weight field or the sum of link counts is not as laid out",
+    "an absent final's weight field or the sum of link counts is not as laid out under either trailer",
     2: "start neither below N nor none",
     3: "next node not below N",
     4: "a weight off the grid",
@@ -16,6 +16,7 @@ _WORDS = {
     11: "a product above 2,048 nodes or 16,384 links",
     12: "a finite sum off the grid",
     13: "a machine that does not narrow to the node",
+    14: "a unit that is neither 64 nor 256, or two sheets of unequal unit",
     20: "work area shorter than needed",
     21: "result area shorter than this very answer",
     30: "a result that is no answer",
@@ -26,10 +27,10 @@ _WORDS = {
 class Refusal(Exception):
     """Why a call was refused: a number, here by name, and what it means in words.
 
-    Tests go by number over the whole sheet, so that a sheet with more than one fault gets the lowest;
-    8 alone, of a text, is tested before all others. Of two sheets all of the first's tests come before those of
-    the second, and 10 to 12 after both; 13, of a sheet and a node, comes after 6. N is the count of a sheet's
-    nodes, T that of its links.
+    Tests go by number over the whole sheet, so that a sheet with more than one fault gets the lowest; but 14 comes
+    right after 1, and 8, of a text, before all others. Of two sheets all of the first's tests come before those of
+    the second, and 10 to 12 after both; where their units are unequal, 14 is the second's. 13, of a sheet and a
+    node, comes after 6. N is the count of a sheet's nodes, T that of its links.
 
     >>> from yeldmur import Refusal, Sheet
     >>> try:
@@ -52,6 +53,7 @@ class Refusal(Exception):
     PRODUCT = 11
     SUM = 12
     NARROW = 13
+    UNIT = 14
     WORK = 20
     RESULT = 21
     NO_ANSWER = 30

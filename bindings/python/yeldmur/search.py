@@ -18,21 +18,30 @@ class Reading:
 
     sheet: Sheet = field(repr=False)
     cost: int
-    """What it costs, in sixty-fourths: the sum of the weights of its links and of the final weight."""
+    """What it costs, in the sheet's own unit: the sum of the weights of its links and of the final weight. Costs of
+    sheets of two units are compared by `cost_decimal`."""
     numbers: tuple[int, ...]
     """The numbers of its links in the sheet, from the start on. There may be none."""
     end: int
     """The node where it ends."""
 
     @property
+    def unit(self) -> int:
+        """How many units of the cost are 1: 64 or 256."""
+        return self.sheet.unit
+
+    @property
     def cost_decimal(self) -> Decimal:
         """The cost as an exact decimal."""
-        return decimal(self.cost)
+        return decimal(self.cost, self.unit)
 
     @property
     def links(self) -> tuple[Link, ...]:
         """Its links as the sheet has them, from the start on. There may be none."""
         return tuple(self.sheet.link(number) for number in self.numbers)
+
+    def __repr__(self) -> str:
+        return f"Reading(cost={self.cost}, unit={self.unit}, numbers={self.numbers}, end={self.end})"
 
 
 @dataclass(frozen=True)
@@ -81,8 +90,8 @@ class Areas:
         """As `yeldmur.distances`, in these areas."""
         # n = 1 needs the same slots, and its result has more bytes for each node than a distance
         self._fit(sheet, 1)
-        values = raw.shortest_distance(sheet.bytes, self._work, self._result)
-        return [raw.distance(self._result, values, node) for node in range(values)]
+        values, unit = raw.shortest_distance(sheet.bytes, self._work, self._result), sheet.unit
+        return [raw.distance_in(self._result, values, node, unit) for node in range(values)]
 
     def _reading(self, sheet: Sheet, n: int, listed: raw.Listed, k: int) -> Reading:
         counts = (listed.states, listed.links)
@@ -114,11 +123,19 @@ def list_readings(sheet: Sheet, n: int) -> List:
     11
     >>> for reading in listed:
     ...     print(reading)
-    Reading(cost=112, numbers=(0, 2), end=3)
-    Reading(cost=112, numbers=(1, 4), end=3)
-    Reading(cost=144, numbers=(0, 3, 4), end=3)
+    Reading(cost=112, unit=64, numbers=(0, 2), end=3)
+    Reading(cost=112, unit=64, numbers=(1, 4), end=3)
+    Reading(cost=144, unit=64, numbers=(0, 3, 4), end=3)
     >>> print(listed[2].cost_decimal, [link.ilabel for link in listed[2].links])
     2.25 [1, 5, 4]
+
+    Costs are in the sheet's own unit.
+
+    >>> finer = Sheet.write(sheet.links, sheet.finals, sheet.start, unit=256)
+    >>> for reading in list_readings(finer, 2):
+    ...     print(reading, reading.cost_decimal)
+    Reading(cost=448, unit=256, numbers=(0, 2), end=3) 1.75
+    Reading(cost=448, unit=256, numbers=(1, 4), end=3) 1.75
     """
     return Areas().list_readings(sheet, n)
 
@@ -127,7 +144,7 @@ def best(sheet: Sheet) -> Optional[Reading]:
     """The cheapest reading of a sheet, or None where it has none. Refusals 5 and 6.
 
     >>> best(Sheet.from_rows("0 1 1 1 0.5\\n1 -0.25\\n"))
-    Reading(cost=16, numbers=(0,), end=1)
+    Reading(cost=16, unit=64, numbers=(0,), end=1)
     >>> best(Sheet.from_rows("0 1 1 1 0.5\\n")) is None
     True
     """
@@ -135,7 +152,7 @@ def best(sheet: Sheet) -> Optional[Reading]:
 
 
 def distances(sheet: Sheet) -> list[Optional[int]]:
-    """The distances of a sheet's nodes in sixty-fourths: one value per node, None for an unreached one, up to the
+    """The distances of a sheet's nodes in its own unit: one value per node, None for an unreached one, up to the
     highest node that is reached or that a link from a reached node leads to. The two differ where that link is
     barred: it reaches nothing. Without a start there are no values. Refusals 5 and 6.
 
@@ -143,5 +160,7 @@ def distances(sheet: Sheet) -> list[Optional[int]]:
     [0, None, 32]
     >>> distances(Sheet.from_rows("0 2 1 1 0.5\\n0 3 1 1 Infinity\\n"))
     [0, None, 32, None]
+    >>> distances(Sheet.write([(0, 1, 1, 1 / 256, 1)], [None, 0], 0, unit=256))
+    [0, 1]
     """
     return Areas().distances(sheet)

@@ -1,4 +1,4 @@
-"""Sheets: machines of nodes and links, as bytes that have passed tests 1 to 4."""
+"""Sheets: machines of nodes and links, as bytes that have passed tests 1, 14 and 2 to 4."""
 from __future__ import annotations
 
 from bisect import bisect_right
@@ -22,14 +22,13 @@ class Link(NamedTuple):
     weight: float
     next: int
 
-    @property
-    def units(self) -> Optional[int]:
-        """The weight in sixty-fourths, or None where it is barred."""
-        return units_of(self.weight)
+    def units(self, unit: int) -> Optional[int]:
+        """The weight in the unit of its sheet, or None where it is barred."""
+        return units_of(self.weight, unit)
 
 
 class Sheet:
-    """A sheet that has passed tests 1 to 4. Its nodes and links are numbered from 0.
+    """A sheet that has passed tests 1, 14 and 2 to 4. Its nodes and links are numbered from 0.
 
     A sheet need not climb and may be larger than a search accepts: the searches test that. Two sheets are
     equal where their bytes are.
@@ -43,6 +42,16 @@ class Sheet:
     (None, 0.25)
     >>> Sheet.write(sheet.links, sheet.finals, sheet.start) == Sheet.read(sheet.bytes) == sheet
     True
+
+    Its weights are in sixty-fourths. One with a longer trailer states its unit, which is 64 or 256.
+
+    >>> finer = Sheet.write([(0, 7, 8, 1 / 256, 1)], [None, -32], 0, unit=256)
+    >>> finer
+    <Sheet: 2 nodes, 1 link, start 0, unit 256>
+    >>> (sheet.unit, sheet.stated_unit), (finer.unit, finer.stated_unit)
+    ((64, None), (256, 256))
+    >>> Sheet.write(finer.links, finer.finals, finer.start, finer.stated_unit) == finer
+    True
     """
 
     def __init__(self, data: Data) -> None:
@@ -51,12 +60,12 @@ class Sheet:
 
     @classmethod
     def read(cls, data: Data) -> Sheet:
-        """Takes bytes that are laid out as a sheet. Refusals 1 to 4."""
+        """Takes bytes that are laid out as a sheet. Refusals 1, 14 and 2 to 4."""
         return cls(data)
 
     @classmethod
     def from_rows(cls, text: Union[str, Data]) -> Sheet:
-        """The sheet that text rows give. Refusals 8, then 1 and 4.
+        """The sheet that text rows give, of unit 64 and with the shorter trailer. Refusals 8, then 1 and 4.
 
         A row is a link, by its source, next node, input label, output label and weight, or a final node with
         its weight; a weight that is left out is 0. The first row's first node is the start. Spaces and tabs
@@ -76,22 +85,34 @@ class Sheet:
 
     @classmethod
     def write(
-        cls, links: Iterable[Fields], finals: Iterable[Optional[Weight]], start: Optional[int]
+        cls,
+        links: Iterable[Fields],
+        finals: Iterable[Optional[Weight]],
+        start: Optional[int],
+        unit: Optional[int] = None,
     ) -> Sheet:
         """Writes a sheet: its links, a final weight or None for each node, and the start or None. Refusals 1 to 4.
 
+        Without a unit its weights are in sixty-fourths and its trailer is the shorter. With one, 64 or 256, the
+        trailer is the longer, which states it, and refusal 14, of any other, comes right after 1.
+
         A link is a `Link`, or five values in its order. Links may come in any order of their sources; in the
         sheet they stand by source, and those of one node in the order given. A source that is no node is
-        refusal 1, since no node counts that link. Weights are taken exactly: any other number than k/64 for a
-        whole k up to 8,192 either way, or `BARRED`, is refusal 4. A label or a next node that does not fit 32
-        bits is an `OverflowError`.
+        refusal 1, since no node counts that link. Weights are taken exactly: any other number than k/64, or k/256
+        with that unit, for a whole k up to 8,192 either way, or `BARRED`, is refusal 4. A label or a next node that
+        does not fit 32 bits is an `OverflowError`.
         """
         ordered = sorted(links, key=lambda link: link[0])
         weights = list(finals)
         # the word for none is no node's number: moved down it is refused as any other start that is no node
         first = raw.NONE if start is None else min(start, raw.NONE - 1)
-        result = raw.byte_area(raw.sheet_size(len(weights), len(ordered)))
-        raw.write_sheet(_link_words(ordered), _node_words(ordered, weights), first, result)
+        words = _link_words(ordered), _node_words(ordered, weights)
+        if unit is None:
+            result = raw.byte_area(raw.sheet_size(len(weights), len(ordered), raw.SHORT_TRAILER))
+            raw.write_sheet(*words, first, result)
+        else:
+            result = raw.byte_area(raw.sheet_size(len(weights), len(ordered), raw.LONG_TRAILER))
+            raw.write_sheet_in(*words, first, min(unit, raw.NONE), result)
         return cls(result.raw)
 
     @property
@@ -120,6 +141,21 @@ class Sheet:
         return None if self._counts.start == raw.NONE else self._counts.start
 
     @cached_property
+    def unit(self) -> int:
+        """How many of the units in which its weights and costs are counted are 1: 64 or 256."""
+        return raw.unit(self._bytes)
+
+    @property
+    def trailer(self) -> int:
+        """The bytes of its trailer: 24 where it states its unit, or 20, which means 64."""
+        return len(self._bytes) - raw.sheet_size(self.node_count, self.link_count, 0)
+
+    @property
+    def stated_unit(self) -> Optional[int]:
+        """The unit that its trailer states, or None where that is the shorter: as `write` takes it."""
+        return None if self.trailer == raw.SHORT_TRAILER else self.unit
+
+    @cached_property
     def links(self) -> tuple[Link, ...]:
         """The links, in the order of their numbers."""
         return tuple(self.link(number) for number in range(self.link_count))
@@ -135,7 +171,8 @@ class Sheet:
         return Link(self._source(number), ilabel, olabel, weight_of(bits), following)
 
     def rows(self) -> str:
-        """The text rows of the sheet, which convert to that very sheet. Refusal 9 where it has none.
+        """The text rows of the sheet, which convert to that very sheet. Refusal 9 where it has none, as one with the
+        longer trailer.
 
         >>> print(Sheet.from_rows(" 2  0  7 7  -01.50\\n0\\n2 0\\n").rows().expandtabs(4), end="")
         2   0   7   7   -1.5
@@ -170,7 +207,8 @@ class Sheet:
     def __repr__(self) -> str:
         links = "1 link" if self.link_count == 1 else f"{self.link_count} links"
         nodes = "1 node" if self.node_count == 1 else f"{self.node_count} nodes"
-        return f"<Sheet: {nodes}, {links}, start {self.start}>"
+        unit = "" if self.stated_unit is None else f", unit {self.unit}"
+        return f"<Sheet: {nodes}, {links}, start {self.start}{unit}>"
 
 
 def _held(data: Data) -> Data:

@@ -1,4 +1,6 @@
-"""Weights and costs as numbers. A weight is k/64 for a whole k, which Python's float holds exactly, or infinity."""
+"""Weights and costs as numbers. A weight is k/64 for a whole k, or k/256 in a sheet of that unit, which Python's float
+holds exactly, or infinity. What takes or gives a number of units takes the unit, too, 64 or 256: how many of them
+are 1."""
 from __future__ import annotations
 
 import math
@@ -16,18 +18,24 @@ link or ends at such a node."""
 _NAN = 0x7FC00000
 
 
-def decimal(units: int) -> Decimal:
-    """Sixty-fourths as an exact decimal.
+def decimal(units: int, unit: int) -> Decimal:
+    """So many units as an exact decimal.
 
-    >>> print(decimal(112), decimal(-1))
-    1.75 -0.015625
+    >>> print(decimal(112, 64), decimal(448, 256), decimal(-1, 64), decimal(1, 256))
+    1.75 1.75 -0.015625 0.00390625
     """
-    return Decimal(units / 64)
+    return Decimal(units / unit)
 
 
-def units_of(weight: float) -> Optional[int]:
-    """A weight in sixty-fourths; None for `BARRED`, which is not to be taken for a number of them."""
-    return None if weight == BARRED else int(weight * 64)
+def units_of(weight: float, unit: int) -> Optional[int]:
+    """A weight in units; None for `BARRED`, which is not to be taken for a number of them. A weight of the finer unit
+    that is no whole number of the other is a `ValueError`."""
+    if weight == BARRED:
+        return None
+    units = int(weight * unit)
+    if units != weight * unit:
+        raise ValueError(f"{weight} is no whole number of units of 1/{unit}")
+    return units
 
 
 def weight_of(bits: int) -> float:

@@ -1,7 +1,8 @@
-//! The eighteen functions of the static library. All that is `unsafe` in this crate stands here: each slice goes over as
+//! The twenty-one functions of the static library. All that is `unsafe` in this crate stands here: each slice goes over as
 //! its pointer and its length, each number to be told as a pointer. The functions have no requirements; that they stay inside the
 //! slices is proved, and so is every value that they leave there. A function returns 0 or the number of the refusal,
-//! and with a refusal the numbers to be told keep their values.
+//! and with a refusal the numbers to be told keep their values. Where tests 1 to 4, 1 to 6 or 1 to 7 are named, 14 is among them, right
+//! after 1.
 #![allow(unsafe_code)]
 
 #[cfg(not(all(target_arch = "x86_64", target_os = "linux")))]
@@ -19,6 +20,18 @@ extern "C" {
         result_bytes: usize,
         size: *mut u64,
     ) -> u32;
+    fn yeldmur_write_sheet_in(
+        links: *const u32,
+        links_words: usize,
+        nodes: *const u32,
+        nodes_words: usize,
+        start: u32,
+        unit: u32,
+        result: *mut u8,
+        result_bytes: usize,
+        size: *mut u64,
+    ) -> u32;
+    fn yeldmur_unit(sheet: *const u8, sheet_bytes: usize, unit: *mut u32) -> u32;
     fn yeldmur_shortest_distance(
         sheet: *const u8,
         sheet_bytes: usize,
@@ -120,6 +133,15 @@ extern "C" {
         reached: *mut u32,
         cost: *mut i32,
     ) -> u32;
+    fn yeldmur_distance_in(
+        result: *const u8,
+        result_bytes: usize,
+        values: u32,
+        node: u32,
+        unit: u32,
+        reached: *mut u32,
+        cost: *mut i32,
+    ) -> u32;
     fn yeldmur_sheet_counts(
         sheet: *const u8,
         sheet_bytes: usize,
@@ -153,7 +175,7 @@ pub fn read_sheet(sheet: &[u8]) -> u32 {
     unsafe { yeldmur_read_sheet(sheet.as_ptr(), sheet.len()) }
 }
 
-/// Writes a sheet of links, four words each, and nodes, three words each: tests 1 to 4, then 21.
+/// Writes a sheet with the shorter trailer, of links, four words each, and nodes, three words each: tests 1 to 4, then 21.
 pub fn write_sheet(
     links: &[u32],
     nodes: &[u32],
@@ -175,6 +197,39 @@ pub fn write_sheet(
             size,
         )
     }
+}
+
+/// The same with the longer trailer, which says the unit: tests 1 to 4, where 14 is another unit than 64 and 256, then 21.
+pub fn write_sheet_in(
+    links: &[u32],
+    nodes: &[u32],
+    start: u32,
+    unit: u32,
+    result: &mut [u8],
+    size: &mut u64,
+) -> u32 {
+    // SAFETY: each pointer and length are of one slice, lent for the call; the two that are written to,
+    // `result` and `size`, are lent mutably, so that they overlap nothing.
+    unsafe {
+        yeldmur_write_sheet_in(
+            links.as_ptr(),
+            links.len(),
+            nodes.as_ptr(),
+            nodes.len(),
+            start,
+            unit,
+            result.as_mut_ptr(),
+            result.len(),
+            size,
+        )
+    }
+}
+
+/// The unit of a sheet, 64 or 256: tests 1 to 4.
+pub fn unit(sheet: &[u8], unit: &mut u32) -> u32 {
+    // SAFETY: the pointer and the length are of one slice, lent for the call, that is only read; `unit`,
+    // which is written to, is lent mutably, so that it overlaps nothing.
+    unsafe { yeldmur_unit(sheet.as_ptr(), sheet.len(), unit) }
 }
 
 /// The distances of a sheet's nodes: tests 1 to 6, 20 and 21.
@@ -234,7 +289,7 @@ pub fn areas(sheet: &[u8], n: u32, slots: &mut u64, bytes: &mut u64) -> u32 {
     unsafe { yeldmur_areas(sheet.as_ptr(), sheet.len(), n, slots, bytes) }
 }
 
-/// The same for every accepted sheet with at most so many nodes, links and final nodes: tests 5 and 7 of these counts.
+/// The same for every accepted sheet, of either trailer, with at most so many nodes, links and final nodes: tests 5 and 7 of these counts.
 pub fn areas_of(
     nodes: u32,
     links: u32,
@@ -247,7 +302,7 @@ pub fn areas_of(
     unsafe { yeldmur_areas_of(nodes, links, finals, n, slots, bytes) }
 }
 
-/// Turns text rows into a sheet: tests 8, 1, 4, then 21.
+/// Turns text rows into a sheet with the shorter trailer: tests 8, 1, 4, then 21.
 pub fn rows_to_sheet(text: &[u8], result: &mut [u8], size: &mut u64) -> u32 {
     // SAFETY: each pointer and length are of one slice, lent for the call; the two that are written to,
     // `result` and `size`, are lent mutably, so that they overlap nothing.
@@ -291,7 +346,8 @@ pub fn sheet_rows_bytes(sheet: &[u8], bytes: &mut u64) -> u32 {
     unsafe { yeldmur_sheet_rows_bytes(sheet.as_ptr(), sheet.len(), bytes) }
 }
 
-/// Writes the sheet of what two sheets both allow: tests 1 to 6 of the first, 1 to 6 of the second, then 10, 11, 12 and 21.
+/// Writes the sheet of what two sheets both allow: tests 1 to 6 of the first, 1 to 6 of the second, whose 14 is also that its unit is
+/// not the first's, then 10, 11, 12 and 21.
 pub fn two_probes(first: &[u8], second: &[u8], result: &mut [u8], size: &mut u64) -> u32 {
     // SAFETY: each pointer and length are of one slice, lent for the call; the two that are written to, `result` and
     // `size`, are lent mutably, so that they overlap nothing. The two sheets are only read, and may be one.
@@ -368,11 +424,35 @@ pub fn reading(
     }
 }
 
-/// The distance of a node, from the result of the call for distances, which told `values`: tests 30, 31, then 30.
+/// The distance of a node in sixty-fourths, from the result of the call for distances, which told `values`: tests 30, 31, then 30.
 pub fn distance(result: &[u8], values: u32, node: u32, reached: &mut u32, cost: &mut i32) -> u32 {
     // SAFETY: the pointer and the length are of one slice, lent for the call, that is only read; `reached`
     // and `cost`, which are written to, are lent mutably, so that they overlap nothing.
     unsafe { yeldmur_distance(result.as_ptr(), result.len(), values, node, reached, cost) }
+}
+
+/// The same in this unit, the sheet's own: tests 14 for another than 64 and 256, then 30, 31 and 30.
+pub fn distance_in(
+    result: &[u8],
+    values: u32,
+    node: u32,
+    unit: u32,
+    reached: &mut u32,
+    cost: &mut i32,
+) -> u32 {
+    // SAFETY: the pointer and the length are of one slice, lent for the call, that is only read; `reached`
+    // and `cost`, which are written to, are lent mutably, so that they overlap nothing.
+    unsafe {
+        yeldmur_distance_in(
+            result.as_ptr(),
+            result.len(),
+            values,
+            node,
+            unit,
+            reached,
+            cost,
+        )
+    }
 }
 
 /// The counts of a sheet, of nodes, links and final nodes, and its start: tests 1 to 4.

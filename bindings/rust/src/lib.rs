@@ -45,6 +45,25 @@
 //! # }
 //! ```
 //!
+//! Old controllers score events in 1/64, new ones in 1/256. A sheet's longer trailer says its [`Unit`]; with the shorter it is 1/64. Costs are
+//! whole numbers of the sheet's own unit, and [`Reading::cost_with_unit`] has both, so that costs of either kind compare and are shown as they are.
+//!
+//! ```
+//! use yeldmur::{list, Link, Refusal, Sheet, Unit};
+//!
+//! # fn main() -> Result<(), Refusal> {
+//! let link = Link { source: 0, ilabel: 7, olabel: 7, weight: 1.75, next: 1 };
+//! let old = Sheet::write(&[link], &[None, Some(0.0)], Some(0))?;
+//! let new = Sheet::write_in(&[link], &[None, Some(0.0)], Some(0), Unit::Of256)?;
+//! let (old, new) = (list(&old, 1)?, list(&new, 1)?);
+//! let (old, new) = (old.reading(0).unwrap(), new.reading(0).unwrap());
+//! assert_eq!((old.cost(), new.cost()), (112, 448)); // in 64ths, in 256ths
+//! assert_eq!(old.cost_with_unit(), new.cost_with_unit());
+//! assert_eq!(new.cost_with_unit().to_string(), "1.75");
+//! # Ok(())
+//! # }
+//! ```
+//!
 //! Two sheets of the same bake give the sheet of what both allow, by [`two_probes`]: its readings are the pairs of readings with the same
 //! labels, and cost their sum. A sheet that narrows to a node, as where preheat ends, has two parts, by [`split`]: the costs of the whole's
 //! list are the least sums of one cost from each part's.
@@ -79,13 +98,14 @@ mod rows;
 mod sheet;
 mod units;
 
+pub use layout::Trailer;
 pub use limits::{LINK_LIMIT, LIST_LIMIT, NODE_LIMIT, WEIGHT_LIMIT};
 pub use list::{distances, list, Areas, List, Reading};
 pub use parts::{split, Part, Parts};
 pub use probes::two_probes;
 pub use refusal::Refusal;
 pub use sheet::{Link, Sheet};
-pub use units::{units, BARRED};
+pub use units::{units, Cost, Unit, BARRED};
 
 // has the examples in both README.md files run as tests
 #[cfg(doctest)]

@@ -6,7 +6,7 @@ use std::fmt;
 
 use crate::raw::{self, Listed, ReadBack};
 use crate::units::weight;
-use crate::{Link, Refusal, Sheet};
+use crate::{Cost, Link, Refusal, Sheet};
 
 /// The distances of a sheet's nodes: one value per node, `None` for an unreached one, up to the highest node that is reached or that a
 /// link from a reached node leads to. The two differ where that link is barred: it reaches nothing. Without a start there are no values.
@@ -25,7 +25,7 @@ pub fn list(sheet: &Sheet, n: u32) -> Result<List<'_>, Refusal> {
     let mut areas = Areas::new();
     let listed = areas.make(sheet, n)?;
     let mut result = areas.result;
-    result.truncate(listed.result_len());
+    result.truncate(listed.result_len(sheet.trailer()));
     result.shrink_to_fit();
     Ok(List {
         sheet,
@@ -68,7 +68,7 @@ impl Areas {
         Ok(List {
             sheet,
             listed,
-            result: Cow::Borrowed(&self.result[..listed.result_len()]),
+            result: Cow::Borrowed(&self.result[..listed.result_len(sheet.trailer())]),
             read: Cow::Borrowed(&self.read),
         })
     }
@@ -79,8 +79,9 @@ impl Areas {
         let count = raw::shortest_distance(sheet.bytes(), &mut self.work, &mut self.result)?;
         self.values.clear();
         for node in 0..count {
-            let cost = raw::distance(&self.result, count, node)?;
-            self.values.push(cost.map(weight));
+            let cost = raw::distance_in(&self.result, count, node, sheet.unit())?;
+            self.values
+                .push(cost.map(|cost| weight(cost, sheet.unit())));
         }
         Ok(())
     }
@@ -189,9 +190,10 @@ impl List<'_> {
         Some(self.reading_of(told))
     }
 
-    /// The machine that holds the readings, laid out as a sheet. [`Sheet::read`] takes it; its links do not climb.
+    /// The machine that holds the readings, laid out as a sheet, with the trailer of the sheet that is listed. [`Sheet::read`] takes it; its
+    /// links do not climb.
     pub fn machine(&self) -> &[u8] {
-        &self.result[..self.listed.machine_len()]
+        &self.result[..self.listed.machine_len(self.sheet.trailer())]
     }
 
     /// The whole answer: the bytes of the machine, then a word for each link of it.
@@ -226,9 +228,18 @@ pub struct Reading<'a> {
 }
 
 impl<'a> Reading<'a> {
-    /// What it costs, in sixty-fourths: the sum of the weights of its links and of the final weight.
+    /// What it costs, in the sheet's own unit: the sum of the weights of its links and of the final weight. Readings of sheets in different
+    /// units compare by [`cost_with_unit`](Reading::cost_with_unit).
     pub fn cost(&self) -> i32 {
         self.told.cost
+    }
+
+    /// The same with the unit. It is shown as a decimal number, exactly.
+    pub fn cost_with_unit(&self) -> Cost {
+        Cost {
+            units: self.told.cost,
+            unit: self.sheet.unit(),
+        }
     }
 
     /// The node where it ends, a final one.

@@ -63,7 +63,7 @@ impl Parts {
 ///
 /// The first part has the nodes up to c and the links that leave those below c; c is final in it, at weight 0, and has no links. The
 /// second has the nodes from c on and their links, and starts at c; its nodes count from c, which keeps its mark, weight and links there.
-/// Both keep the order of links. The machine narrows to c if c is one of its nodes, the start is present and not above c, no node below c is
+/// Both keep the order of links and the sheet's trailer. The machine narrows to c if c is one of its nodes, the start is present and not above c, no node below c is
 /// final and no link leads from below c to above it, reached or not, barred or not.
 ///
 /// For every n from 1 to 64 the costs of the sheet's list are the n least sums of one cost from each part's list for n, or all of them where
@@ -89,8 +89,9 @@ impl Parts {
 pub fn split(sheet: &Sheet, c: u32) -> Result<Parts, Refusal> {
     let mut area = vec![0; enough(sheet)];
     let told = raw::split(sheet.bytes(), c, &mut area)?;
-    let (end, from) = (told.first_len(c), told.second_at(c));
-    let last = from + told.second_len(sheet.node_count(), c);
+    let trailer = sheet.trailer();
+    let (end, from) = (told.first_len(c, trailer), told.second_at(c, trailer));
+    let last = from + told.second_len(sheet.node_count(), c, trailer);
     // the words behind each part say the same numbers, as is proved
     Ok(Parts {
         first: Part {
@@ -110,5 +111,5 @@ fn enough(sheet: &Sheet) -> usize {
     if nodes > NODE_LIMIT || links > LINK_LIMIT {
         return 0;
     }
-    raw::split_len(nodes, links)
+    raw::split_len(nodes, links, sheet.trailer())
 }

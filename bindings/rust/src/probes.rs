@@ -1,12 +1,12 @@
 //! The sheet of what two sheets both allow.
 #![forbid(unsafe_code)]
 
-use crate::layout::{LINK, NODE, TRAILER};
+use crate::layout::sheet_len;
 use crate::raw;
 use crate::{Refusal, Sheet, LINK_LIMIT, NODE_LIMIT};
 
 /// The sheet of what two sheets both allow, as two probes in one oven give two machines of the same bake. Refusals 5 and 6 of the first
-/// sheet, then of the second, then 10 to 12.
+/// sheet, then 14 where the second's unit is not the first's, 5 and 6 of the second, then 10 to 12. It has the first's trailer.
 ///
 /// Its node for node i of the first and j of the second is i × N + j, by the second's N. It has a link for each link of the first and
 /// each of the second that has the same label, between their nodes and with the sum of their weights; a node's links stand by the first's
@@ -47,5 +47,5 @@ fn enough(first: &Sheet, second: &Sheet) -> usize {
     };
     let nodes = most(first.node_count(), second.node_count(), NODE_LIMIT);
     let links = most(first.link_count(), second.link_count(), LINK_LIMIT);
-    LINK * links + NODE * nodes + TRAILER
+    sheet_len(nodes, links, first.trailer())
 }

@@ -1,13 +1,15 @@
 //! The library's own calls, in areas that the caller lends. Each tests all that it is given and relies on no
 //! earlier call, so that any bytes may be handed over.
 //!
+//! Where tests 1 to 4, 1 to 6 or 1 to 7 are named, 14 is among them, right after 1.
+//!
 //! With refusals 1 to 20 no lent area changes. From then on, 21 included, the work slots needed are left zero and
 //! those beyond keep their value. With 21 the result area keeps its bytes, and bytes past an answer keep their value.
 #![forbid(unsafe_code)]
 
 use crate::ffi;
-use crate::layout::{unless_none, LINK, NODE, TRAILER};
-use crate::Refusal;
+use crate::layout::{sheet_len, unless_none, LINK, NODE, WORD};
+use crate::{Refusal, Trailer, Unit};
 
 /// The 32-bit words of a slot of the work area.
 pub const SLOT: usize = 8;
@@ -40,18 +42,19 @@ pub struct Listed {
 }
 
 impl Listed {
-    /// The bytes of the machine, which stands first in the result.
-    pub fn machine_len(&self) -> usize {
-        LINK * self.links as usize + NODE * self.states as usize + TRAILER
+    /// The bytes of the machine, which stands first in the result. It has the trailer of the sheet that is listed.
+    pub fn machine_len(&self, trailer: Trailer) -> usize {
+        sheet_len(self.states as usize, self.links as usize, trailer)
     }
 
     /// The bytes of the whole answer: the machine, then a word for each of its links.
-    pub fn result_len(&self) -> usize {
-        self.machine_len() + 4 * self.links as usize
+    pub fn result_len(&self, trailer: Trailer) -> usize {
+        self.machine_len(trailer) + WORD * self.links as usize
     }
 }
 
-/// What the call for two parts tells besides the bytes of the result.
+/// What the call for two parts tells besides the bytes of the result. Where the parts stand there follows from it, from the node where
+/// the sheet was parted and from the sheet's trailer, which both parts have.
 #[derive(Clone, Copy, Debug, PartialEq, Eq)]
 pub struct Split {
     /// The links of the first part.
@@ -62,24 +65,25 @@ pub struct Split {
 
 impl Split {
     /// The bytes of the first part's sheet, which stands first in the result, where the sheet was parted at node c.
-    pub fn first_len(&self, c: u32) -> usize {
-        LINK * self.first as usize + NODE * (c as usize + 1) + TRAILER
+    pub fn first_len(&self, c: u32, trailer: Trailer) -> usize {
+        sheet_len(c as usize + 1, self.first as usize, trailer)
     }
 
     /// Where the second part's sheet begins: behind the first's, and a word for each link of it.
-    pub fn second_at(&self, c: u32) -> usize {
-        self.first_len(c) + 4 * self.first as usize
+    pub fn second_at(&self, c: u32, trailer: Trailer) -> usize {
+        self.first_len(c, trailer) + WORD * self.first as usize
     }
 
     /// The bytes of the second part's sheet, where the whole has so many nodes. A word for each link of it follows.
-    pub fn second_len(&self, nodes: u32, c: u32) -> usize {
-        LINK * self.second as usize + NODE * (nodes - c) as usize + TRAILER
+    pub fn second_len(&self, nodes: u32, c: u32, trailer: Trailer) -> usize {
+        sheet_len((nodes - c) as usize, self.second as usize, trailer)
     }
 }
 
-/// The bytes of both parts of a sheet with so many nodes and links, and of their words: 20 a link, 12 a node and 52, whatever c is.
-pub fn split_len(nodes: u32, links: u32) -> usize {
-    (LINK + 4) * links as usize + NODE * (nodes as usize + 1) + 2 * TRAILER
+/// The bytes of both parts of a sheet with so many nodes and links and this trailer, and of their words: 20 a link, 12 a node, 12 and two
+/// trailers, whatever c is. Those of the longer trailer are enough for a sheet of either.
+pub fn split_len(nodes: u32, links: u32, trailer: Trailer) -> usize {
+    (LINK + WORD) * links as usize + NODE * (nodes as usize + 1) + 2 * trailer.bytes()
 }
 
 /// What is told of a reading besides the numbers of its links.
@@ -87,7 +91,7 @@ pub fn split_len(nodes: u32, links: u32) -> usize {
 pub struct ReadBack {
     /// How many links it has: their numbers stand first in the run.
     pub links: usize,
-    /// What it costs, in sixty-fourths.
+    /// What it costs, in the sheet's own unit.
     pub cost: i32,
     /// The node where it ends.
     pub end: u32,
@@ -106,6 +110,18 @@ pub struct Counts {
     pub start: Option<u32>,
 }
 
+impl Counts {
+    /// The trailer of a sheet of so many bytes that has these counts.
+    pub fn trailer(&self, sheet_bytes: usize) -> Trailer {
+        let long = sheet_len(self.nodes as usize, self.links as usize, Trailer::Long);
+        if sheet_bytes == long {
+            Trailer::Long
+        } else {
+            Trailer::Short
+        }
+    }
+}
+
 fn told(number: u32) -> Result<(), Refusal> {
     if number == 0 {
         return Ok(());
@@ -118,9 +134,9 @@ pub fn read_sheet(sheet: &[u8]) -> Result<(), Refusal> {
     told(ffi::read_sheet(sheet))
 }
 
-/// Writes a sheet and tells its length: tests 1 to 4, then 21. A link is four words, as a sheet has them: input label,
-/// output label, weight bits, next node. A node is three: link count, final mark, final weight bits. The weight bits of what is
-/// barred are 7F800000 hexadecimal, and the start is FFFFFFFF for none.
+/// Writes a sheet with the shorter trailer and tells its length: tests 1 to 4, then 21. A link is four words, as a sheet has
+/// them: input label, output label, weight bits, next node. A node is three: link count, final mark, final weight bits. The
+/// weight bits of what is barred are 7F800000 hexadecimal, and the start is FFFFFFFF for none.
 pub fn write_sheet(
     links: &[u32],
     nodes: &[u32],
@@ -132,7 +148,34 @@ pub fn write_sheet(
     Ok(size as usize)
 }
 
-/// Turns text rows into a sheet and tells its length: tests 8, 1, 4, then 21.
+/// The same with the longer trailer, and weights in this unit.
+pub fn write_sheet_in(
+    links: &[u32],
+    nodes: &[u32],
+    start: u32,
+    unit: Unit,
+    result: &mut [u8],
+) -> Result<usize, Refusal> {
+    let mut size = 0;
+    told(ffi::write_sheet_in(
+        links,
+        nodes,
+        start,
+        unit.count(),
+        result,
+        &mut size,
+    ))?;
+    Ok(size as usize)
+}
+
+/// The unit of a sheet: tests 1 to 4.
+pub fn unit(sheet: &[u8]) -> Result<Unit, Refusal> {
+    let mut count = 0;
+    told(ffi::unit(sheet, &mut count))?;
+    Ok(Unit::from_count(count).expect("the library is proved to tell no other unit"))
+}
+
+/// Turns text rows into a sheet with the shorter trailer and tells its length: tests 8, 1, 4, then 21.
 pub fn rows_to_sheet(text: &[u8], result: &mut [u8]) -> Result<usize, Refusal> {
     let mut size = 0;
     told(ffi::rows_to_sheet(text, result, &mut size))?;
@@ -197,7 +240,8 @@ pub fn shortest_path(
 }
 
 /// Writes the sheet of what two sheets both allow, as [`two_probes`](crate::two_probes) has it, and tells its length: tests 1 to 6 of
-/// the first sheet, 1 to 6 of the second, then 10, 11, 12 and 21. It takes some 390 KB of stack.
+/// the first sheet, 1 to 6 of the second, whose 14 is also that its unit is not the first's, then 10, 11, 12 and 21. It takes some 390 KB
+/// of stack.
 pub fn two_probes(first: &[u8], second: &[u8], result: &mut [u8]) -> Result<usize, Refusal> {
     let mut size = 0;
     told(ffi::two_probes(first, second, result, &mut size))?;
@@ -213,7 +257,8 @@ pub fn split(sheet: &[u8], c: u32, result: &mut [u8]) -> Result<Split, Refusal> 
 }
 
 /// How many readings the result of [`shortest_path`] for n holds: tests 7, then 30 where the result is shorter than the counts told
-/// say, or has more than n readings. What follows the answer's bytes is not looked at.
+/// say, or has more than n readings. No sheet tells which trailer it has, so that as many bytes are enough as with the shorter: [`reading`]
+/// asks for them all. What follows the answer's bytes is not looked at.
 pub fn readings(result: &[u8], n: u32, listed: Listed) -> Result<u32, Refusal> {
     let mut count = 0;
     told(ffi::readings(
@@ -227,8 +272,9 @@ pub fn readings(result: &[u8], n: u32, listed: Listed) -> Result<u32, Refusal> {
 }
 
 /// Reading k, from 0 and cheapest first, of the result of [`shortest_path`] on this sheet and n: tests 1 to 7, then 30 as [`readings`]
-/// gives it, 31 where k is not below the count, 30 where its way leaves the result or is no reading of the sheet, then 21 where the run
-/// is too short for it. The run begins with the numbers of its links; [`NODE_LIMIT`](crate::NODE_LIMIT) words are always enough.
+/// gives it, but by the sheet's own trailer, 31 where k is not below the count, 30 where its way leaves the result or is no reading of
+/// the sheet, then 21 where the run is too short for it. The run begins with the numbers of its links;
+/// [`NODE_LIMIT`](crate::NODE_LIMIT) words are always enough.
 ///
 /// Of any result that is not refused, what is told is a reading of the sheet at its cost.
 pub fn reading(
@@ -261,10 +307,29 @@ pub fn reading(
 
 /// The distance of a node in sixty-fourths, or none where it is unreached, from the result of [`shortest_distance`], which told so
 /// many values: tests 30 where the result is shorter than these, 31 where the node is not below their number, then 30 where its two
-/// words are no distance.
+/// words are no distance in sixty-fourths, as they may be where the sheet's unit is another.
 pub fn distance(result: &[u8], values: u32, node: u32) -> Result<Option<i32>, Refusal> {
     let (mut reached, mut cost) = (0, 0);
     told(ffi::distance(result, values, node, &mut reached, &mut cost))?;
+    Ok((reached == 1).then_some(cost))
+}
+
+/// The same in this unit, the sheet's own, which the result does not say.
+pub fn distance_in(
+    result: &[u8],
+    values: u32,
+    node: u32,
+    unit: Unit,
+) -> Result<Option<i32>, Refusal> {
+    let (mut reached, mut cost) = (0, 0);
+    told(ffi::distance_in(
+        result,
+        values,
+        node,
+        unit.count(),
+        &mut reached,
+        &mut cost,
+    ))?;
     Ok((reached == 1).then_some(cost))
 }
 
@@ -320,9 +385,9 @@ pub fn areas(sheet: &[u8], n: u32) -> Result<Needed, Refusal> {
     Ok(needed(slots, bytes))
 }
 
-/// Areas in which no list for n is refused, nor for n = 1 the distances, of any accepted sheet with at most so many nodes, links
-/// and final nodes: tests 5 and 7 of these counts. It looks at no sheet; of a sheet's own counts it tells what [`areas`] tells. More
-/// final nodes than nodes count as that many nodes.
+/// Areas in which no list for n is refused, nor for n = 1 the distances, of any accepted sheet, of either trailer, with at most so many
+/// nodes, links and final nodes: tests 5 and 7 of these counts. It looks at no sheet; of a sheet's own counts it tells what [`areas`] tells
+/// of one with the longer trailer. More final nodes than nodes count as that many nodes.
 pub fn areas_of(nodes: u32, links: u32, finals: u32, n: u32) -> Result<Needed, Refusal> {
     let (mut slots, mut bytes) = (0, 0);
     told(ffi::areas_of(

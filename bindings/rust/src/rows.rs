@@ -8,8 +8,8 @@ use crate::raw;
 use crate::{Refusal, Sheet};
 
 impl Sheet {
-    /// The sheet that text rows give, in the form that OpenFst and rustfst read. Refusals 8, then 1 and 4, and 21 where there is no
-    /// memory for the sheet.
+    /// The sheet that text rows give, in the form that OpenFst and rustfst read. It has the shorter trailer. Refusals 8, then 1 and 4, and 21
+    /// where there is no memory for the sheet.
     ///
     /// A row is a link, by its source, next node, input label, output label and weight, or a final node with its weight; a weight that
     /// is left out is 0. The first row's first node is the start, and nodes run to the highest number named.
@@ -37,7 +37,7 @@ impl Sheet {
         Sheet::read(bytes)
     }
 
-    /// The text rows of a sheet, which convert to that very sheet. Refusal 9 where it has none.
+    /// The text rows of a sheet, which convert to that very sheet. Refusal 9 where it has none, as with the longer trailer.
     ///
     /// The start's rows come first, then the others' by rising node, and a node's links before its final row. One tab stands between
     /// fields, numbers are in their shortest form, a weight of 0 is left out, and a barred one is `Infinity`.

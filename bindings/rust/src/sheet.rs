@@ -3,9 +3,9 @@
 
 use std::fmt;
 
-use crate::layout::{LINK, NODE, NONE, TRAILER};
+use crate::layout::{sheet_len, Trailer, NONE};
 use crate::raw::{self, Counts};
-use crate::Refusal;
+use crate::{Refusal, Unit};
 
 /// A link: the node that it leaves, two labels, a weight and the node that it leads to.
 #[derive(Clone, Copy, Debug, PartialEq)]
@@ -16,7 +16,7 @@ pub struct Link {
     pub ilabel: u32,
     /// The output label.
     pub olabel: u32,
-    /// The weight: k/64 for a whole k from -8,192 to 8,192, or [`BARRED`](crate::BARRED).
+    /// The weight: k/64, or k/256 where that is the sheet's unit, for a whole k from -8,192 to 8,192, or [`BARRED`](crate::BARRED).
     pub weight: f32,
     /// The node that it leads to.
     pub next: u32,
@@ -30,6 +30,7 @@ pub struct Link {
 pub struct Sheet {
     bytes: Vec<u8>,
     counts: Counts,
+    unit: Unit,
     // the number of each node's first link, from which a link's source is found
     firsts: Vec<u32>,
 }
@@ -39,15 +40,22 @@ impl Sheet {
     pub fn read(bytes: impl Into<Vec<u8>>) -> Result<Sheet, Refusal> {
         let bytes = bytes.into();
         let counts = raw::sheet_counts(&bytes)?;
+        // the shorter trailer says no unit, which spares the whole sheet a second reading
+        let unit = match counts.trailer(bytes.len()) {
+            Trailer::Short => Unit::Of64,
+            Trailer::Long => raw::unit(&bytes)?,
+        };
         let firsts = firsts(&bytes, counts.nodes)?;
         Ok(Sheet {
             bytes,
             counts,
+            unit,
             firsts,
         })
     }
 
-    /// Writes a sheet: its links, a final weight or none for each node, and the start or none. Refusals 1 to 4.
+    /// Writes a sheet with the shorter trailer: its links, a final weight or none for each node, and the start or none. Weights are k/64.
+    /// Refusals 1 to 4.
     ///
     /// Links may come in any order of their sources. In the sheet they stand by source, and those of one node in the order
     /// given; that is the order that they are numbered in. A source that is no node is refusal 1, since no node counts
@@ -57,15 +65,42 @@ impl Sheet {
         nodes: &[Option<f32>],
         start: Option<u32>,
     ) -> Result<Sheet, Refusal> {
-        let mut sorted = links.to_vec();
-        sorted.sort_by_key(|link| link.source);
-        // the word for none is no node's number: moved down by one it is refused as any other start that is no node
-        let start = start.map_or(NONE, |node| node.min(NONE - 1));
-        let mut bytes = vec![0; LINK * links.len() + NODE * nodes.len() + TRAILER];
-        raw::write_sheet(
-            &link_words(&sorted),
-            &node_words(links, nodes),
-            start,
+        let mut bytes = vec![0; sheet_len(nodes.len(), links.len(), Trailer::Short)];
+        let (link_words, node_words) = (link_words(links), node_words(links, nodes));
+        raw::write_sheet(&link_words, &node_words, start_word(start), &mut bytes)?;
+        Sheet::read(bytes)
+    }
+
+    /// The same with the longer trailer, and weights in this unit: k/64 or k/256.
+    ///
+    /// ```
+    /// use yeldmur::{list, Link, Refusal, Sheet, Unit};
+    ///
+    /// let link = Link { source: 0, ilabel: 7, olabel: 7, weight: 0.00390625, next: 1 };
+    /// let fine = Sheet::write_in(&[link], &[None, Some(1.0)], Some(0), Unit::Of256)?;
+    /// assert_eq!((fine.unit(), fine.bytes().len()), (Unit::Of256, 64));
+    /// let list = list(&fine, 1)?;
+    /// let only = list.reading(0).unwrap();
+    /// assert_eq!(only.cost(), 257); // in the sheet's own unit
+    /// assert_eq!(only.cost_with_unit().to_string(), "1.00390625");
+    ///
+    /// let coarse = Sheet::write(&[link], &[None, Some(1.0)], Some(0));
+    /// assert_eq!(coarse, Err(Refusal::Weight)); // no whole number of sixty-fourths
+    /// # Ok::<(), Refusal>(())
+    /// ```
+    pub fn write_in(
+        links: &[Link],
+        nodes: &[Option<f32>],
+        start: Option<u32>,
+        unit: Unit,
+    ) -> Result<Sheet, Refusal> {
+        let mut bytes = vec![0; sheet_len(nodes.len(), links.len(), Trailer::Long)];
+        let (link_words, node_words) = (link_words(links), node_words(links, nodes));
+        raw::write_sheet_in(
+            &link_words,
+            &node_words,
+            start_word(start),
+            unit,
             &mut bytes,
         )?;
         Sheet::read(bytes)
@@ -99,6 +134,17 @@ impl Sheet {
     /// The start, or none.
     pub fn start(&self) -> Option<u32> {
         self.counts.start
+    }
+
+    /// The unit of its weights and costs.
+    pub fn unit(&self) -> Unit {
+        self.unit
+    }
+
+    /// Its trailer. A sheet made by [`write`](Sheet::write) or of text rows has the shorter, one made by [`write_in`](Sheet::write_in)
+    /// the longer, and what a call makes of a sheet has that of the sheet.
+    pub fn trailer(&self) -> Trailer {
+        self.counts.trailer(self.bytes.len())
     }
 
     /// The link with a number, or none past the last.
@@ -178,8 +224,16 @@ fn firsts(bytes: &[u8], nodes: u32) -> Result<Vec<u32>, Refusal> {
         .collect()
 }
 
+// The word for none is no node's number: moved down by one it is refused as any other start that is no node.
+fn start_word(start: Option<u32>) -> u32 {
+    start.map_or(NONE, |node| node.min(NONE - 1))
+}
+
+// By source, those of one node in the order given.
 fn link_words(links: &[Link]) -> Vec<u32> {
-    links
+    let mut sorted = links.to_vec();
+    sorted.sort_by_key(|link| link.source);
+    sorted
         .iter()
         .flat_map(|link| [link.ilabel, link.olabel, link.weight.to_bits(), link.next])
         .collect()

@@ -4,7 +4,7 @@
 mod common;
 
 use common::{a_with, link, readings, sheet_a, walked};
-use yeldmur::{distances, list, raw, units, Link, Refusal, Sheet, BARRED};
+use yeldmur::{distances, list, raw, units, Link, Refusal, Sheet, Unit, BARRED};
 
 const BITS: u32 = 0x7F80_0000;
 
@@ -36,7 +36,7 @@ fn none(sheet: &Sheet) {
 
 #[test]
 fn one_pattern_alone_is_barred() {
-    assert_eq!((BARRED.to_bits(), units(BARRED)), (BITS, None));
+    assert_eq!((BARRED.to_bits(), units(BARRED, Unit::Of64)), (BITS, None));
     let link = Sheet::read(a_with(2, BITS)).unwrap().link(0).unwrap();
     assert_eq!(link.weight, BARRED);
     let end = Sheet::read(a_with(31, BITS)).unwrap();

@@ -5,7 +5,7 @@ mod common;
 
 use common::{bytes, A, NONE};
 use yeldmur::raw::{self, Needed, SLOT};
-use yeldmur::{ffi, Refusal, LINK_LIMIT, LIST_LIMIT, NODE_LIMIT};
+use yeldmur::{ffi, Refusal, Trailer, LINK_LIMIT, LIST_LIMIT, NODE_LIMIT};
 
 const WORD: u32 = 0xDEAD_BEEF;
 const BYTE: u8 = 0xA5;
@@ -29,18 +29,26 @@ fn slots_of_a(n: usize) -> usize {
     }
 }
 
+// With the longer trailer instead of the shorter.
+fn longer(needed: Needed) -> Needed {
+    Needed {
+        bytes: needed.bytes + 4,
+        ..needed
+    }
+}
+
 #[test]
 fn areas_of_a() {
     let a = bytes(&A);
     for n in 0..=64 {
         let needed = raw::areas(&a, n).unwrap();
-        assert_eq!(raw::areas_of(4, 5, 1, n), Ok(needed));
+        assert_eq!(raw::areas_of(4, 5, 1, n), Ok(longer(needed)));
         assert_eq!(needed.slots, slots_of_a(n as usize));
         assert_eq!(needed.words(), 8 * needed.slots);
         let mut work = vec![WORD; needed.words()];
         let mut result = vec![BYTE; needed.bytes];
         let listed = raw::shortest_path(&a, n, &mut work, &mut result).unwrap();
-        assert!(listed.result_len() <= needed.bytes);
+        assert!(listed.result_len(Trailer::Short) <= needed.bytes);
         assert!(cleared(&work, needed.slots));
     }
 }
@@ -89,7 +97,7 @@ fn a_list_in_short_areas() {
         let mut answer = vec![BYTE; bytes + 3];
         let mut work = vec![WORD; SLOT * slots + 13];
         let listed = raw::shortest_path(&a, n, &mut work, &mut answer).unwrap();
-        let length = listed.result_len();
+        let length = listed.result_len(Trailer::Short);
         assert!(cleared(&work, slots));
         assert!(answer[length..].iter().all(|&byte| byte == BYTE));
 
@@ -185,7 +193,7 @@ fn areas_for_one_reading_serve_distances() {
     for nodes in [0, 1, 2, 3, NODE_LIMIT] {
         let needed = raw::areas_of(nodes, 0, 0, 1).unwrap();
         assert_eq!(needed.slots, nodes as usize);
-        assert_eq!(needed.bytes, 32 * nodes as usize + 20);
+        assert_eq!(needed.bytes, 32 * nodes as usize + 24);
         assert_eq!(raw::areas_of(nodes, LINK_LIMIT, u32::MAX, 1), Ok(needed));
         let fields = vec![0; 3 * nodes as usize];
         let start = nodes.checked_sub(1).unwrap_or(NONE);

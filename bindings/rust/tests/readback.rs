@@ -14,7 +14,7 @@ fn answer(sheet: &Sheet, n: u32) -> (Listed, Vec<u8>) {
     let needed = raw::areas(sheet.bytes(), n).unwrap();
     let (mut work, mut result) = (vec![0; needed.words()], vec![0; needed.bytes]);
     let listed = raw::shortest_path(sheet.bytes(), n, &mut work, &mut result).unwrap();
-    result.truncate(listed.result_len());
+    result.truncate(listed.result_len(sheet.trailer()));
     (listed, result)
 }
 

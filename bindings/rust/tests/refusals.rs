@@ -137,7 +137,7 @@ fn raw_calls_change_nothing() {
 fn numbers_and_words() {
     for number in 0..100 {
         let refusal = Refusal::from_number(number);
-        let known = matches!(number, 1..=13 | 20 | 21 | 30 | 31);
+        let known = matches!(number, 1..=14 | 20 | 21 | 30 | 31);
         assert_eq!(refusal.is_some(), known);
         assert_eq!(refusal.map(Refusal::number), known.then_some(number));
     }
@@ -163,6 +163,10 @@ fn numbers_and_words() {
         "refused 13: a machine that does not narrow to the node"
     );
     assert_eq!(
+        Refusal::Unit.to_string(),
+        "refused 14: a unit that is neither 64 nor 256, or two sheets of unequal unit"
+    );
+    assert_eq!(
         Refusal::NoAnswer.to_string(),
         "refused 30: a result that is no answer"
     );
@@ -174,6 +178,6 @@ fn numbers_and_words() {
     assert_eq!(
         Refusal::Layout.to_string(),
         "refused 1: length, offsets, a count or offset too big for its field, marks, an absent final's weight field \
-         or the sum of link counts is not as laid out"
+         or the sum of link counts is not as laid out under either trailer"
     );
 }

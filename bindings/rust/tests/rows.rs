@@ -4,7 +4,7 @@
 mod common;
 
 use common::{a_with, bytes, link, sheet_a, Random, A, NONE};
-use yeldmur::{ffi, raw, units, Link, Refusal, Sheet, BARRED, NODE_LIMIT, WEIGHT_LIMIT};
+use yeldmur::{ffi, raw, units, Link, Refusal, Sheet, Unit, BARRED, NODE_LIMIT, WEIGHT_LIMIT};
 
 const BYTE: u8 = 0xA5;
 
@@ -410,7 +410,7 @@ impl Drawn {
     }
 
     fn node_rows(&self, node: u32) -> Vec<String> {
-        let shown = |weight: f32| match units(weight) {
+        let shown = |weight: f32| match units(weight, Unit::Of64) {
             Some(0) => String::new(),
             Some(units) => format!("\t{}", weight_text(units)),
             None => "\tInfinity".to_string(),

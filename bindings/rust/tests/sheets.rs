@@ -3,14 +3,8 @@
 
 mod common;
 
-use common::{bytes, link, links_a, sheet_a, A};
+use common::{again, bytes, link, links_a, sheet_a, A};
 use yeldmur::{list, Link, Refusal, Sheet};
-
-fn again(sheet: &Sheet) -> Sheet {
-    let links: Vec<Link> = sheet.links().collect();
-    let finals: Vec<Option<f32>> = sheet.finals().collect();
-    Sheet::write(&links, &finals, sheet.start()).unwrap()
-}
 
 #[test]
 fn what_a_holds() {

@@ -3,9 +3,9 @@
 
 mod common;
 
-use common::{a_with, bytes, chain, link, readings, sheet_a, walked, Random, A, NONE};
+use common::{a_with, bytes, chain, link, readings, said, sheet_a, walked, write, Random, A, NONE};
 use yeldmur::{ffi, list, raw, split};
-use yeldmur::{Link, Refusal, Sheet, BARRED, LINK_LIMIT, LIST_LIMIT, NODE_LIMIT};
+use yeldmur::{Link, Refusal, Sheet, Trailer, Unit, BARRED, LINK_LIMIT, LIST_LIMIT, NODE_LIMIT};
 
 const BYTE: u8 = 0xA5;
 
@@ -58,9 +58,11 @@ fn the_fields_of_the_diamond() {
     ];
     assert_eq!(area[..188], bytes(&words));
     assert!(area[188..].iter().all(|&byte| byte == BYTE));
-    assert_eq!(raw::split_len(3, 5), 188);
-    let places = (told.first_len(1), told.second_at(1), told.second_len(3, 1));
-    assert_eq!(places, (92, 104, 76));
+    assert_eq!(raw::split_len(3, 5, Trailer::Short), 188);
+    let short = Trailer::Short;
+    let places = (told.first_len(1, short), told.second_at(1, short));
+    assert_eq!(places, (92, 104));
+    assert_eq!(told.second_len(3, 1, short), 76);
     let parts = split(&diamond(), 1).unwrap();
     assert_eq!(parts.first.sheet().bytes(), &area[..92]);
     assert_eq!(parts.second.sheet().bytes(), &area[104..180]);
@@ -297,8 +299,8 @@ fn judged(whole: &Sheet, c: u32) -> Result<[Sheet; 2], Refusal> {
     preheat.push(Some(0.0));
     let bake: Vec<Option<f32>> = whole.finals().skip(c as usize).collect();
     Ok([
-        Sheet::write(&below, &preheat, start).unwrap(),
-        Sheet::write(&above, &bake, Some(0)).unwrap(),
+        write(&below, &preheat, start, said(whole)).unwrap(),
+        write(&above, &bake, Some(0), said(whole)).unwrap(),
     ])
 }
 
@@ -319,7 +321,8 @@ fn checked(whole: &Sheet, c: u32) -> bool {
         [parts.first.sheet(), parts.second.sheet()],
         [&due[0], &due[1]]
     );
-    let mut area = vec![BYTE; raw::split_len(whole.node_count(), whole.link_count())];
+    let length = raw::split_len(whole.node_count(), whole.link_count(), whole.trailer());
+    let mut area = vec![BYTE; length];
     let told = raw::split(whole.bytes(), c, &mut area).unwrap();
     let words = |numbers: Vec<u32>| bytes(&numbers);
     let expected = [
@@ -376,11 +379,13 @@ fn joined(whole: &Sheet, c: u32) -> usize {
     made.len()
 }
 
-// Links climb, and hardly ever pass c; few nodes below c are final.
+// Links climb, and hardly ever pass c; few nodes below c are final. The trailer is drawn, and with it the unit.
 fn drawn(random: &mut Random, nodes: u32, c: u32, spread: u32, barred: bool) -> Sheet {
+    let said = random.said();
+    let unit = said.unwrap_or(Unit::Of64);
     let weight = |random: &mut Random| match barred {
-        true => random.weight_or_barred(spread),
-        false => random.weight(spread),
+        true => random.weight_or_barred_in(spread, unit),
+        false => random.weight_in(spread, unit),
     };
     let links: Vec<Link> = (0..random.below(20))
         .map(|_| {
@@ -404,7 +409,7 @@ fn drawn(random: &mut Random, nodes: u32, c: u32, spread: u32, barred: bool) -> 
         })
         .collect();
     let start = (random.below(20) > 0).then(|| random.below((c + 2).min(nodes)) / 2);
-    Sheet::write(&links, &finals, start).unwrap()
+    write(&links, &finals, start, said).unwrap()
 }
 
 #[test]

@@ -4,9 +4,9 @@
 
 mod common;
 
-use common::{a_with, bytes, chain, link, readings, sheet_a, Random, A, NONE};
+use common::{a_with, bytes, chain, link, readings, said, sheet_a, write, Random, A, NONE};
 use yeldmur::{ffi, list, raw, two_probes, units};
-use yeldmur::{Link, Refusal, Sheet, BARRED, LINK_LIMIT, NODE_LIMIT, WEIGHT_LIMIT};
+use yeldmur::{Link, Refusal, Sheet, Unit, BARRED, LINK_LIMIT, NODE_LIMIT, WEIGHT_LIMIT};
 
 const BYTE: u8 = 0xA5;
 
@@ -370,10 +370,11 @@ fn results_of_every_length() {
     assert_eq!(told, Err(Refusal::Product));
 }
 
-// Labels and weights by drawings of their own; links climb.
+// Labels and weights by drawings of their own, with this unit in the trailer or none; links climb.
 fn drawn(
     random: &mut Random,
     (nodes, links): (u32, u32),
+    said: Option<Unit>,
     label: impl Fn(&mut Random) -> u32,
     weight: impl Fn(&mut Random) -> f32,
 ) -> Sheet {
@@ -389,20 +390,35 @@ fn drawn(
         .collect();
     // none now and then
     let start = (random.below(8) > 0).then(|| random.below(nodes.div_ceil(4)));
-    Sheet::write(&links, &finals, start).unwrap()
+    write(&links, &finals, start, said).unwrap()
 }
 
 // Infinity plus anything is infinity; a sum off the grid is none.
-fn sum(one: f32, other: f32) -> Option<f32> {
-    let (Some(one), Some(other)) = (units(one), units(other)) else {
+fn sum(one: f32, other: f32, unit: Unit) -> Option<f32> {
+    let (Some(one), Some(other)) = (units(one, unit), units(other, unit)) else {
         return Some(BARRED);
     };
     let sum = one + other;
-    (sum.abs() <= WEIGHT_LIMIT).then_some(sum as f32 / 64.0)
+    (sum.abs() <= WEIGHT_LIMIT).then_some(sum as f32 / unit.count() as f32)
+}
+
+// For each pair of nodes the sum of their final weights; none at all where one is off the grid.
+fn final_sums(first: &Sheet, second: &Sheet) -> Option<Vec<Option<f32>>> {
+    let sums = first.finals().flat_map(|one| {
+        second.finals().map(move |other| match (one, other) {
+            (Some(one), Some(other)) => sum(one, other, first.unit()).map(Some),
+            _ => Some(None),
+        })
+    });
+    sums.collect()
 }
 
 // What the request says of two sheets, apart from the library.
 fn judged(first: &Sheet, second: &Sheet) -> Result<Sheet, Refusal> {
+    let unit = first.unit();
+    if second.unit() != unit {
+        return Err(Refusal::Unit);
+    }
     let mut links = first.links().chain(second.links());
     if links.any(|link| link.ilabel == 0 || link.ilabel != link.olabel) {
         return Err(Refusal::Labels);
@@ -418,7 +434,7 @@ fn judged(first: &Sheet, second: &Sheet) -> Result<Sheet, Refusal> {
     }
     // by the first's number, then the second's; the writer puts them in the order of their sources
     let links = pairs.iter().map(|(l, k)| {
-        let weight = sum(l.weight, k.weight)?;
+        let weight = sum(l.weight, k.weight, unit)?;
         let node = |i: u32, j: u32| i * nodes + j;
         Some(link(
             node(l.source, k.source),
@@ -427,17 +443,12 @@ fn judged(first: &Sheet, second: &Sheet) -> Result<Sheet, Refusal> {
             node(l.next, k.next),
         ))
     });
-    let finals = first.finals().flat_map(|one| {
-        second.finals().map(move |other| match (one, other) {
-            (Some(one), Some(other)) => sum(one, other).map(Some),
-            _ => Some(None),
-        })
-    });
     let links: Option<Vec<Link>> = links.collect();
-    let finals: Option<Vec<Option<f32>>> = finals.collect();
-    let (links, finals) = links.zip(finals).ok_or(Refusal::Sum)?;
+    let sums = links.zip(final_sums(first, second));
+    let (links, finals) = sums.ok_or(Refusal::Sum)?;
     let start = first.start().zip(second.start());
-    Sheet::write(&links, &finals, start.map(|(i, j)| i * nodes + j))
+    let start = start.map(|(i, j)| i * nodes + j);
+    write(&links, &finals, start, said(first))
 }
 
 // For each reading its labels, its cost and its end; none where there may be more than a list has.
@@ -473,17 +484,20 @@ fn one_to_one(first: &Sheet, second: &Sheet, both: &Sheet) -> usize {
 #[test]
 fn drawn_pairs() {
     let mut random = Random(1);
-    let (mut listed, mut refused) = (0, 0);
-    for round in 0..3000 {
+    let (mut listed, mut sums, mut units) = (0, 0, 0);
+    for round in 0..6000 {
         let spread = [1, 8, 4096, WEIGHT_LIMIT as u32][round % 4];
         let labels = 1 + random.below(3);
         let mut draw = || {
+            let said = random.said();
+            let unit = said.unwrap_or(Unit::Of64);
             let size = (2 + random.below(6), random.below(16));
             let label = |random: &mut Random| 1 + random.below(labels);
-            let barred = |random: &mut Random| random.weight_or_barred(spread);
+            let weight = |random: &mut Random| random.weight_in(spread, unit);
+            let barred = |random: &mut Random| random.weight_or_barred_in(spread, unit);
             match round / 4 % 2 {
-                0 => drawn(&mut random, size, label, |random| random.weight(spread)),
-                _ => drawn(&mut random, size, label, barred),
+                0 => drawn(&mut random, size, said, label, weight),
+                _ => drawn(&mut random, size, said, label, barred),
             }
         };
         let (first, second) = (draw(), draw());
@@ -491,13 +505,15 @@ fn drawn_pairs() {
         assert_eq!(both, judged(&first, &second));
         match both {
             Ok(both) => listed += one_to_one(&first, &second, &both),
+            Err(Refusal::Unit) => units += 1,
             Err(refusal) => {
                 assert_eq!(refusal, Refusal::Sum);
-                refused += 1;
+                sums += 1;
             }
         }
     }
-    assert!(listed > 2000 && refused > 500, "{listed} {refused}");
+    let many = listed > 2000 && sums > 500 && units > 1500;
+    assert!(many, "{listed} {sums} {units}");
 }
 
 // Labels that are 0 or differ, now and then: 10 or the answer, as the request says.
@@ -543,7 +559,7 @@ fn large_machines() {
     ] {
         let mut draw = |nodes, links| {
             let label = |random: &mut Random| 1 + random.below(40);
-            drawn(&mut random, (nodes, links), label, |random| {
+            drawn(&mut random, (nodes, links), None, label, |random| {
                 random.weight(60)
             })
         };

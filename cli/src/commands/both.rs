@@ -25,7 +25,7 @@ fn sheet(options: &Options) -> Result<Sheet, Outcome> {
     let [first, second] = [0, 1].map(|place| given(&options.inputs[place]));
     let (first, second) = (first?, second?);
     let one = accepted(options, &first)?;
-    let other = accepted(options, &second)?;
+    let other = accepted_beside(&one, options, &second)?;
     two_probes(&one, &other).map_err(|refusal| match refusal {
         Refusal::Labels => refused_alone(options, labelled_wrong(&first, &second), refusal),
         _ => {
@@ -45,6 +45,18 @@ fn given(source: &Source) -> Result<Given<'_>, Outcome> {
 fn accepted(options: &Options, given: &Given) -> Result<Sheet, Outcome> {
     let told = given.input.accepted();
     told.map_err(|refusal| refused_alone(options, given, refusal))
+}
+
+// The second is refused with 14 for a unit other than the first's, too.
+fn accepted_beside(one: &Sheet, options: &Options, given: &Given) -> Result<Sheet, Outcome> {
+    let Given { source, input } = given;
+    input.accepted_beside(one).map_err(|refusal| match refusal {
+        Refusal::Unit => {
+            let found = fault(input.form, &input.bytes, Tests::Second(one.unit()));
+            refused(refusal, &worded(found, refusal)).about(source)
+        }
+        _ => refused_alone(options, given, refusal),
+    })
 }
 
 fn refused_alone(options: &Options, given: &Given, refusal: Refusal) -> Outcome {

@@ -6,7 +6,7 @@ use yeldmur::{raw, Refusal, Sheet};
 use super::refused::{place, said};
 use super::{counted, document, line, Outcome, Status};
 use crate::args::Options;
-use crate::diagnose::{fault, Fault, Place, Tests};
+use crate::diagnose::{fault, Fault, Form, Place, Tests};
 use crate::input::{Input, Source};
 use crate::json::Object;
 
@@ -57,19 +57,26 @@ fn accepted_as(document: Object, input: &Input, sheet: &Sheet) -> Verdict {
         .start()
         .map_or("no start".to_string(), |start| format!("start {start}"));
     let rows = raw::sheet_rows_bytes(sheet.bytes());
+    // rows have no trailer, and are in the unit that the shorter means
+    let trailer = (input.form == Form::Sheet).then(|| sheet.trailer().bytes());
     let document = document
         .value("accepted", true)
         .value("nodes", nodes)
         .value("links", links)
         .value("finals", finals)
         .option("start", sheet.start())
+        .value("unit", sheet.unit().count())
+        .option("trailer", trailer)
         .value("rows", rows.is_ok());
     let (form, nodes) = (input.form.name(), counted(nodes as usize, "node"));
     let links = counted(links as usize, "link");
+    let unit = sheet.unit();
+    let trailer = trailer.map_or(String::new(), |bytes| format!(", trailer of {bytes} bytes"));
     let without = rows.err().map(|refusal| place(input, refusal));
     let without = without.map_or(String::new(), |place| format!("; it has no rows: {place}"));
+    let counts = format!("{nodes}, {links}, {finals} final, {start}");
     Verdict {
-        words: format!("accepted: {form}, {nodes}, {links}, {finals} final, {start}{without}"),
+        words: format!("accepted: {form}, {counts}, unit {unit}{trailer}{without}"),
         document,
     }
 }

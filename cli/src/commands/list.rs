@@ -1,12 +1,11 @@
 //! `list` and `best`: the cheapest readings, for people and for programs.
 #![forbid(unsafe_code)]
 
-use yeldmur::{Areas, Link, List, Reading};
+use yeldmur::{Areas, Link, List, Reading, Unit};
 
 use super::table::table;
-use super::{counted, document, line, Trouble};
+use super::{counted, document, line, parts_of_one, Trouble};
 use crate::args::{Command, Options};
-use crate::decimal::Decimal;
 use crate::input::{Input, Source};
 use crate::json::{quoted, Object};
 
@@ -26,22 +25,22 @@ pub(super) fn answer(
     let sheet = input.sheet_to_search()?;
     let list = areas.list(&sheet, n)?;
     if options.json {
-        return Ok(for_programs(source, &list));
+        return Ok(for_programs(source, sheet.unit(), &list));
     }
-    Ok(for_people(&list).into_bytes())
+    Ok(for_people(sheet.unit(), &list).into_bytes())
 }
 
-fn for_people(list: &List) -> String {
+fn for_people(unit: Unit, list: &List) -> String {
     let readings = counted(list.len(), "reading");
     let head = format!("{readings}, {} entries taken\n", list.taken());
     if list.is_empty() {
         return head;
     }
-    let names = ["rank", "cost", "units", "end", "labels"].map(String::from);
+    let names = ["rank", "cost", parts_of_one(unit), "end", "labels"].map(String::from);
     let readings = list.readings().enumerate().map(|(place, reading)| {
         [
             (place + 1).to_string(),
-            Decimal(reading.cost()).to_string(),
+            reading.cost_with_unit().to_string(),
             reading.cost().to_string(),
             reading.end().to_string(),
             labels(reading, " ", |link| link.ilabel),
@@ -59,11 +58,11 @@ fn labels(reading: Reading, between: &str, label: impl Fn(Link) -> u32) -> Strin
     labels.join(between)
 }
 
-fn for_programs(source: &Source, list: &List) -> Vec<u8> {
+fn for_programs(source: &Source, unit: Unit, list: &List) -> Vec<u8> {
     let readings = list.readings().enumerate().map(|(place, reading)| {
         Object::new()
             .value("rank", place + 1)
-            .value("cost", quoted(&Decimal(reading.cost()).to_string()))
+            .value("cost", quoted(&reading.cost_with_unit().to_string()))
             .value("units", reading.cost())
             .value("end", reading.end())
             .list("links", reading.numbers())
@@ -72,6 +71,7 @@ fn for_programs(source: &Source, list: &List) -> Vec<u8> {
             .end()
     });
     let list = document(source)
+        .value("unit", unit.count())
         .value("readings", list.len())
         .value("taken", list.taken())
         .list("list", readings);

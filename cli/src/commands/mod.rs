@@ -12,7 +12,7 @@ mod table;
 
 use std::fmt::Display;
 
-use yeldmur::{Areas, Refusal};
+use yeldmur::{Areas, Refusal, Unit};
 
 use crate::args::{Command, Options};
 use crate::input::{Input, Source};
@@ -140,6 +140,14 @@ fn line(document: Object) -> Vec<u8> {
     let mut line = document.end().into_bytes();
     line.push(b'\n');
     line
+}
+
+// What heads a column of units, so that those of two sheets are not taken for each other.
+fn parts_of_one(unit: Unit) -> &'static str {
+    match unit {
+        Unit::Of64 => "64ths",
+        Unit::Of256 => "256ths",
+    }
 }
 
 // So many of them, in words for people.

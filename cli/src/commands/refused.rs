@@ -41,6 +41,7 @@ pub(super) fn said(refusal: Refusal) -> String {
     let words = match refusal {
         Refusal::Layout => "the layout is not that of a sheet",
         Refusal::Rows => "rows that cannot be read",
+        Refusal::Unit => "a unit that does not fit",
         _ => refusal.words(),
     };
     format!("refused {}: {words}", refusal.number())

@@ -1,12 +1,12 @@
-//! The faults of what two machines both allow, where each is accepted by itself and its labels are no fault.
+//! The faults of what two machines both allow, where each is accepted by itself, their units are equal and their labels are no fault.
 #![forbid(unsafe_code)]
 
 use std::collections::HashMap;
 
-use yeldmur::{units, Link, Sheet, LINK_LIMIT, NODE_LIMIT, WEIGHT_LIMIT};
+use yeldmur::{units, Cost, Link, Sheet, Unit, LINK_LIMIT, NODE_LIMIT, WEIGHT_LIMIT};
 
+use super::weight::largest;
 use super::{Fault, Place};
-use crate::decimal::Decimal;
 
 // The second's links by label, with their numbers.
 type ByLabel = HashMap<u32, Vec<(usize, Link)>>;
@@ -41,7 +41,7 @@ fn link_sums(first: &Sheet, seconds: &ByLabel) -> Option<Fault> {
     first.links().enumerate().find_map(|(number, one)| {
         let partners = seconds.get(&one.ilabel)?;
         partners.iter().find_map(|(partner, other)| {
-            let sum = beyond(one.weight, other.weight)?;
+            let sum = beyond(first.unit(), one.weight, other.weight)?;
             let why = format!(
                 "link {number} of the first and link {partner} of the second, both with label {}: {sum}",
                 one.ilabel
@@ -61,7 +61,7 @@ fn final_sums(first: &Sheet, second: &Sheet) -> Option<Fault> {
     let seconds = finals(second);
     finals(first).into_iter().find_map(|(node, one)| {
         seconds.iter().find_map(|&(partner, other)| {
-            let sum = beyond(one, other)?;
+            let sum = beyond(first.unit(), one, other)?;
             let why = format!("node {node} of the first and node {partner} of the second: {sum}");
             Some(Fault::new(12, Place::Whole, why))
         })
@@ -69,11 +69,12 @@ fn final_sums(first: &Sheet, second: &Sheet) -> Option<Fault> {
 }
 
 // Two weights whose sum is finite and off the grid, in words. Sums of whole units are whole.
-fn beyond(one: f32, other: f32) -> Option<String> {
-    let (one, other) = (units(one)?, units(other)?);
-    let off = (one + other).abs() > WEIGHT_LIMIT;
-    let (a, b) = (Decimal(one), Decimal(other));
-    off.then(|| format!("{a} + {b} is more than 128 either way"))
+fn beyond(unit: Unit, one: f32, other: f32) -> Option<String> {
+    let cost = |weight| units(weight, unit).map(|units| Cost { units, unit });
+    let (one, other) = (cost(one)?, cost(other)?);
+    let off = (one.units + other.units).abs() > WEIGHT_LIMIT;
+    let largest = largest(unit);
+    off.then(|| format!("{one} + {other} is more than {largest} either way"))
 }
 
 #[cfg(test)]
@@ -110,5 +111,14 @@ mod tests {
         assert_eq!(found(&many(128), &many(128)), "none");
         let more = "11 16512 pairs of links have one label, and 16384 is the most";
         assert_eq!(found(&many(129), &many(128)), more);
+    }
+
+    #[test]
+    fn sums_of_the_finer_unit() {
+        let final_at = |weight| Sheet::write_in(&[], &[Some(weight)], None, Unit::Of256).unwrap();
+        assert_eq!(fault(&final_at(31.5), &final_at(0.5)), None);
+        let found = fault(&final_at(32.0), &final_at(0.00390625)).unwrap();
+        let said = "node 0 of the first and node 0 of the second: 32 + 0.00390625 is more than 32 either way";
+        assert_eq!((found.number, found.to_string().as_str()), (12, said));
     }
 }

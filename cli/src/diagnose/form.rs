@@ -22,7 +22,7 @@ impl Form {
 
 /// What bytes are taken for: a sheet where at least four of them, and one in sixteen, are 0; else rows, so that a text with a stray byte of 0 is
 /// still a text. Whatever the library accepts is told right by this: each link of a sheet has such a byte in its weight, each node three in
-/// its mark, and the trailer four in the offset of links, while no row that can be read has one.
+/// its mark, and the trailer, whichever it is, four in the offset of links, while no row that can be read has one.
 pub fn form(bytes: &[u8]) -> Form {
     let zeros = bytes.iter().filter(|&&byte| byte == 0).count();
     if zeros >= 4 && 16 * zeros >= bytes.len() {

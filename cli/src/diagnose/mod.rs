@@ -11,17 +11,21 @@ mod weight;
 
 use std::fmt;
 
+use yeldmur::Unit;
+
 pub use both::fault as fault_of_both;
 pub use form::{form, Form};
 
-/// Which tests are made, of a sheet: 1 to 4, then those of a search, with or without that of labels or of a node, or that of rows. Of rows: 8,
-/// 1 and 4, then the same.
+/// Which tests are made, of a sheet: 1, 14 and 2 to 4, then those of a search, with or without that of labels or of a node, or that of rows.
+/// Of rows: 8, 1 and 4, then the same.
 #[derive(Clone, Copy, Debug, PartialEq, Eq)]
 pub enum Tests {
     /// 5 and 6.
     Search,
     /// 5, 6 and 10, of a sheet that is one of two.
     Labels,
+    /// 5 and 6, of the second of two sheets, whose 14 is also another unit than this, the first's. Rows are given it after 4.
+    Second(Unit),
     /// 5, 6 and 13, of a sheet that is to narrow to this node.
     Narrow(u32),
     /// 9.

@@ -3,7 +3,7 @@
 
 use std::collections::HashMap;
 
-use yeldmur::{LINK_LIMIT, NODE_LIMIT};
+use yeldmur::{Unit, LINK_LIMIT, NODE_LIMIT};
 
 use super::weight::{are_digits, Written};
 use super::{Fault, Place, Tests};
@@ -56,6 +56,9 @@ pub(super) fn fault(text: &[u8], tests: Tests) -> Option<Fault> {
         Tests::Labels => limits(&rows)
             .or_else(|| climb(&rows))
             .or_else(|| labels(&rows)),
+        Tests::Second(unit) => unequal(unit)
+            .or_else(|| limits(&rows))
+            .or_else(|| climb(&rows)),
         Tests::Narrow(c) => limits(&rows)
             .or_else(|| climb(&rows))
             .or_else(|| narrow(&rows, c)),
@@ -196,6 +199,13 @@ fn off_the_grid(rows: &[Row]) -> Option<Fault> {
     })
 }
 
+// Rows serve one unit alone.
+fn unequal(unit: Unit) -> Option<Fault> {
+    let rows = Unit::Of64;
+    let why = format!("rows are of unit {rows}, and the first input's unit is {unit}");
+    (unit != rows).then(|| Fault::new(14, Place::Whole, why))
+}
+
 fn limits(rows: &[Row]) -> Option<Fault> {
     let node = rows.iter().find_map(|row| {
         let node = row.nodes().find(|node| node.number >= NODE_LIMIT)?;
@@ -329,6 +339,27 @@ mod tests {
             assert_eq!(found_by(text, Tests::Labels), said, "{text:?}");
         }
         assert_eq!(found("0 1 7 8\n"), "none");
+    }
+
+    #[test]
+    fn beside_a_sheet_of_the_finer_unit() {
+        for (text, said) in [
+            ("0 1 x 7\n", "8 row 1, column 5: x is no whole number"),
+            ("0 129\n", "4 row 1, column 3: 129 is beyond 128"),
+            (
+                "9999\n",
+                "14 rows are of unit 1/64, and the first input's unit is 1/256",
+            ),
+            (
+                "0\n",
+                "14 rows are of unit 1/64, and the first input's unit is 1/256",
+            ),
+        ] {
+            assert_eq!(found_by(text, Tests::Second(Unit::Of256)), said, "{text:?}");
+        }
+        let far = found_by("9999\n", Tests::Second(Unit::Of64));
+        assert_eq!(far, "5 row 1, column 1: node 9999, and 2047 is the highest");
+        assert_eq!(found_by("0\n", Tests::Second(Unit::Of64)), "none");
     }
 
     #[test]

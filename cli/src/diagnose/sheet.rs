@@ -1,17 +1,17 @@
 //! The faults of a sheet.
 #![forbid(unsafe_code)]
 
-use yeldmur::{LINK_LIMIT, NODE_LIMIT};
+use yeldmur::{Trailer, Unit, LINK_LIMIT, NODE_LIMIT};
 
 use super::weight::why_not_bits;
 use super::{Fault, Place, Tests};
 
-const TRAILER: usize = 20;
 const NONE: u32 = 0xFFFF_FFFF;
 
-// The fields of bytes that are long enough for a trailer.
+// The fields of bytes that are long enough for the trailer.
 struct Fields<'a> {
     bytes: &'a [u8],
+    trailer: Trailer,
 }
 
 // A link's fields, with the node that it leaves.
@@ -30,13 +30,27 @@ struct Node {
 }
 
 impl<'a> Fields<'a> {
+    // By the trailer under which they are laid out, which is one at the most. Where that is neither, by the one that fits better.
     fn of(bytes: &'a [u8]) -> Option<Fields<'a>> {
-        (bytes.len() >= TRAILER).then_some(Fields { bytes })
+        let under = |trailer: Trailer| {
+            let enough = bytes.len() >= trailer.bytes();
+            enough.then_some(Fields { bytes, trailer })
+        };
+        let (short, long) = (under(Trailer::Short)?, under(Trailer::Long));
+        let better = long.filter(|long| long.fitting() > short.fitting());
+        Some(better.unwrap_or(short))
+    }
+
+    // How many of the three things are so that lay bytes out.
+    fn fitting(&self) -> usize {
+        let faults = [length(self), offset_of_links(self), offset_of_nodes(self)];
+        faults.iter().filter(|fault| fault.is_none()).count()
     }
 
     // The length that the counts ask for.
     fn length(&self) -> u64 {
-        16 * u64::from(self.links()) + 12 * u64::from(self.nodes()) + TRAILER as u64
+        let counted = 16 * u64::from(self.links()) + 12 * u64::from(self.nodes());
+        counted + self.trailer.bytes() as u64
     }
 
     fn word(&self, at: usize) -> u32 {
@@ -47,20 +61,33 @@ impl<'a> Fields<'a> {
             .fold(0, |word, &byte| word << 8 | u32::from(byte))
     }
 
-    fn trailer(&self, field: usize) -> u32 {
-        self.word(self.bytes.len() - TRAILER + 4 * field)
+    fn field(&self, field: usize) -> u32 {
+        self.word(self.bytes.len() - self.trailer.bytes() + 4 * field)
     }
 
     fn nodes(&self) -> u32 {
-        self.trailer(2)
+        self.field(2)
     }
 
     fn links(&self) -> u32 {
-        self.trailer(3)
+        self.field(3)
     }
 
     fn start(&self) -> u32 {
-        self.trailer(4)
+        self.field(4)
+    }
+
+    // How many of its units are 1, whatever stands there.
+    fn unit_field(&self) -> u32 {
+        match self.trailer {
+            Trailer::Short => 64,
+            Trailer::Long => self.field(5),
+        }
+    }
+
+    // None where it is another than there are.
+    fn unit(&self) -> Option<Unit> {
+        Unit::from_count(self.unit_field())
     }
 
     // Of bytes of the right length.
@@ -103,50 +130,57 @@ pub(super) fn fault(bytes: &[u8], tests: Tests) -> Option<Fault> {
     };
     let sheet = &fields;
     let read = length(sheet)
-        .or_else(|| offsets(sheet))
+        .or_else(|| offset_of_links(sheet))
+        .or_else(|| offset_of_nodes(sheet))
         .or_else(|| marks(sheet))
         .or_else(|| sum_of_counts(sheet))
+        .or_else(|| other_unit(sheet))
+        .or_else(|| match tests {
+            Tests::Second(unit) => unequal(sheet, unit),
+            _ => None,
+        })
         .or_else(|| start(sheet))
         .or_else(|| next_nodes(sheet))
         .or_else(|| link_weights(sheet))
         .or_else(|| final_weights(sheet));
     read.or_else(|| match tests {
-        Tests::Search => limits(sheet).or_else(|| climb(sheet)),
+        Tests::Search | Tests::Second(_) => limits(sheet).or_else(|| climb(sheet)),
         Tests::Labels => limits(sheet)
             .or_else(|| climb(sheet))
             .or_else(|| labels(sheet)),
         Tests::Narrow(c) => limits(sheet)
             .or_else(|| climb(sheet))
             .or_else(|| narrow(sheet, c)),
-        Tests::Rows => bare_start(sheet).or_else(|| bare_last(sheet)),
+        Tests::Rows => longer_trailer(sheet)
+            .or_else(|| bare_start(sheet))
+            .or_else(|| bare_last(sheet)),
     })
 }
 
 fn length(sheet: &Fields) -> Option<Fault> {
     let (is, needed) = (sheet.bytes.len() as u64, sheet.length());
     let (nodes, links) = (sheet.nodes(), sheet.links());
+    let trailer = match sheet.trailer {
+        Trailer::Short => "trailer",
+        Trailer::Long => "longer trailer",
+    };
     let why =
-        format!("{is} bytes, where the trailer's {nodes} nodes and {links} links take {needed}");
+        format!("{is} bytes, where the {trailer}'s {nodes} nodes and {links} links take {needed}");
     (is != needed).then(|| Fault::new(1, Place::Field("length"), why))
 }
 
-fn offsets(sheet: &Fields) -> Option<Fault> {
-    let (links, nodes) = (sheet.trailer(0), sheet.trailer(1));
+fn offset_of_links(sheet: &Fields) -> Option<Fault> {
+    offset("offset of links", sheet.field(0), 0)
+}
+
+fn offset_of_nodes(sheet: &Fields) -> Option<Fault> {
     let begin = 16 * u64::from(sheet.links());
-    let wrong = |field, is, right| {
-        Fault::new(
-            1,
-            Place::Field(field),
-            format!("{is}, where {right} has to stand"),
-        )
-    };
-    if links != 0 {
-        Some(wrong("offset of links", links, 0))
-    } else if u64::from(nodes) != begin {
-        Some(wrong("offset of nodes", nodes, begin))
-    } else {
-        None
-    }
+    offset("offset of nodes", sheet.field(1), begin)
+}
+
+fn offset(field: &'static str, is: u32, right: u64) -> Option<Fault> {
+    let why = || format!("{is}, where {right} has to stand");
+    (u64::from(is) != right).then(|| Fault::new(1, Place::Field(field), why()))
 }
 
 fn marks(sheet: &Fields) -> Option<Fault> {
@@ -175,6 +209,22 @@ fn sum_of_counts(sheet: &Fields) -> Option<Fault> {
     (sum != u64::from(links)).then(|| Fault::new(1, Place::Field("link counts"), why))
 }
 
+fn other_unit(sheet: &Fields) -> Option<Fault> {
+    let why = format!("{}, where 64 or 256 has to stand", sheet.unit_field());
+    let other = sheet.unit().is_none();
+    other.then(|| Fault::new(14, Place::Field("unit"), why))
+}
+
+fn unequal(sheet: &Fields, first: Unit) -> Option<Fault> {
+    let unit = sheet.unit()?;
+    let why = match sheet.trailer {
+        Trailer::Short => format!("{unit} by the shorter trailer"),
+        Trailer::Long => unit.to_string(),
+    };
+    let why = format!("{why}, and the first input's is {first}");
+    (unit != first).then(|| Fault::new(14, Place::Field("unit"), why))
+}
+
 fn start(sheet: &Fields) -> Option<Fault> {
     let (start, nodes) = (sheet.start(), sheet.nodes());
     let why = format!("{start}, where there are {nodes} nodes");
@@ -189,8 +239,9 @@ fn next_nodes(sheet: &Fields) -> Option<Fault> {
 }
 
 fn link_weights(sheet: &Fields) -> Option<Fault> {
+    let unit = sheet.unit()?;
     sheet.each_link().find_map(|(number, link)| {
-        let why = why_not_bits(link.weight)?;
+        let why = why_not_bits(link.weight, unit)?;
         Some(Fault::new(
             4,
             Place::Link(number),
@@ -200,8 +251,9 @@ fn link_weights(sheet: &Fields) -> Option<Fault> {
 }
 
 fn final_weights(sheet: &Fields) -> Option<Fault> {
+    let unit = sheet.unit()?;
     sheet.each_node().find_map(|(number, node)| {
-        let why = why_not_bits(node.weight)?;
+        let why = why_not_bits(node.weight, unit)?;
         Some(Fault::new(
             4,
             Place::Node(number),
@@ -274,6 +326,11 @@ fn leads_past(sheet: &Fields, c: u32) -> Option<Fault> {
     let (source, next) = (link.source, link.next);
     let why = format!("leads from node {source} past node {c} to node {next}");
     Some(Fault::new(13, Place::Link(number), why))
+}
+
+fn longer_trailer(sheet: &Fields) -> Option<Fault> {
+    let why = "it has 24 bytes, and only sheets whose trailer has 20 have rows";
+    (sheet.trailer == Trailer::Long).then(|| Fault::new(9, Place::Field("trailer"), why))
 }
 
 fn bare_start(sheet: &Fields) -> Option<Fault> {

@@ -1,32 +1,44 @@
 //! Which weights are accepted, on the grid or barred, and why others are not.
 #![forbid(unsafe_code)]
 
-use yeldmur::{BARRED, WEIGHT_LIMIT};
+use yeldmur::{Cost, Unit, BARRED, WEIGHT_LIMIT};
 
-use crate::decimal::{Decimal, INFINITY};
+use crate::decimal::INFINITY;
 
-// The millionths of a sixty-fourth, and the largest weight.
-const UNIT: u32 = 15_625;
-const LARGEST: u32 = WEIGHT_LIMIT as u32 / 64;
+// The millionths of a sixty-fourth, the unit of rows.
+const MILLIONTHS: u32 = 15_625;
 
-/// Why the weight of these bits is off the grid, or none where it is on it or barred.
-pub(super) fn why_not_bits(bits: u32) -> Option<String> {
+/// The largest weight in a unit.
+pub(super) fn largest(unit: Unit) -> u32 {
+    WEIGHT_LIMIT as u32 / unit.count()
+}
+
+fn not_whole(unit: Unit) -> String {
+    let units = match unit {
+        Unit::Of64 => "sixty-fourths",
+        Unit::Of256 => "256ths",
+    };
+    format!("is no whole number of {units}")
+}
+
+/// Why the weight of these bits is off the grid of a unit, or none where it is on it or barred.
+pub(super) fn why_not_bits(bits: u32, unit: Unit) -> Option<String> {
     if bits == BARRED.to_bits() {
         return None;
     }
     let weight = f32::from_bits(bits);
     // exact in double precision
-    let units = f64::from(weight) * 64.0;
+    let units = f64::from(weight) * f64::from(unit.count());
     let reason = if weight.is_nan() {
-        "is no number"
+        "is no number".to_string()
     } else if bits == (-0.0f32).to_bits() {
-        "is negative zero"
+        "is negative zero".to_string()
     } else if weight == -BARRED {
-        "is negative infinity"
+        "is negative infinity".to_string()
     } else if units.abs() > f64::from(WEIGHT_LIMIT) {
-        "is beyond 128"
+        format!("is beyond {}", largest(unit))
     } else if units.fract() != 0.0 {
-        "is no whole number of sixty-fourths"
+        not_whole(unit)
     } else {
         return None;
     };
@@ -91,27 +103,30 @@ impl<'a> Number<'a> {
     }
 
     fn why_not(&self) -> Option<String> {
+        let (unit, largest) = (Unit::Of64, largest(Unit::Of64));
         // more than three digits are beyond all limits
         let ones = match self.ones.len() {
             0..=3 => self
                 .ones
                 .iter()
                 .fold(0, |sum, digit| 10 * sum + u32::from(digit - b'0')),
-            _ => LARGEST + 1,
+            _ => largest + 1,
         };
-        if ones > LARGEST || (ones == LARGEST && self.millionths > 0) {
-            return Some("is beyond 128".to_string());
+        if ones > largest || (ones == largest && self.millionths > 0) {
+            return Some(format!("is beyond {largest}"));
         }
-        let (units, over) = (self.millionths / UNIT, self.millionths % UNIT);
+        let (units, over) = (self.millionths / MILLIONTHS, self.millionths % MILLIONTHS);
         if over == 0 {
             return None;
         }
-        let below = (64 * ones + units) as i32;
+        let below = (unit.count() * ones + units) as i32;
         let sign = if self.negative { -1 } else { 1 };
-        let (one, other) = (Decimal(sign * below), Decimal(sign * (below + 1)));
-        Some(format!(
-            "is no whole number of sixty-fourths; {one} and {other} are the nearest"
-        ))
+        let [one, other] = [below, below + 1].map(|units| {
+            let units = sign * units;
+            Cost { units, unit }
+        });
+        let reason = not_whole(unit);
+        Some(format!("{reason}; {one} and {other} are the nearest"))
     }
 }
 
@@ -126,21 +141,50 @@ mod tests {
 
     #[test]
     fn bits_on_the_grid() {
-        for units in -8_192..=8_192 {
-            assert_eq!(why_not_bits((units as f32 / 64.0).to_bits()), None);
+        for unit in [Unit::Of64, Unit::Of256] {
+            for units in -8_192..=8_192 {
+                let weight = units as f32 / unit.count() as f32;
+                assert_eq!(why_not_bits(weight.to_bits(), unit), None);
+            }
+            assert_eq!(why_not_bits(BARRED.to_bits(), unit), None);
         }
-        assert_eq!(why_not_bits(BARRED.to_bits()), None);
-        for (weight, reason) in [
-            (f32::NAN, "is no number"),
-            (f32::from_bits(0x7F80_0001), "is no number"),
-            (f32::MAX, "is beyond 128"),
-            (f32::NEG_INFINITY, "is negative infinity"),
-            (-0.0, "is negative zero"),
-            (0.3, "is no whole number of sixty-fourths"),
-            (f32::from_bits(1), "is no whole number of sixty-fourths"),
-            (128.00002, "is beyond 128"),
+        for (weight, coarse, fine) in [
+            (f32::NAN, "is no number", "is no number"),
+            (f32::from_bits(0x7F80_0001), "is no number", "is no number"),
+            (f32::MAX, "is beyond 128", "is beyond 32"),
+            (
+                f32::NEG_INFINITY,
+                "is negative infinity",
+                "is negative infinity",
+            ),
+            (-0.0, "is negative zero", "is negative zero"),
+            (
+                0.3,
+                "is no whole number of sixty-fourths",
+                "is no whole number of 256ths",
+            ),
+            (
+                f32::from_bits(1),
+                "is no whole number of sixty-fourths",
+                "is no whole number of 256ths",
+            ),
+            (128.00002, "is beyond 128", "is beyond 32"),
+            (
+                -8193.0 / 256.0,
+                "is no whole number of sixty-fourths",
+                "is beyond 32",
+            ),
+            (1.0 / 128.0, "is no whole number of sixty-fourths", ""),
+            (33.0, "", "is beyond 32"),
         ] {
-            assert!(why_not_bits(weight.to_bits()).unwrap().ends_with(reason));
+            for (unit, reason) in [(Unit::Of64, coarse), (Unit::Of256, fine)] {
+                let why = why_not_bits(weight.to_bits(), unit);
+                assert_eq!(why.is_none(), reason.is_empty(), "{weight} {unit}");
+                assert!(
+                    why.is_none_or(|why| why.ends_with(reason)),
+                    "{weight} {unit}"
+                );
+            }
         }
     }
 

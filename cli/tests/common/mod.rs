@@ -107,6 +107,11 @@ pub fn bytes(words: &[u32]) -> Vec<u8> {
     words.iter().flat_map(|word| word.to_le_bytes()).collect()
 }
 
+/// A sheet with a unit behind its shorter trailer, which makes it the longer.
+pub fn stating(unit: u32, sheet: &[u8]) -> Vec<u8> {
+    [sheet, &unit.to_le_bytes()].concat()
+}
+
 /// The rows of a chain, with a link of each label from 1 on.
 pub fn chain(nodes: u32, weight: &str) -> String {
     let links = (1..nodes).map(|next| format!("{} {next} {next} {next} {weight}\n", next - 1));

@@ -38,7 +38,7 @@ abbrev pub told_list : List ℕ → ℕ → Result Listed Refusal → Told
 told_list bytes n (Err r) = refused (number_of r)
 told_list bytes n (Ok l) =
     let m = machine bytes in
-    let runs = list_of n l.nodes l.links (result_after bytes n work_words result_area) in
+    let runs = list_of m.form n l.nodes l.links (result_after bytes n work_words result_area) in
     list l.nodes l.links (map (map (λ (l : ℕ). (link m l).ilabel)) runs) (map (λ (run : List ℕ). reading_cost m (reading_of m run)) runs) l.taken
 
 -- the list for n of a sheet
@@ -82,11 +82,11 @@ pub record Case : Type 0 where
   pub told : List Told
   pub stated : List Told
 
-abbrev units : ℕ → Tropical
+abbrev pub units : ℕ → Tropical
 units k = fin (pos k)
 
 -- the readings of A by their labels
-abbrev all_a : Told
+abbrev pub all_a : Told
 all_a = list 12 13 ((1 ∷ 3 ∷ []) ∷ (2 ∷ 4 ∷ []) ∷ (1 ∷ 5 ∷ 4 ∷ []) ∷ []) (units 112 ∷ units 112 ∷ units 144 ∷ []) 11
 
 -- distances 0, 1, 0.5, 1.25: each reached, 1 and the weight bits

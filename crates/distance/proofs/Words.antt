@@ -2,25 +2,25 @@
 use mathlib.Core.Path.{◌≡◌, refl, sym, ap, ◌∙◌}
 use mathlib.Core.Bool.{Bool, cond}
 use mathlib.Core.List.{List}
-use Prim.Native.Nat.{ℕ, ◌+◌, ◌<◌}
+use Prim.Native.Nat.{ℕ, ◌+◌, ◌<◌, ◌≤◌}
 use native.Mathlib.Omega.{arith}
 use lib.Dec.{eqb}
 use lib.Ieee.{binary32, of_bits}
 use lib.ListN.{length, get_or, set, drop, length-set}
 use lib.Seq.{get_or-set_same, get_or-set_other, drop-set-lt}
 use borrow.Author.Tests.{eq-eqb, ne_eqb}
-use Rattle.tropical_weight.specs.Limits.{unit}
+use Rattle.tropical_weight.specs.Limits.{finest}
 use Rattle.tropical_weight.specs.Tropical.{fin}
-use Rattle.tropical_weight.proofs.Exact.{covered, bits_back}
+use Rattle.tropical_weight.proofs.Exact.{bits_back}
 use Rattle.machine.specs.Distance as Named
 use Rattle.std.specs.Prelude.{Some, None}
 use Rattle.distance.specs.Written.{written}
 use Rattle.distance.specs.Held.{Distance, held, mark_in, bits_in, words_in, distance_in, with_distance}
 
 -- the words of a distance as it is held are those it is written in
-pub words-written : (d : Named.Distance) → words_in (held d) ≡ written d
-words-written (Named.reached k) = refl
-words-written Named.unreached = refl
+pub words-written : (unit : ℕ) (d : Named.Distance) → words_in (held unit d) ≡ written unit d
+words-written unit (Named.reached k) = refl
+words-written unit Named.unreached = refl
 
 module _ (work : List ℕ) (at : ℕ) where
   -- ---- by its first word
@@ -45,11 +45,14 @@ module _ (work : List ℕ) (at : ℕ) where
     bits_put : get_or (with_distance work at d) (at + 1) 0 ≡ bits_in d
     bits_put = get_or-set_same (set work at (mark_in d)) (at + 1) (bits_in d) 0 (omega (arith, length-set work at (mark_in d)))
 
-  -- what is stored is read back
-  pub put_back : (d : Named.Distance) → at + 1 < length work → distance_in (with_distance work at (held d)) at ≡ held d
-  put_back Named.unreached h = sym (read-unreached (with_distance work at None) at (mark-put None h))
-  put_back (Named.reached k) h =
-      let d = held (Named.reached k) in
+  -- what is stored is read back, in any unit that the laws cover
+  pub none_back : at + 1 < length work → distance_in (with_distance work at None) at ≡ None
+  none_back h = sym (read-unreached (with_distance work at None) at (mark-put None h))
+
+  pub put_back : (unit : ℕ) → unit ≤ finest → (d : Named.Distance) → at + 1 < length work → distance_in (with_distance work at (held unit d)) at ≡ held unit d
+  put_back unit covered Named.unreached h = none_back h
+  put_back unit covered (Named.reached k) h =
+      let d = held unit (Named.reached k) in
       sym (read-reached (with_distance work at d) at (λ e. omega (arith, e, mark-put d h)))
       ∙ ap (λ (w : ℕ). Some (of_bits binary32 w)) (bits_put d h) ∙ ap Some (bits_back unit covered (fin k))
 

@@ -4,7 +4,6 @@ use Rattle.std.specs.Prelude.{Bool, false, cond, List, [], ◌∷◌, ℕ, ◌+�
 use Rattle.std.specs.Float.Ieee as Ieee
 use Rattle.std.specs.Float.{binary32}
 use Rattle.std.specs.Float.Ieee.{add, lt, of_bits, to_bits}
-use Rattle.tropical_weight.specs.Limits.{unit}
 use Rattle.tropical_weight.specs.Grid.{of_k}
 use Rattle.machine.specs.Distance as Named
 
@@ -12,10 +11,10 @@ use Rattle.machine.specs.Distance as Named
 abbrev pub Distance : Type 0
 Distance = Option Float
 
--- that of a distance of the definitions
-abbrev pub held : Named.Distance → Distance
-held (Named.reached k) = Some (of_k unit k)
-held Named.unreached = None
+-- that of a distance of the definitions, in units of 1 / 2 ^ j
+abbrev pub held : ℕ → Named.Distance → Distance
+held j (Named.reached k) = Some (of_k j k)
+held j Named.unreached = None
 
 -- what it adds to a sum
 abbrev pub weight_in : Distance → Float

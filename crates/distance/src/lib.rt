@@ -7,6 +7,7 @@ ghost use Rattle.std.proofs.lemmas.List.Edits.{sets};
 ghost use Rattle.sheet.specs.Words.{bytes_of_all};
 ghost use Rattle.distance.specs.Held.{weight_in, total_in, distance_from};
 ghost use Rattle.distance.specs.Held.{mark_in, bits_in, words_in, distance_in, with_distance};
+ghost use Rattle.distance.specs.Written.{written_length};
 
 use sheet::words::put_words;
 
@@ -71,7 +72,7 @@ pub fn put_distance(work: &mut [u32], at: usize, d: Option<f32>)
 
 // Writes a distance, little-endian, at a byte of the result.
 pub fn write_distance(res: &mut [u8], at: usize, d: Option<f32>)
-    requires { at + 8 ≤ length res.old }
+    requires { at + written_length ≤ length res.old }
     ensures { res.new ≡ sets res.old at (bytes_of_all (words_in d)) }
 {
     let words = [mark(d), bits(d)];

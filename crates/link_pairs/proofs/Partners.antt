@@ -1,7 +1,6 @@
 -- Among keys in order those with one label stand together, from the first that is not below that label's least key. Assumes nothing.
-use mathlib.Core.Path.{◌≡◌, refl, sym, ap, ◌∙◌, subst}
+use mathlib.Core.Path.{◌≡◌, sym, ap, ◌∙◌, subst}
 use mathlib.Core.Bool.{Bool, false, cond}
-use mathlib.Core.List.Memᴰ
 use mathlib.Core.List.{List, [], ◌∷◌, ◌++◌}
 use Prim.Native.Nat.{ℕ, ◌+◌, ◌-◌, ◌≤◌, ◌<◌}
 use native.Mathlib.Numerals.{add-one}
@@ -11,7 +10,6 @@ use lib.ListN.{length, get_or, take, drop, take-append-drop, length-drop, drop_o
 use lib.Seq.{length-take-le, get_or-take, get_or-drop, drop-cons}
 use borrow.Author.Tests.{eq-eqb, ne_eqb}
 use Rattle.machine.specs.Readings.{keep}
-use Rattle.machine.specs.Demand.{◌∈◌}
 use Rattle.machine.proofs.Lists.{mem-get_or, keep_append, keep-none}
 use Rattle.sorted_keys.specs.Sorted.{Rising, FirstAtLeast}
 use Rattle.product.specs.Keys.{link_key, key_label}

@@ -7,6 +7,7 @@ use Rattle.std.proofs.lemmas.List.Edits.{sets}
 use Rattle.tropical_weight.specs.Limits.{link_limit}
 use Rattle.sheet.specs.Below.{list_below}
 use Rattle.sheet.specs.Words.{word}
+use Rattle.sheet.specs.Sheet.{link_length}
 use Rattle.sheet.specs.Records.{count_at}
 use Rattle.sheet.specs.Machine.{Machine}
 use Rattle.machine.specs.Readings.{keep}
@@ -15,7 +16,7 @@ use Rattle.product.specs.Keys.{link_key, key_label, key_node, key_link, pair_key
 
 -- the key of link i of node v, whose links begin at number `first`
 abbrev pub node_key : List ℕ → ℕ → ℕ → ℕ → ℕ
-node_key bytes v first i = link_key (word bytes (16 * (first + i))) v (first + i)
+node_key bytes v first i = link_key (word bytes (link_length * (first + i))) v (first + i)
 
 -- the keys of the links of node v of a sheet with so many links
 abbrev pub node_keys : List ℕ → ℕ → ℕ → ℕ → List ℕ

@@ -1,7 +1,8 @@
 -- What a call for a list answers and needs, and the words of its records. But for `slots_of` and `slots_for` it mirrors the code: a reader need not believe that part. Definitions only.
 use Rattle.std.specs.Prelude.{Bool, true, false, cond, List, [], ◌∷◌, ◌++◌, ℕ, zero, suc, ◌+◌, ◌*◌, ltb, length, drop, Result as Answer, Ok, Err}
 use Rattle.sheet.specs.declared.refusal.Refusal.{Refusal}
-use Rattle.sheet.specs.Words.{word}
+use Rattle.sheet.specs.Words.{word_length, word}
+use Rattle.sheet.specs.Sheet.{link_length}
 use Rattle.sheet.specs.Machine.{Machine}
 use Rattle.machine.specs.Readings.{marked}
 use Rattle.search.specs.ListMachine.{Result, result_bytes}
@@ -23,7 +24,7 @@ listed_over r old = cond (ltb (length old) (length (result_bytes r))) old (resul
 -- ---- the words of an answer's records
 -- link l with another next node
 abbrev pub link_to : List ℕ → ℕ → ℕ → List ℕ
-link_to bytes l next = word bytes (16 * l) ∷ word bytes (16 * l + 4) ∷ word bytes (16 * l + 8) ∷ next ∷ []
+link_to bytes l next = word bytes (link_length * l) ∷ word bytes (link_length * l + word_length) ∷ word bytes (link_length * l + 2 * word_length) ∷ next ∷ []
 
 -- n states of one link that are not final
 unfoldable pub state_words : ℕ → List ℕ

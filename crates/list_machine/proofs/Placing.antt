@@ -11,8 +11,12 @@ use lib.Dec.{eqb}
 use lib.ListN.{length, replicate, length-append, length-replicate, replicate-append-replicate}
 use lib.Seq.{sets}
 use borrow.Author.Tests.{eq-eqb, ne_eqb}
+use Rattle.sheet.specs.declared.form.Form.{Form}
 use Rattle.sheet.specs.Words.{bytes_of, bytes_of_all}
+use Rattle.sheet.specs.Sheet.{node_length, trailer_length}
+use Rattle.sheet.specs.Answers.{parts}
 use Rattle.sheet.proofs.Bytes.{length-bytes_of_all, bytes_of_all-one, stored_next}
+use Rattle.sheet.proofs.Writing.{trailer-size}
 use Rattle.slots.specs.Slots.{nothing}
 use Rattle.slots.proofs.Numbers.{number-none, number-some}
 use Rattle.list_answer.specs.ListAnswer.{link_to, state_words}
@@ -119,15 +123,17 @@ count-mono part (suc b) a h = elim (eq-or-lt_of_le h) [ inl e ↦ le_of_eq (ap (
 pub length-links_part : (bytes : List ℕ) (links : ℕ) (part : List ℕ) (entries listed kept : ℕ) → kept ≡ mark_count part (entries - 1) → length (links_part bytes links part entries listed) ≡ 4 * (listed + kept)
 length-links_part bytes links part entries listed kept e = length-append (start_words part listed) (link_words bytes links part (entries - 1)) ∙ omega (arith, length-start part listed, length-links bytes links part (entries - 1))
 
-pub length-nodes_part : (listed kept : ℕ) → length (nodes_part listed kept) ≡ 3 * (2 + kept) + 5
-length-nodes_part listed kept = length-append (head_words listed ++ state_words kept) (trailer_words (listed + kept) (2 + kept)) ∙ omega (arith, length-append (head_words listed) (state_words kept), length-states kept)
+pub length-nodes_part : (form : Form) (listed kept : ℕ) → 4 * length (nodes_part form listed kept) ≡ node_length * (2 + kept) + trailer_length form
+length-nodes_part form listed kept =
+    let trailer : 4 * length (trailer_words form (listed + kept) (2 + kept)) ≡ trailer_length form = trailer-size (parts [] [] 0 form) in
+    omega (arith, length-append (head_words listed ++ state_words kept) (trailer_words form (listed + kept) (2 + kept)), length-append (head_words listed) (state_words kept), length-states kept, trailer)
 
 pub length-words_part : (part : List ℕ) (entries listed kept : ℕ) → kept ≡ mark_count part (entries - 1) → length (words_part part entries listed) ≡ listed + kept
 length-words_part part entries listed kept e = length-append (replicate listed nothing) (input_words part (entries - 1)) ∙ omega (arith, length-replicate listed nothing, length-inputs part (entries - 1))
 
-pub length-list : (bytes : List ℕ) (links : ℕ) (part : List ℕ) (entries listed kept : ℕ) → kept ≡ mark_count part (entries - 1) → length (bytes_of_all (list_words bytes links part entries listed kept)) ≡ list_length listed kept
-length-list bytes links part entries listed kept e =
+pub length-list : (bytes : List ℕ) (links : ℕ) (form : Form) (part : List ℕ) (entries listed kept : ℕ) → kept ≡ mark_count part (entries - 1) → length (bytes_of_all (list_words bytes links form part entries listed kept)) ≡ list_length form listed kept
+length-list bytes links form part entries listed kept e =
     let ls = links_part bytes links part entries listed in
-    let ns = nodes_part listed kept in
-    length-bytes_of_all (list_words bytes links part entries listed kept)
-    ∙ omega (arith, length-append (ls ++ ns) (words_part part entries listed), length-append ls ns, length-links_part bytes links part entries listed kept e, length-nodes_part listed kept, length-words_part part entries listed kept e)
+    let ns = nodes_part form listed kept in
+    length-bytes_of_all (list_words bytes links form part entries listed kept)
+    ∙ omega (arith, length-append (ls ++ ns) (words_part part entries listed), length-append ls ns, length-links_part bytes links part entries listed kept e, length-nodes_part form listed kept, length-words_part part entries listed kept e)

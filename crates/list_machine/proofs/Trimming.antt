@@ -23,6 +23,7 @@ use Rattle.search.proofs.OnWays.{OnWay, came_from, way-listed, way-from, way-ins
 use Rattle.search_slots.specs.Slots.{from_word, listed_word, state_word}
 use Rattle.list_machine.specs.TrimWords.{unmarked, mark_listed, mark_from, mark_back, marks, mark_count, stated, kept_count, Holding}
 use Rattle.list_machine.proofs.Marks.{unmarked-other, length-unmarked, from-other, listed-other, states-first, states-at}
+use Rattle.slots.specs.Slots.{slot_length}
 
 -- ---- an entry on a way is listed, or one on a way came from it
 module _ (s : Search) (n : Numbered s) where
@@ -75,7 +76,7 @@ module _ (s : Search) (n : Numbered s) where
 
   -- words in which only entries on a way have marks
   record Sound (w : List ℕ) : Type 0 where
-    room : 8 * size ≤ length w
+    room : slot_length * size ≤ length w
     froms : (i : ℕ) → i < size → from_word w i ≡ came_from s i
     lists : (k : ℕ) → k < length s.listed → listed_word w k ≡ get_or s.listed k 0
     only : (i : ℕ) → i < size → Marked w i → OnWay s i
@@ -83,25 +84,25 @@ module _ (s : Search) (n : Numbered s) where
   -- one on a way marked
   module _ (w : List ℕ) (g : Sound w) (x : ℕ) (on : OnWay s x) where
     abbrev new : List ℕ
-    new = set w (8 * x + 7) 1
+    new = set w (slot_length * x + 7) 1
 
     inside : x < size
     inside = way-inside s n x on
 
     self : state_word new x ≡ 1
-    self = get_or-set_same w (8 * x + 7) 1 0 (omega (arith, inside, g.room))
+    self = get_or-set_same w (slot_length * x + 7) 1 0 (omega (arith, inside, g.room))
 
     set-sound : Sound new
     set-sound = record {
-      room = omega (arith, g.room, length-set w (8 * x + 7) 1);
-      froms = λ i h. get_or-set_other w (8 * x + 7) (8 * i + 2) 1 0 (λ e. omega arith) ∙ g.froms i h;
-      lists = λ k h. get_or-set_other w (8 * x + 7) (8 * k + 6) 1 0 (λ e. omega arith) ∙ g.lists k h;
+      room = omega (arith, g.room, length-set w (slot_length * x + 7) 1);
+      froms = λ i h. get_or-set_other w (slot_length * x + 7) (slot_length * i + 2) 1 0 (λ e. omega arith) ∙ g.froms i h;
+      lists = λ k h. get_or-set_other w (slot_length * x + 7) (slot_length * k + 6) 1 0 (λ e. omega arith) ∙ g.lists k h;
       only = λ i h m. go i h m (ℕ_discrete i x);
     }
       where
         go : (i : ℕ) → i < size → Marked new i → Dec (i ≡ x) → OnWay s i
         go i h m (yes e) = subst (OnWay s) (sym e) on
-        go i h m (no e) = g.only i h (λ z. m (get_or-set_other w (8 * x + 7) (8 * i + 7) 1 0 (λ q. e (omega arith)) ∙ z))
+        go i h m (no e) = g.only i h (λ z. m (get_or-set_other w (slot_length * x + 7) (slot_length * i + 7) 1 0 (λ q. e (omega arith)) ∙ z))
 
     set-marks : Marked new x
     set-marks z = omega (arith, self)
@@ -111,7 +112,7 @@ module _ (s : Search) (n : Numbered s) where
       where
         go : Dec (i ≡ x) → Marked new i
         go (yes e) z = omega (arith, self, ap (state_word new) e)
-        go (no e) z = m (sym (get_or-set_other w (8 * x + 7) (8 * i + 7) 1 0 (λ q. e (omega arith))) ∙ z)
+        go (no e) z = m (sym (get_or-set_other w (slot_length * x + 7) (slot_length * i + 7) 1 0 (λ q. e (omega arith))) ∙ z)
 
   -- the listed
   listed-sound : (w : List ℕ) → Sound w → (k : ℕ) → k ≤ length s.listed → Sound (mark_listed k w) × ((j : ℕ) → j < k → Marked (mark_listed k w) (get_or s.listed j 0))
@@ -125,8 +126,8 @@ module _ (s : Search) (n : Numbered s) where
       (set-sound (mark_listed k w) r.0 x on, λ j b. go r.0 r.1 e on j (eq-or-lt_of_le (let z : j ≤ k = omega arith in z)))
     where
       go : (g : Sound (mark_listed k w)) → ((j : ℕ) → j < k → Marked (mark_listed k w) (get_or s.listed j 0)) → listed_word (mark_listed k w) k ≡ get_or s.listed k 0 → (on : OnWay s (listed_word (mark_listed k w) k))
-          → (j : ℕ) → (j ≡ k) ⊎ (j < k) → Marked (set (mark_listed k w) (8 * listed_word (mark_listed k w) k + 7) 1) (get_or s.listed j 0)
-      go g r e on j (inl q) = subst (Marked (set (mark_listed k w) (8 * listed_word (mark_listed k w) k + 7) 1)) (e ∙ ap (λ (i : ℕ). get_or s.listed i 0) (sym q)) (set-marks (mark_listed k w) g (listed_word (mark_listed k w) k) on)
+          → (j : ℕ) → (j ≡ k) ⊎ (j < k) → Marked (set (mark_listed k w) (slot_length * listed_word (mark_listed k w) k + 7) 1) (get_or s.listed j 0)
+      go g r e on j (inl q) = subst (Marked (set (mark_listed k w) (slot_length * listed_word (mark_listed k w) k + 7) 1)) (e ∙ ap (λ (i : ℕ). get_or s.listed i 0) (sym q)) (set-marks (mark_listed k w) g (listed_word (mark_listed k w) k) on)
       go g r e on j (inr b) = set_keeps (mark_listed k w) g (listed_word (mark_listed k w) k) on (get_or s.listed j 0) (r j b)
 
   -- down to entry k, those that entries above k on a way came from
@@ -146,7 +147,7 @@ module _ (s : Search) (n : Numbered s) where
   from-done k w h d = go (ℕ_discrete (state_word w (suc k)) 0)
     where
       go : Dec (state_word w (suc k) ≡ 0) → Done k (mark_from (suc k) w)
-      go (yes e) = subst (Done k) (sym (ap (λ (t : Bool). cond t w (set w (8 * from_word w (suc k) + 7) 1)) (eq-eqb (state_word w (suc k)) 0 e))) (record {
+      go (yes e) = subst (Done k) (sym (ap (λ (t : Bool). cond t w (set w (slot_length * from_word w (suc k) + 7) 1)) (eq-eqb (state_word w (suc k)) 0 e))) (record {
         sound = d.sound;
         listed = d.listed;
         came = λ p b on. next p on (eq-or-lt_of_le b);
@@ -155,9 +156,9 @@ module _ (s : Search) (n : Numbered s) where
           next : (p : ℕ) → OnWay s p → (suc k ≡ p) ⊎ (suc k < p) → Marked w (came_from s p)
           next p on (inl q) = absurd (done-marks (suc k) w d (suc k) (omega arith) (subst (OnWay s) (sym q) on) e)
           next p on (inr b) = d.came p b on
-      go (no e) = subst (Done k) (sym (ap (λ (t : Bool). cond t w (set w (8 * from_word w (suc k) + 7) 1)) (ne_eqb (state_word w (suc k)) 0 e))) marked
+      go (no e) = subst (Done k) (sym (ap (λ (t : Bool). cond t w (set w (slot_length * from_word w (suc k) + 7) 1)) (ne_eqb (state_word w (suc k)) 0 e))) marked
         where
-          marked : Done k (set w (8 * from_word w (suc k) + 7) 1)
+          marked : Done k (set w (slot_length * from_word w (suc k) + 7) 1)
           marked =
               let own : OnWay s (suc k) = d.sound.only (suc k) h e in
               let x = from_word w (suc k) in
@@ -169,8 +170,8 @@ module _ (s : Search) (n : Numbered s) where
                 came = λ p c o. next x to on p o (eq-or-lt_of_le c);
               }
             where
-              next : (x : ℕ) → x ≡ came_from s (suc k) → (on : OnWay s x) → (p : ℕ) → OnWay s p → (suc k ≡ p) ⊎ (suc k < p) → Marked (set w (8 * x + 7) 1) (came_from s p)
-              next x to on p o (inl q) = subst (Marked (set w (8 * x + 7) 1)) (to ∙ ap (came_from s) q) (set-marks w d.sound x on)
+              next : (x : ℕ) → x ≡ came_from s (suc k) → (on : OnWay s x) → (p : ℕ) → OnWay s p → (suc k ≡ p) ⊎ (suc k < p) → Marked (set w (slot_length * x + 7) 1) (came_from s p)
+              next x to on p o (inl q) = subst (Marked (set w (slot_length * x + 7) 1)) (to ∙ ap (came_from s) q) (set-marks w d.sound x on)
               next x to on p o (inr c) = set_keeps w d.sound x on (came_from s p) (d.came p c o)
 
   back_done : (k : ℕ) (w : List ℕ) → k < size → Done k w → Done 0 (mark_back k w)
@@ -178,21 +179,21 @@ module _ (s : Search) (n : Numbered s) where
   back_done zero w h d = d
   back_done (suc k) w h d = back_done k (mark_from (suc k) w) (omega arith) (from-done k w h d)
 
-  module _ (part : List ℕ) (x : Holding part s) where
+  module _ {unit : ℕ} (part : List ℕ) (x : Holding unit part s) where
     -- no mark at first
     none_yet : (k : ℕ) → k ≤ size → (i : ℕ) → i < k → state_word (unmarked k part) i ≡ 0
     unfolding unmarked
     none_yet zero h i b = absurd (omega arith)
     none_yet (suc k) h i b = elim (eq-or-lt_of_le (let z : i ≤ k = omega arith in z)) [
-      | inl e ↦ ap (state_word (set (unmarked k part) (8 * k + 7) 0)) e ∙ get_or-set_same (unmarked k part) (8 * k + 7) 0 0 (omega (arith, x.slots, length-unmarked k part))
-      | inr l ↦ get_or-set_other (unmarked k part) (8 * k + 7) (8 * i + 7) 0 0 (λ e. omega arith) ∙ none_yet k (omega arith) i l
+      | inl e ↦ ap (state_word (set (unmarked k part) (slot_length * k + 7) 0)) e ∙ get_or-set_same (unmarked k part) (slot_length * k + 7) 0 0 (omega (arith, x.slots, length-unmarked k part))
+      | inr l ↦ get_or-set_other (unmarked k part) (slot_length * k + 7) (slot_length * i + 7) 0 0 (λ e. omega arith) ∙ none_yet k (omega arith) i l
     ]
 
     clear : Sound (unmarked size part)
     clear = record {
       room = omega (arith, x.slots, length-unmarked size part);
-      froms = λ i h. unmarked-other size size part (8 * i + 2) (omega arith) (from-other size i) ∙ (x.held i h).from;
-      lists = λ k h. unmarked-other size size part (8 * k + 6) (omega arith) (listed-other size k) ∙ x.held-listed k h;
+      froms = λ i h. unmarked-other size size part (slot_length * i + 2) (omega arith) (from-other size i) ∙ (x.held i h).from;
+      lists = λ k h. unmarked-other size size part (slot_length * k + 6) (omega arith) (listed-other size k) ∙ x.held-listed k h;
       only = λ i h m. absurd (m (none_yet size (omega arith) i h));
     }
 

@@ -12,12 +12,13 @@ use lib.ListN.{length, get_or, take, drop, replicate, length-append}
 use lib.Seq.{take-suc, take-length}
 use borrow.Author.Tests.{eq-eqb, ne_eqb}
 use Rattle.tropical_weight.specs.Tropical.{Tropical, one}
-use Rattle.sheet.specs.Words.{word, bytes_of_all}
-use Rattle.sheet.specs.Sheet.{parts_of, stated_links, stated_nodes, sheet_of, trailer_of}
-use Rattle.sheet.specs.Machine.{Link, Machine, machine_of, machine, bits_of, link_fields, leaving, node_fields, parts_for}
+use Rattle.sheet.specs.Words.{word_length, word, bytes_of_all}
+use Rattle.sheet.specs.Sheet.{link_length, node_length, unit_fields, parts_of, stated_links, stated_nodes, sheet_of, trailer_of}
+use Rattle.sheet.specs.Machine.{Link, Machine, unit_in, machine_of, machine, bits_of, link_fields, leaving, node_fields, parts_for}
 use Rattle.sheet.proofs.Bytes.{bytes_of_all-append}
 use Rattle.sheet.proofs.Round.{Below}
-use Rattle.sheet.proofs.Encoding.{links-are, nodes-are, start_is, bits-one}
+use Rattle.sheet.proofs.Forms.{covered}
+use Rattle.sheet.proofs.Encoding.{links-are, nodes-are, start_is, form-is, bits-one}
 use Rattle.machine.specs.Readings.{link, final, final_weight}
 use Rattle.machine.specs.Input.{input_number}
 use Rattle.machine.proofs.SheetFields.{SheetFields, sheet-fields, final-word}
@@ -28,7 +29,7 @@ use Rattle.search.specs.States.{kept, state_of, later, start_link, entry_link, l
 use Rattle.search.proofs.Numbered.{Numbered}
 use Rattle.search.proofs.Readback.{links-long, nodes-long}
 use Rattle.search.proofs.OnWays.{OnWay, came_from, way-listed, way-from, way-inside}
-use Rattle.slots.specs.Slots.{nothing}
+use Rattle.slots.specs.Slots.{slot_length, nothing}
 use Rattle.slots.proofs.Numbers.{number-none, number-some}
 use Rattle.search_slots.specs.Slots.{node_word, from_word, input_word, listed_word, state_word, node_field, input_field}
 use Rattle.list_machine.specs.TrimWords.{stated, kept_count, start_words, node_of, blank_bits, entry_words, stated_words, link_words, head_words, trailer_words, repeat_words, input_words, links_part, nodes_part, words_part, list_words, list_length, list_answer, list_after, Readable, Linked, Listable, Holding, Sourced}
@@ -38,14 +39,14 @@ use Rattle.list_machine.proofs.Placing.{length-list, stated-off, stated-on, repe
 use Rattle.list_machine.proofs.Trimming.{kept-count, state-on, state-off}
 
 -- ---- lists
-flat_append : (a b : List Link) → flat_map link_fields (a ++ b) ≡ flat_map link_fields a ++ flat_map link_fields b
+flat_append : (j : ℕ) (a b : List Link) → flat_map (link_fields j) (a ++ b) ≡ flat_map (link_fields j) a ++ flat_map (link_fields j) b
 unfolding flat_map
-flat_append [] b = refl
-flat_append (k ∷ a) b = ap (λ (r : List ℕ). link_fields k ++ r) (flat_append a b) ∙ sym (append_assoc (link_fields k) (flat_map link_fields a) (flat_map link_fields b))
+flat_append j [] b = refl
+flat_append j (k ∷ a) b = ap (λ (r : List ℕ). link_fields j k ++ r) (flat_append j a b) ∙ sym (append_assoc (link_fields j k) (flat_map (link_fields j) a) (flat_map (link_fields j) b))
 
-flat-one : (k : Link) → flat_map link_fields (k ∷ []) ≡ link_fields k
+flat-one : (j : ℕ) (k : Link) → flat_map (link_fields j) (k ∷ []) ≡ link_fields j k
 unfolding flat_map
-flat-one k = append-nil (link_fields k)
+flat-one j k = append-nil (link_fields j k)
 
 leaving-append : (a b : List Link) (v : ℕ) → leaving (a ++ b) v ≡ leaving a v + leaving b v
 unfolding leaving
@@ -58,12 +59,12 @@ leaving-append (k ∷ a) b v = go (eqb k.source v) (leaving-append a b v)
 
 -- ---- the nodes of the list machine
 -- nodes of one link that are not final
-one_each : (ks : List Link) (k v : ℕ) → ((j : ℕ) → j < k → leaving ks (v + j) ≡ 1) → node_fields ks v (replicate k none) ≡ state_words k
+one_each : (unit : ℕ) (ks : List Link) (k v : ℕ) → ((j : ℕ) → j < k → leaving ks (v + j) ≡ 1) → node_fields unit ks v (replicate k none) ≡ state_words k
 unfolding node_fields state_words
-one_each ks zero v h = refl
-one_each ks (suc k) v h =
+one_each unit ks zero v h = refl
+one_each unit ks (suc k) v h =
     ap₂ (λ (a : ℕ) (r : List ℕ). (a ∷ 0 ∷ 0 ∷ []) ++ r) (ap (leaving ks) (let e : v ≡ v + 0 = omega arith in e) ∙ h 0 (omega arith))
-    (one_each ks k (suc v) (λ j b. ap (leaving ks) (let e : suc v + j ≡ v + suc j = omega arith in e) ∙ h (suc j) (omega arith)))
+    (one_each unit ks k (suc v) (λ j b. ap (leaving ks) (let e : suc v + j ≡ v + suc j = omega arith in e) ∙ h (suc j) (omega arith)))
 
 link-source : (m : Machine) (o : Option ℕ) (e : Entry) (u v : ℕ) → (link_by m o e u v).source ≡ u
 link-source m (some l) e u v = refl
@@ -142,22 +143,29 @@ module _ (m : Machine) (s : Search) where
   nodes-is =
       let start : leaving (list_machine m s).links 0 ≡ length s.listed = all-leave 0 ∙ omega (arith, starts-leave s.listed, entries-off (length s.entries - 1) 0 (inl (omega arith))) in
       let end : leaving (list_machine m s).links 1 ≡ 0 = all-leave 1 ∙ omega (arith, starts-stay s.listed 1 (omega arith), entries-off (length s.entries - 1) 1 (inl (omega arith))) in
-      let rest = one_each (list_machine m s).links (length (later s)) 2 (λ j h. all-leave (2 + j) ∙ omega (arith, starts-stay s.listed (2 + j) (omega arith), entries-on (length s.entries - 1) j h)) in
-      λ i. start i ∷ 0 ∷ 0 ∷ end i ∷ 1 ∷ bits-one i ∷ rest i
+      let rest = one_each (unit_in m) (list_machine m s).links (length (later s)) 2 (λ j h. all-leave (2 + j) ∙ omega (arith, starts-stay s.listed (2 + j) (omega arith), entries-on (length s.entries - 1) j h)) in
+      λ i. start i ∷ 0 ∷ 0 ∷ end i ∷ 1 ∷ bits-one (unit_in m) (covered m.form) i ∷ rest i
 
-  trailer-is : trailer_of (parts_for (list_machine m s)) ≡ trailer_words (length s.listed + length (later s)) (2 + length (later s))
+  trailer-is : trailer_of (parts_for (list_machine m s)) ≡ trailer_words m.form (length s.listed + length (later s)) (2 + length (later s))
   trailer-is =
       let l = links-are (list_machine m s) ∙ links-long m s in
       let n = nodes-are (list_machine m s) ∙ nodes-long m s in
-      λ i. 0 ∷ 16 * l i ∷ n i ∷ l i ∷ start_is (list_machine m s) i ∷ []
+      λ i. 0 ∷ link_length * l i ∷ n i ∷ l i ∷ start_is (list_machine m s) i ∷ unit_fields (form-is (list_machine m s) i)
 
 -- ---- the links, and their words
-module _ (bytes : List ℕ) (below : Below 256 bytes) (accepted : input_number bytes ≡ 0) (s : Search) (n : Numbered s) (part : List ℕ) (x : Holding part s) (y : Sourced (machine_of (parts_of bytes)) s) where
+module _ (bytes : List ℕ) (below : Below 256 bytes) (accepted : input_number bytes ≡ 0) (s : Search) (n : Numbered s) (part : List ℕ) (x : Holding (unit_in (machine_of (parts_of bytes))) part s) (y : Sourced (machine_of (parts_of bytes)) s) where
   abbrev m : Machine
   m = machine_of (parts_of bytes)
 
   abbrev links : ℕ
   links = stated_links bytes
+
+  -- the unit is 1 / 2 ^ unit
+  abbrev unit : ℕ
+  unit = unit_in m
+
+  one-bits : bits_of unit one ≡ 0
+  one-bits = bits-one unit (covered m.form)
 
   abbrev size : ℕ
   size = length s.entries
@@ -170,7 +178,7 @@ module _ (bytes : List ℕ) (below : Below 256 bytes) (accepted : input_number b
 
   -- link l by its fields, with other ends
   link-words : (l to source : ℕ) → l < stated_links bytes
-      → link_fields (record { source = source; ilabel = (link m l).ilabel; olabel = (link m l).olabel; weight = (link m l).weight; next = to }) ≡ link_to bytes l to
+      → link_fields unit (record { source = source; ilabel = (link m l).ilabel; olabel = (link m l).olabel; weight = (link m l).weight; next = to }) ≡ link_to bytes l to
   link-words l to source h = sym (λ i. fields.ilabel-at l h i ∷ fields.olabel-at l h i ∷ fields.link-bits below l h i ∷ to ∷ [])
 
   linked : Linked part (length s.entries) (length s.listed)
@@ -245,32 +253,32 @@ module _ (bytes : List ℕ) (below : Below 256 bytes) (accepted : input_number b
   new = stated size (length s.listed) part
 
   input-new : (i : ℕ) → input_word new i ≡ input_word part i
-  input-new i = stated-other part size (length s.listed) linked (8 * i + 3) (λ q b. omega arith)
+  input-new i = stated-other part size (length s.listed) linked (slot_length * i + 3) (λ q b. omega arith)
 
   node-new : (i : ℕ) → node_word new i ≡ node_word part i
-  node-new i = stated-other part size (length s.listed) linked (8 * i) (λ q b. omega arith)
+  node-new i = stated-other part size (length s.listed) linked (slot_length * i) (λ q b. omega arith)
 
   -- an entry's link leads to the state of the entry it came from
   to_is : (i : ℕ) → i < size → OnWay s i → state_word new (from_word new i) ≡ state_of s (e i).from
   to_is i h on =
       let w = way-from s n i on in
-      ap (state_word new) (stated-other part size (length s.listed) linked (8 * i + 2) (from-other size i) ∙ (x.held i h).from) ∙ state-on s n part x (came_from s i) (way-inside s n (came_from s i) w) w
+      ap (state_word new) (stated-other part size (length s.listed) linked (slot_length * i + 2) (from-other size i) ∙ (x.held i h).from) ∙ state-on s n part x (came_from s i) (way-inside s n (came_from s i) w) w
 
   -- the field of its weight, where it was put in by no input link
-  final-bits : (i : ℕ) → i < size → (f : Final i) → blank_bits bytes links (node_of new i) ≡ bits_of (final_weight (final m (suc f.old - 1)))
+  final-bits : (i : ℕ) → i < size → (f : Final i) → blank_bits bytes links (node_of new i) ≡ bits_of unit (final_weight (final m (suc f.old - 1)))
   final-bits i h f =
       let back : suc f.old - 1 ≡ f.old = omega arith in
       let is = node-new i ∙ node-half i (suc f.old) f.cost h f.half_is in
       ap (blank_bits bytes links) (number-some (node_word new i) (λ z. omega (arith, fields.few-nodes, f.inside, is)))
-      ∙ ap (λ (v : ℕ). word bytes (16 * links + 12 * (v - 1) + 8)) is
-      ∙ ap (λ (v : ℕ). word bytes (16 * links + 12 * v + 8)) back
+      ∙ ap (λ (v : ℕ). word bytes (link_length * links + node_length * (v - 1) + 2 * word_length)) is
+      ∙ ap (λ (v : ℕ). word bytes (link_length * links + node_length * v + 2 * word_length)) back
       ∙ sym (final-word fields below f.old f.weight f.weight_is).1
-      ∙ sym (ap (λ (o : Option Tropical). bits_of (final_weight o)) (ap (final m) back ∙ f.weight_is))
+      ∙ sym (ap (λ (o : Option Tropical). bits_of unit (final_weight o)) (ap (final m) back ∙ f.weight_is))
 
-  ended-bits : (i : ℕ) → i < size → (f : Ended i) → blank_bits bytes links (node_of new i) ≡ bits_of one
-  ended-bits i h f = ap (blank_bits bytes links) (number-none (node_word new i) (node-new i ∙ node-finished i f.cost h f.end_is)) ∙ sym bits-one
+  ended-bits : (i : ℕ) → i < size → (f : Ended i) → blank_bits bytes links (node_of new i) ≡ bits_of unit one
+  ended-bits i h f = ap (blank_bits bytes links) (number-none (node_word new i) (node-new i ∙ node-finished i f.cost h f.end_is)) ∙ sym one-bits
 
-  entry-is : (i : ℕ) → 0 < i → i < size → OnWay s i → entry_words bytes links new i ≡ link_fields (entry_link m s i)
+  entry-is : (i : ℕ) → 0 < i → i < size → OnWay s i → entry_words bytes links new i ≡ link_fields unit (entry_link m s i)
   entry-is i a b on = go (put-by i a b) (to_is i b on)
     where
       u : ℕ
@@ -279,51 +287,51 @@ module _ (bytes : List ℕ) (below : Below 256 bytes) (accepted : input_number b
       to : ℕ
       to = state_of s (e i).from
 
-      go : ((l : ℕ) × ((e i).input ≡ some l)) ⊎ (Final i ⊎ Ended i) → state_word new (from_word new i) ≡ to → entry_words bytes links new i ≡ link_fields (link_by m (e i).input (e i).entry u to)
+      go : ((l : ℕ) × ((e i).input ≡ some l)) ⊎ (Final i ⊎ Ended i) → state_word new (from_word new i) ≡ to → entry_words bytes links new i ≡ link_fields unit (link_by m (e i).input (e i).entry u to)
       go (inl q) t =
           let r = input-some i q.0 b q.1 in
           let w : input_word new i ≡ q.0 = input-new i ∙ r.0 in
           entry-copied new i bytes links (λ z. omega (arith, fields.few-links, w, r.1))
           ∙ (λ j. link_to bytes (w j) (t j))
           ∙ sym (link-words q.0 to u r.1)
-          ∙ ap (λ (o : Option ℕ). link_fields (link_by m o (e i).entry u to)) (sym q.1)
+          ∙ ap (λ (o : Option ℕ). link_fields unit (link_by m o (e i).entry u to)) (sym q.1)
       go (inr (inl f)) t =
           entry-blank new i bytes links (input-new i ∙ input_none i b f.none_is)
           ∙ (λ j. 0 ∷ 0 ∷ final-bits i b f j ∷ t j ∷ [])
-          ∙ (λ j. link_fields (link_by m (sym f.none_is j) (sym f.half_is j) u to))
+          ∙ (λ j. link_fields unit (link_by m (sym f.none_is j) (sym f.half_is j) u to))
       go (inr (inr f)) t =
           entry-blank new i bytes links (input-new i ∙ input_none i b f.none_is)
           ∙ (λ j. 0 ∷ 0 ∷ ended-bits i b f j ∷ t j ∷ [])
-          ∙ (λ j. link_fields (link_by m (sym f.none_is j) (sym f.end_is j) u to))
+          ∙ (λ j. link_fields unit (link_by m (sym f.none_is j) (sym f.end_is j) u to))
 
   state-some : (i : ℕ) → i < size → OnWay s i → state_word new i ≡ 0 → ⊥
   unfolding state_of
   state-some zero h on z = omega (arith, state-on s n part x 0 h on)
   state-some (suc i) h on z = omega (arith, state-on s n part x (suc i) h on)
 
-  links-is : (k : ℕ) → k < size → link_words bytes links new k ≡ flat_map link_fields (map (entry_link m s) (kept s k))
+  links-is : (k : ℕ) → k < size → link_words bytes links new k ≡ flat_map (link_fields unit) (map (entry_link m s) (kept s k))
   unfolding link_words kept flat_map
   links-is zero h = refl
   links-is (suc k) h =
       let t = on_way s.entries s.listed (suc k) in
       ap₂ (λ (a b : List ℕ). a ++ b) (links-is k (omega arith)) (go t refl)
-      ∙ sym (flat_append (map (entry_link m s) (kept s k)) (map (entry_link m s) (cond t (suc k ∷ []) [])))
-      ∙ ap (flat_map link_fields) (sym (map-append (entry_link m s) (kept s k) (cond t (suc k ∷ []) [])))
+      ∙ sym (flat_append unit (map (entry_link m s) (kept s k)) (map (entry_link m s) (cond t (suc k ∷ []) [])))
+      ∙ ap (flat_map (link_fields unit)) (sym (map-append (entry_link m s) (kept s k) (cond t (suc k ∷ []) [])))
     where
-      go : (t : Bool) → on_way s.entries s.listed (suc k) ≡ t → stated_words bytes links new (suc k) ≡ flat_map link_fields (map (entry_link m s) (cond t (suc k ∷ []) []))
-      go true q = stated-on new (suc k) bytes links (state-some (suc k) h q) ∙ entry-is (suc k) (omega arith) h q ∙ sym (flat-one (entry_link m s (suc k)))
+      go : (t : Bool) → on_way s.entries s.listed (suc k) ≡ t → stated_words bytes links new (suc k) ≡ flat_map (link_fields unit) (map (entry_link m s) (cond t (suc k ∷ []) []))
+      go true q = stated-on new (suc k) bytes links (state-some (suc k) h q) ∙ entry-is (suc k) (omega arith) h q ∙ sym (flat-one unit (entry_link m s (suc k)))
       go false q = stated-off new (suc k) bytes links (state-off s n part x (suc k) (omega arith) h q)
 
-  starts_is : (k : ℕ) → k ≤ length s.listed → start_words new k ≡ flat_map link_fields (map (start_link s) (take k s.listed))
+  starts_is : (k : ℕ) → k ≤ length s.listed → start_words new k ≡ flat_map (link_fields unit) (map (start_link s) (take k s.listed))
   unfolding start_words flat_map
   starts_is zero h = refl
   starts_is (suc k) h =
       let i = get_or s.listed k 0 in
       let mem = get_or-mem s.listed k 0 (omega arith) in
-      let state : state_word new (listed_word new k) ≡ state_of s i = ap (state_word new) (stated-other part size (length s.listed) linked (8 * k + 6) (listed-other size k) ∙ x.held-listed k (omega arith)) ∙ state-on s n part x i (n.inside i mem) (way-listed s i mem) in
-      ap₂ (λ (a b : List ℕ). a ++ b) (starts_is k (omega arith)) ((λ j. 0 ∷ 0 ∷ sym bits-one j ∷ state j ∷ []) ∙ sym (flat-one (start_link s i)))
-      ∙ sym (flat_append (map (start_link s) (take k s.listed)) (start_link s i ∷ []))
-      ∙ ap (flat_map link_fields) (sym (ap (map (start_link s)) (take-suc s.listed k 0 (omega arith)) ∙ map-append (start_link s) (take k s.listed) (i ∷ [])))
+      let state : state_word new (listed_word new k) ≡ state_of s i = ap (state_word new) (stated-other part size (length s.listed) linked (slot_length * k + 6) (listed-other size k) ∙ x.held-listed k (omega arith)) ∙ state-on s n part x i (n.inside i mem) (way-listed s i mem) in
+      ap₂ (λ (a b : List ℕ). a ++ b) (starts_is k (omega arith)) ((λ j. 0 ∷ 0 ∷ sym one-bits j ∷ state j ∷ []) ∙ sym (flat-one unit (start_link s i)))
+      ∙ sym (flat_append unit (map (start_link s) (take k s.listed)) (start_link s i ∷ []))
+      ∙ ap (flat_map (link_fields unit)) (sym (ap (map (start_link s)) (take-suc s.listed k 0 (omega arith)) ∙ map-append (start_link s) (take k s.listed) (i ∷ [])))
 
   word-is : (o : Option ℕ) → input_field o ≡ word_for o
   word-is none = refl
@@ -349,34 +357,34 @@ module _ (bytes : List ℕ) (below : Below 256 bytes) (accepted : input_number b
   links-part : links_part bytes links new size (length s.listed) ≡ (parts_for (list_machine m s)).links
   unfolding parts_for
   links-part =
-      ap₂ (λ (a b : List ℕ). a ++ b) (starts_is (length s.listed) (omega arith) ∙ ap (λ (l : List ℕ). flat_map link_fields (map (start_link s) l)) (take-length s.listed)) (links-is (size - 1) (omega (arith, n.some_in)))
-      ∙ sym (flat_append (map (start_link s) s.listed) (map (entry_link m s) (later s)))
+      ap₂ (λ (a b : List ℕ). a ++ b) (starts_is (length s.listed) (omega arith) ∙ ap (λ (l : List ℕ). flat_map (link_fields unit) (map (start_link s) l)) (take-length s.listed)) (links-is (size - 1) (omega (arith, n.some_in)))
+      ∙ sym (flat_append unit (map (start_link s) s.listed) (map (entry_link m s) (later s)))
 
-  nodes-part : nodes_part (length s.listed) (length (later s)) ≡ (parts_for (list_machine m s)).nodes ++ trailer_of (parts_for (list_machine m s))
+  nodes-part : nodes_part m.form (length s.listed) (length (later s)) ≡ (parts_for (list_machine m s)).nodes ++ trailer_of (parts_for (list_machine m s))
   nodes-part = sym (ap₂ (λ (a b : List ℕ). a ++ b) (nodes-is m s) (trailer-is m s))
 
   words-part : words_part new size (length s.listed) ≡ map word_for (list_result m s).repeats
   words-part = ap₂ (λ (a b : List ℕ). a ++ b) (nothings (length s.listed)) (inputs-is (size - 1) (omega (arith, n.some_in))) ∙ sym (map-append word_for (replicate (length s.listed) none) (map (λ j. (e j).input) (later s)))
 
   -- the bytes are those of the result
-  pub list-bytes : bytes_of_all (list_words bytes (stated_links bytes) (stated (length s.entries) (length s.listed) part) (length s.entries) (length s.listed) (kept_count (length s.entries) (length s.listed) part)) ≡ result_bytes (list_result (machine_of (parts_of bytes)) s)
+  pub list-bytes : bytes_of_all (list_words bytes (stated_links bytes) (machine_of (parts_of bytes)).form (stated (length s.entries) (length s.listed) part) (length s.entries) (length s.listed) (kept_count (length s.entries) (length s.listed) part)) ≡ result_bytes (list_result (machine_of (parts_of bytes)) s)
   unfolding result_bytes sheet_of
   list-bytes =
       let p = parts_for (list_machine m s) in
       let ws = map word_for (list_result m s).repeats in
-      ap (λ (k : ℕ). bytes_of_all (list_words bytes links new size (length s.listed) k)) (kept-count s n part x)
+      ap (λ (k : ℕ). bytes_of_all (list_words bytes links m.form new size (length s.listed) k)) (kept-count s n part x)
       ∙ (λ j. bytes_of_all (links-part j ++ nodes-part j ++ words-part j))
       ∙ ap (λ (l : List ℕ). bytes_of_all (l ++ ws)) (sym (append_assoc p.links p.nodes (trailer_of p)))
       ∙ bytes_of_all-append (p.links ++ p.nodes ++ trailer_of p) ws
 
   -- ---- what writing answers and leaves, by the result
-  size_is : list_length (length s.listed) (kept_count size (length s.listed) part) ≡ length (result_bytes (list_result m s))
-  size_is = sym (length-list bytes links new size (length s.listed) (kept_count size (length s.listed) part) (sym (new-kept bytes links part size (length s.listed) listable))) ∙ ap length list-bytes
+  size_is : list_length m.form (length s.listed) (kept_count size (length s.listed) part) ≡ length (result_bytes (list_result m s))
+  size_is = sym (length-list bytes links m.form new size (length s.listed) (kept_count size (length s.listed) part) (sym (new-kept bytes links part size (length s.listed) listable))) ∙ ap length list-bytes
 
-  pub list-answers : (room : ℕ) → list_answer (length s.listed) (kept_count (length s.entries) (length s.listed) part) s.taken room ≡ listed_in (list_result (machine_of (parts_of bytes)) s) room
+  pub list-answers : (room : ℕ) → list_answer (machine_of (parts_of bytes)).form (length s.listed) (kept_count (length s.entries) (length s.listed) part) s.taken room ≡ listed_in (list_result (machine_of (parts_of bytes)) s) room
   list-answers room =
       let kept = kept-count s n part x in
       λ j. listed_by (ltb room (size_is j)) ((ap (λ (k : ℕ). 2 + k) kept ∙ sym (nodes-long m s)) j) ((ap (λ (k : ℕ). length s.listed + k) kept ∙ sym (links-long m s)) j) s.taken
 
-  pub list-leaves : (old : List ℕ) → list_after bytes (stated_links bytes) part (length s.entries) (length s.listed) old ≡ listed_over (list_result (machine_of (parts_of bytes)) s) old
+  pub list-leaves : (old : List ℕ) → list_after bytes (stated_links bytes) (machine_of (parts_of bytes)).form part (length s.entries) (length s.listed) old ≡ listed_over (list_result (machine_of (parts_of bytes)) s) old
   list-leaves old = λ j. cond (ltb (length old) (size_is j)) old (list-bytes j ++ drop (size_is j) old)

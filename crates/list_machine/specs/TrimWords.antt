@@ -3,30 +3,33 @@
 use Rattle.std.specs.Prelude.{◌≡◌, cond, List, [], ◌∷◌, ◌++◌, ℕ, zero, suc, ◌+◌, ◌-◌, ◌*◌, ◌^◌, ◌≤◌, ◌<◌, eqb, ltb, length, get_or, set, replicate, drop, Option, None, Some, Result}
 use Rattle.std.proofs.Math.Option as Math
 use Rattle.tropical_weight.specs.Tropical.{Tropical}
-use Rattle.sheet.specs.Words.{word, bytes_of_all}
+use Rattle.sheet.specs.declared.form.Form.{Form}
+use Rattle.sheet.specs.Words.{word_length, word, bytes_of_all}
+use Rattle.sheet.specs.Sheet.{link_length, node_length, trailer_length}
+use Rattle.sheet.specs.Accepted.{trailer_in, trailer_fields}
 use Rattle.sheet.specs.Machine.{Machine}
 use Rattle.machine.specs.Readings.{final}
 use Rattle.search.specs.Search.{half, first, Search}
 use Rattle.sheet.specs.declared.refusal.Refusal.{Refusal}
 use Rattle.list_answer.specs.declared.Listed.{Listed}
 use Rattle.list_answer.specs.ListAnswer.{listed_by, link_to, state_words}
-use Rattle.slots.specs.Slots.{nothing, number_in}
+use Rattle.slots.specs.Slots.{slot_length, nothing, number_in}
 use Rattle.search_slots.specs.Slots.{node_word, from_word, input_word, listed_word, state_word, Entries}
 
 -- ---- marks, in the words of states: 0, or another word
 -- the entries below n have none
 unfoldable pub unmarked : ℕ → List ℕ → List ℕ
 unmarked zero part = part
-unmarked (suc i) part = set (unmarked i part) (8 * i + 7) 0
+unmarked (suc i) part = set (unmarked i part) (slot_length * i + 7) 0
 
 -- the first k of the listed get one
 unfoldable pub mark_listed : ℕ → List ℕ → List ℕ
 mark_listed zero part = part
-mark_listed (suc k) part = set (mark_listed k part) (8 * listed_word (mark_listed k part) k + 7) 1
+mark_listed (suc k) part = set (mark_listed k part) (slot_length * listed_word (mark_listed k part) k + 7) 1
 
 -- where entry i has one, the entry it came from gets one
 abbrev pub mark_from : ℕ → List ℕ → List ℕ
-mark_from i part = cond (eqb (state_word part i) 0) part (set part (8 * from_word part i + 7) 1)
+mark_from i part = cond (eqb (state_word part i) 0) part (set part (slot_length * from_word part i + 7) 1)
 
 -- from entry k down to entry 1
 unfoldable pub mark_back : ℕ → List ℕ → List ℕ
@@ -47,7 +50,7 @@ mark_count part (suc k) = mark_count part k + mark_of part (suc k)
 
 -- a mark becomes a state
 abbrev pub number_one : ℕ → ℕ → List ℕ → List ℕ
-number_one i count part = cond (eqb (state_word part i) 0) part (set part (8 * i + 7) (2 + count))
+number_one i count part = cond (eqb (state_word part i) 0) part (set part (slot_length * i + 7) (2 + count))
 
 -- those of 1 to k with a mark count from 2
 unfoldable pub numbered : ℕ → List ℕ → List ℕ
@@ -82,7 +85,7 @@ input_of part i = number_in (input_word part i)
 -- the final weight of old node v, or of none
 abbrev pub blank_bits : List ℕ → ℕ → Option ℕ → ℕ
 blank_bits bytes links None = 0
-blank_bits bytes links (Some v) = word bytes (16 * links + 12 * (v - 1) + 8)
+blank_bits bytes links (Some v) = word bytes (link_length * links + node_length * (v - 1) + 2 * word_length)
 
 -- the labels, the weight and the next state of an entry, by its input link and its old node
 abbrev pub words_by : List ℕ → ℕ → Option ℕ → Option ℕ → ℕ → List ℕ
@@ -105,8 +108,9 @@ link_words bytes links part (suc k) = link_words bytes links part k ++ stated_wo
 abbrev pub head_words : ℕ → List ℕ
 head_words listed = listed ∷ 0 ∷ 0 ∷ 0 ∷ 1 ∷ 0 ∷ []
 
-abbrev pub trailer_words : ℕ → ℕ → List ℕ
-trailer_words links nodes = 0 ∷ 16 * links ∷ nodes ∷ links ∷ 0 ∷ []
+-- the trailer of the form of the sheet
+abbrev pub trailer_words : Form → ℕ → ℕ → List ℕ
+trailer_words form links nodes = trailer_fields (trailer_in links nodes 0 form)
 
 -- the input links of those of 1 to k with a state
 abbrev pub repeat_words : List ℕ → ℕ → List ℕ
@@ -120,38 +124,38 @@ input_words part (suc k) = input_words part k ++ repeat_words part (suc k)
 abbrev pub links_part : List ℕ → ℕ → List ℕ → ℕ → ℕ → List ℕ
 links_part bytes links part entries listed = start_words part listed ++ link_words bytes links part (entries - 1)
 
-abbrev pub nodes_part : ℕ → ℕ → List ℕ
-nodes_part listed kept = head_words listed ++ state_words kept ++ trailer_words (listed + kept) (2 + kept)
+abbrev pub nodes_part : Form → ℕ → ℕ → List ℕ
+nodes_part form listed kept = head_words listed ++ state_words kept ++ trailer_words form (listed + kept) (2 + kept)
 
 abbrev pub words_part : List ℕ → ℕ → ℕ → List ℕ
 words_part part entries listed = replicate listed nothing ++ input_words part (entries - 1)
 
-abbrev pub list_words : List ℕ → ℕ → List ℕ → ℕ → ℕ → ℕ → List ℕ
-list_words bytes links part entries listed kept = links_part bytes links part entries listed ++ nodes_part listed kept ++ words_part part entries listed
+abbrev pub list_words : List ℕ → ℕ → Form → List ℕ → ℕ → ℕ → ℕ → List ℕ
+list_words bytes links form part entries listed kept = links_part bytes links part entries listed ++ nodes_part form listed kept ++ words_part part entries listed
 
 -- its bytes
-abbrev pub list_length : ℕ → ℕ → ℕ
-list_length listed kept = 16 * (listed + kept) + 12 * (2 + kept) + 20 + 4 * (listed + kept)
+abbrev pub list_length : Form → ℕ → ℕ → ℕ
+list_length form listed kept = link_length * (listed + kept) + node_length * (2 + kept) + trailer_length form + word_length * (listed + kept)
 
 -- ---- what writing answers and leaves
 -- into an area of so many bytes
-abbrev pub list_answer : ℕ → ℕ → ℕ → ℕ → Result Listed Refusal
-list_answer listed kept taken room = listed_by (ltb room (list_length listed kept)) (2 + kept) (listed + kept) taken
+abbrev pub list_answer : Form → ℕ → ℕ → ℕ → ℕ → Result Listed Refusal
+list_answer form listed kept taken room = listed_by (ltb room (list_length form listed kept)) (2 + kept) (listed + kept) taken
 
 -- the area afterwards: the words and then the bytes that were there, or just those where it is too short
 abbrev pub list_over : ℕ → List ℕ → List ℕ → List ℕ
 list_over size ws old = cond (ltb (length old) size) old (bytes_of_all ws ++ drop size old)
 
-abbrev pub list_after : List ℕ → ℕ → List ℕ → ℕ → ℕ → List ℕ → List ℕ
-list_after bytes links part entries listed old =
+abbrev pub list_after : List ℕ → ℕ → Form → List ℕ → ℕ → ℕ → List ℕ → List ℕ
+list_after bytes links form part entries listed old =
     let kept = kept_count entries listed part in
-    list_over (list_length listed kept) (list_words bytes links (stated entries listed part) entries listed kept) old
+    list_over (list_length form listed kept) (list_words bytes links form (stated entries listed part) entries listed kept) old
 
--- ---- a search in the part
-pub record Holding (part : List ℕ) (s : Search) : Type 0 where
-  pub slots : 8 * length s.entries ≤ length part
-  pub listed-slots : 8 * length s.listed ≤ length part
-  pub held : Entries part s.entries
+-- ---- a search in the part, its weights in units of 1 / 2 ^ j
+pub record Holding (j : ℕ) (part : List ℕ) (s : Search) : Type 0 where
+  pub slots : slot_length * length s.entries ≤ length part
+  pub listed-slots : slot_length * length s.listed ≤ length part
+  pub held : Entries j part s.entries
   pub held-listed : (k : ℕ) → k < length s.listed → listed_word part k ≡ get_or s.listed k 0
 
 -- Entries were put in by links of the machine, or by links from node 0 to final nodes; the fields of the result hold its counts.
@@ -163,16 +167,16 @@ pub record Sourced (m : Machine) (s : Search) : Type 0 where
 -- ---- bounds
 -- what is read to write the link of entry i
 pub record Readable (bytes : List ℕ) (links : ℕ) (part : List ℕ) (i : ℕ) : Type 0 where
-  pub slot : 8 * i + 8 ≤ length part
-  pub from_in : 8 * from_word part i + 8 ≤ length part
-  pub input-in : (input_word part i ≡ nothing → ⊥) → 16 * input_word part i + 16 ≤ length bytes
-  pub node_in : input_word part i ≡ nothing → (node_word part i ≡ nothing → ⊥) → (0 < node_word part i) × (16 * links + 12 * node_word part i ≤ length bytes)
+  pub slot : slot_length * i + slot_length ≤ length part
+  pub from_in : slot_length * from_word part i + slot_length ≤ length part
+  pub input-in : (input_word part i ≡ nothing → ⊥) → link_length * input_word part i + link_length ≤ length bytes
+  pub node_in : input_word part i ≡ nothing → (node_word part i ≡ nothing → ⊥) → (0 < node_word part i) × (link_length * links + node_length * node_word part i ≤ length bytes)
 
 -- the slots of the entries, those they came from, and those listed
 pub record Linked (part : List ℕ) (entries listed : ℕ) : Type 0 where
   pub some_in : 0 < entries
-  pub slots : 8 * entries ≤ length part
-  pub listed-slots : 8 * listed ≤ length part
+  pub slots : slot_length * entries ≤ length part
+  pub listed-slots : slot_length * listed ≤ length part
   pub few : listed + entries ≤ 2 ^ 28
   pub came-in : (i : ℕ) → 0 < i → i < entries → from_word part i < entries
   pub listed_in_lem : (k : ℕ) → k < listed → listed_word part k < entries

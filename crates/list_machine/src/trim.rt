@@ -1,8 +1,9 @@
 // The list machine of a search: the entries on a way numbered as its states, and its bytes written.
 ghost use Rattle.std.specs.Prelude.{◌≡◌, ℕ, ◌+◌, ◌-◌, ◌*◌, ◌^◌, ◌≤◌, ◌<◌, length, replicate, None, IfSome};
 ghost use Rattle.std.proofs.lemmas.List.Edits.{sets};
-ghost use Rattle.sheet.specs.Words.{bytes_of_all};
-ghost use Rattle.slots.specs.Slots.{nothing};
+ghost use Rattle.sheet.specs.Words.{word_length, bytes_of_all};
+ghost use Rattle.sheet.specs.Sheet.{link_length, node_length, trailer_length};
+ghost use Rattle.slots.specs.Slots.{slot_length, nothing};
 ghost use Rattle.search_slots.specs.Slots.{from_word, listed_word};
 ghost use Rattle.list_machine.specs.TrimWords.{unmarked, mark_listed, mark_from, mark_back, marks};
 ghost use Rattle.list_machine.specs.TrimWords.{mark_of, mark_count, number_one, states, stated, kept_count};
@@ -14,18 +15,17 @@ ghost use Rattle.list_machine.specs.TrimWords.{Linked, Listable, list_length};
 
 use list_answer::Listed;
 use search_slots::{FROM, INPUT, LISTED, STATE};
+use sheet::accepted::Sheet;
+use sheet::form::Form;
 use sheet::refusal::Refusal;
-use sheet::tr::{LINK, NODE, TRAILER, Trailer};
-use sheet::words::{put_word, put_words, word};
+use sheet::tr::{LINK, NODE, Trailer};
+use sheet::words::{WORD, put_word, put_words, word};
 use slots::{NOTHING, SLOT, number_in};
-
-// The bytes of a word.
-const WORD: usize = 4;
 
 // No entry has a mark: its word is 0. A number and no Option: the part is words of a lent area, and the same
 // word holds the state's number afterwards.
 fn clear_marks(part: &mut [u32], entries: usize)
-    requires { 8 * entries ≤ length part.old }
+    requires { slot_length * entries ≤ length part.old }
     ensures { part.new ≡ unmarked entries part.old }
 {
     for i in 0..entries {
@@ -35,8 +35,8 @@ fn clear_marks(part: &mut [u32], entries: usize)
 
 // Marks the listed entries.
 fn mark_listed(part: &mut [u32], listed: usize)
-    requires { (8 * listed ≤ length part.old)
-        × ((k : ℕ) → k < listed → 8 * listed_word part.old k + 8 ≤ length part.old) }
+    requires { (slot_length * listed ≤ length part.old)
+        × ((k : ℕ) → k < listed → slot_length * listed_word part.old k + slot_length ≤ length part.old) }
     ensures { part.new ≡ mark_listed listed part.old }
 {
     for k in 0..listed {
@@ -47,7 +47,7 @@ fn mark_listed(part: &mut [u32], listed: usize)
 
 // Marks the entry that a marked one came from.
 fn mark_from(part: &mut [u32], i: usize)
-    requires { (8 * i + 8 ≤ length part.old) × (8 * from_word part.old i + 8 ≤ length part.old) }
+    requires { (slot_length * i + slot_length ≤ length part.old) × (slot_length * from_word part.old i + slot_length ≤ length part.old) }
     ensures { part.new ≡ mark_from i part.old }
 {
     if part[SLOT * i + STATE] == 0 {
@@ -59,8 +59,8 @@ fn mark_from(part: &mut [u32], i: usize)
 
 // Marks those that marked ones came from, the last first: each comes from an earlier one.
 fn mark_back(part: &mut [u32], entries: usize)
-    requires { (0 < entries) × (8 * entries ≤ length part.old)
-        × ((i : ℕ) → 0 < i → i < entries → 8 * from_word part.old i + 8 ≤ length part.old) }
+    requires { (0 < entries) × (slot_length * entries ≤ length part.old)
+        × ((i : ℕ) → 0 < i → i < entries → slot_length * from_word part.old i + slot_length ≤ length part.old) }
     ensures { part.new ≡ mark_back (entries - 1) part.old }
 {
     for i in (1..entries).rev() {
@@ -81,7 +81,7 @@ fn mark(part: &mut [u32], entries: usize, listed: usize)
 
 // Numbers entry i where it has a mark, and counts it. The count is of states, not of the part's words.
 fn number_one(part: &mut [u32], i: usize, count: u32) -> u32
-    requires { (8 * i + 8 ≤ length part.old) × (count + 2 < 2 ^ 32) }
+    requires { (slot_length * i + slot_length ≤ length part.old) × (count + 2 < 2 ^ 32) }
     ensures value { result ≡ count + mark_of part.old i }
     ensures part_after { part.new ≡ number_one i count part.old }
 {
@@ -95,7 +95,7 @@ fn number_one(part: &mut [u32], i: usize, count: u32) -> u32
 
 // Numbers the marked entries as states, and answers how many there are from 2 on.
 fn number(part: &mut [u32], entries: usize) -> u32
-    requires { (0 < entries) × (8 * entries ≤ length part.old) × (entries ≤ 2 ^ 28) }
+    requires { (0 < entries) × (slot_length * entries ≤ length part.old) × (entries ≤ 2 ^ 28) }
     ensures value { result ≡ mark_count part.old (entries - 1) }
     ensures part_after { part.new ≡ states entries part.old }
 {
@@ -111,18 +111,17 @@ fn number(part: &mut [u32], entries: usize) -> u32
 // write one after another into the result, each its own words: from `at` on where they do not begin it.
 #[derive(Clone, Copy)]
 struct Numbered<'a> {
-    bytes: &'a [u8],
-    links: u32,
+    sheet: Sheet<'a>,
     part: &'a [u32],
     entries: usize,
     listed: usize,
-    ghost listable: { Listable bytes.now links part.now entries listed },
+    ghost listable: { Listable sheet.bytes.now sheet.links part.now entries listed },
 }
 
 impl<'a> Numbered<'a> {
     // Writes the start's links to the listed entries, in their order.
     fn put_start_links(&self, res: &mut [u8])
-        requires { 16 * self.now.listed ≤ length res.old }
+        requires { link_length * self.now.listed ≤ length res.old }
         ensures { res.new
             ≡ sets res.old 0 (bytes_of_all (start_words self.now.part.now self.now.listed)) }
     {
@@ -137,7 +136,7 @@ impl<'a> Numbered<'a> {
     fn input_of(&self, i: usize) -> Option<u32>
         requires { (0 < i) × (i < self.now.entries) }
         ensures value { result ≡ input_of self.now.part.now i }
-        ensures inside { IfSome result (λ l. 16 * l + 16 ≤ length self.now.bytes.now) }
+        ensures inside { IfSome result (λ l. link_length * l + link_length ≤ length self.now.sheet.bytes.now) }
     {
         number_in(self.part[SLOT * i + INPUT])
     }
@@ -146,32 +145,32 @@ impl<'a> Numbered<'a> {
     fn node_of(&self, i: usize) -> Option<u32>
         requires { (0 < i) × (i < self.now.entries) × (input_of self.now.part.now i ≡ None) }
         ensures value { result ≡ node_of self.now.part.now i }
-        ensures inside { IfSome result (λ v. (0 < v) × (16 * self.now.links + 12 * v ≤ length self.now.bytes.now)) }
+        ensures inside { IfSome result (λ v. (0 < v) × (link_length * self.now.sheet.links + node_length * v ≤ length self.now.sheet.bytes.now)) }
     {
         number_in(self.part[SLOT * i])
     }
 
     // The final weight's word of old node v, or 0 where there is none.
     fn blank_bits(&self, v: Option<u32>) -> u32
-        requires { IfSome v (λ v. (0 < v) × (16 * self.now.links + 12 * v ≤ length self.now.bytes.now)) }
-        ensures { result ≡ blank_bits self.now.bytes.now self.now.links v }
+        requires { IfSome v (λ v. (0 < v) × (link_length * self.now.sheet.links + node_length * v ≤ length self.now.sheet.bytes.now)) }
+        ensures { result ≡ blank_bits self.now.sheet.bytes.now self.now.sheet.links v }
     {
         let Some(v) = v else {
             return 0;
         };
-        let at = LINK * (self.links as usize) + NODE * ((v - 1) as usize);
-        word(self.bytes, at + 8)
+        let at = LINK * (self.sheet.links as usize) + NODE * ((v - 1) as usize);
+        word(self.sheet.bytes, at + 2 * WORD)
     }
 
     // Writes the link of entry i: its input link's labels and weight, or none and a final weight.
     fn put_link(&self, i: usize, res: &mut [u8], at: usize)
-        requires { (0 < i) × (i < self.now.entries) × (at + 16 ≤ length res.old) }
+        requires { (0 < i) × (i < self.now.entries) × (at + link_length ≤ length res.old) }
         ensures { res.new
-            ≡ sets res.old at (bytes_of_all (entry_words self.now.bytes.now self.now.links self.now.part.now i)) }
+            ≡ sets res.old at (bytes_of_all (entry_words self.now.sheet.bytes.now self.now.sheet.links self.now.part.now i)) }
     {
         let to = self.part[SLOT * (self.part[SLOT * i + FROM] as usize) + STATE];
         match self.input_of(i) {
-            Some(l) => list_answer::put_link(self.bytes, l, to, res, at),
+            Some(l) => list_answer::put_link(self.sheet.bytes, l, to, res, at),
             None => {
                 let words = [0, 0, self.blank_bits(self.node_of(i)), to];
                 put_words(res, at, &words);
@@ -181,10 +180,10 @@ impl<'a> Numbered<'a> {
 
     // Writes the link of entry i where it is a state, and answers where the next one goes.
     fn put_stated(&self, i: usize, res: &mut [u8], at: usize) -> usize
-        requires { (0 < i) × (i < self.now.entries) × (at + 16 * mark_of self.now.part.now i ≤ length res.old) }
-        ensures value { result ≡ at + 16 * mark_of self.now.part.now i }
+        requires { (0 < i) × (i < self.now.entries) × (at + link_length * mark_of self.now.part.now i ≤ length res.old) }
+        ensures value { result ≡ at + link_length * mark_of self.now.part.now i }
         ensures res_after { res.new
-            ≡ sets res.old at (bytes_of_all (stated_words self.now.bytes.now self.now.links self.now.part.now i)) }
+            ≡ sets res.old at (bytes_of_all (stated_words self.now.sheet.bytes.now self.now.sheet.links self.now.part.now i)) }
     {
         if self.part[SLOT * i + STATE] == 0 {
             return at;
@@ -195,9 +194,9 @@ impl<'a> Numbered<'a> {
 
     // Writes the links of the entries that are states, in their order.
     fn put_entry_links(&self, res: &mut [u8], at: usize)
-        requires { at + 16 * mark_count self.now.part.now (self.now.entries - 1) ≤ length res.old }
+        requires { at + link_length * mark_count self.now.part.now (self.now.entries - 1) ≤ length res.old }
         ensures { res.new
-            ≡ sets res.old at (bytes_of_all (link_words self.now.bytes.now self.now.links self.now.part.now (self.now.entries - 1))) }
+            ≡ sets res.old at (bytes_of_all (link_words self.now.sheet.bytes.now self.now.sheet.links self.now.part.now (self.now.entries - 1))) }
     {
         let mut next = at;
         for i in 1..self.entries {
@@ -209,8 +208,8 @@ impl<'a> Numbered<'a> {
     // from `put_stated`: each promises its own words, which one function with a closure would not name.
     // The word is stored as it stands: NOTHING names no link in the result too.
     fn put_input(&self, i: usize, res: &mut [u8], at: usize) -> usize
-        requires { (i < self.now.entries) × (at + 4 * mark_of self.now.part.now i ≤ length res.old) }
-        ensures value { result ≡ at + 4 * mark_of self.now.part.now i }
+        requires { (i < self.now.entries) × (at + word_length * mark_of self.now.part.now i ≤ length res.old) }
+        ensures value { result ≡ at + word_length * mark_of self.now.part.now i }
         ensures res_after { res.new
             ≡ sets res.old at (bytes_of_all (repeat_words self.now.part.now i)) }
     {
@@ -224,7 +223,7 @@ impl<'a> Numbered<'a> {
     // Writes the words of the entries that are states, in their order. Apart from `put_entry_links` as
     // `put_input` is from `put_stated`.
     fn put_inputs(&self, res: &mut [u8], at: usize)
-        requires { at + 4 * mark_count self.now.part.now (self.now.entries - 1) ≤ length res.old }
+        requires { at + word_length * mark_count self.now.part.now (self.now.entries - 1) ≤ length res.old }
         ensures { res.new
             ≡ sets res.old at (bytes_of_all (input_words self.now.part.now (self.now.entries - 1))) }
     {
@@ -236,9 +235,9 @@ impl<'a> Numbered<'a> {
 
     // Writes all links: the start's, then the entries'.
     fn put_links(&self, res: &mut [u8])
-        requires { 16 * (self.now.listed + mark_count self.now.part.now (self.now.entries - 1)) ≤ length res.old }
+        requires { link_length * (self.now.listed + mark_count self.now.part.now (self.now.entries - 1)) ≤ length res.old }
         ensures { res.new
-            ≡ sets res.old 0 (bytes_of_all (links_part self.now.bytes.now self.now.links self.now.part.now self.now.entries self.now.listed)) }
+            ≡ sets res.old 0 (bytes_of_all (links_part self.now.sheet.bytes.now self.now.sheet.links self.now.part.now self.now.entries self.now.listed)) }
     {
         self.put_start_links(res);
         self.put_entry_links(res, LINK * self.listed);
@@ -246,7 +245,7 @@ impl<'a> Numbered<'a> {
 
     // Writes a word for each link: none for the start's.
     fn put_repeats(&self, res: &mut [u8], at: usize)
-        requires { at + 4 * (self.now.listed + mark_count self.now.part.now (self.now.entries - 1)) ≤ length res.old }
+        requires { at + word_length * (self.now.listed + mark_count self.now.part.now (self.now.entries - 1)) ≤ length res.old }
         ensures { res.new
             ≡ sets res.old at (bytes_of_all (words_part self.now.part.now self.now.entries self.now.listed)) }
     {
@@ -257,14 +256,15 @@ impl<'a> Numbered<'a> {
     // Writes the list machine and the words of its links.
     fn put_list(&self, kept: usize, res: &mut [u8])
         requires kept { kept ≡ mark_count self.now.part.now (self.now.entries - 1) }
-        requires roomy { list_length self.now.listed kept ≤ length res.old }
+        requires roomy { list_length self.now.sheet.form self.now.listed kept ≤ length res.old }
         ensures { res.new
-            ≡ sets res.old 0 (bytes_of_all (list_words self.now.bytes.now self.now.links self.now.part.now self.now.entries self.now.listed kept)) }
+            ≡ sets res.old 0 (bytes_of_all (list_words self.now.sheet.bytes.now self.now.sheet.links self.now.sheet.form self.now.part.now self.now.entries self.now.listed kept)) }
     {
+        let form = self.sheet.form;
         let nodes_at = LINK * (self.listed + kept);
-        let words_at = nodes_at + NODE * (2 + kept) + TRAILER;
+        let words_at = nodes_at + NODE * (2 + kept) + form.trailer();
         self.put_links(res);
-        put_states(self.listed, kept, res, nodes_at);
+        put_states(self.listed, kept, form, res, nodes_at);
         self.put_repeats(res, words_at);
     }
 }
@@ -272,7 +272,7 @@ impl<'a> Numbered<'a> {
 // Writes so many words that name no input link. By words and not fill(0xff): the bytes of NOTHING are
 // known in crate slots alone. The count goes beside the result, which is lent whole.
 fn put_nothings(res: &mut [u8], at: usize, count: usize)
-    requires { at + 4 * count ≤ length res.old }
+    requires { at + word_length * count ≤ length res.old }
     ensures { res.new
         ≡ sets res.old at (bytes_of_all (replicate count nothing)) }
 {
@@ -281,49 +281,46 @@ fn put_nothings(res: &mut [u8], at: usize, count: usize)
     }
 }
 
-// Writes the nodes, the start and the final one first, and the trailer.
-fn put_states(listed: usize, kept: usize, res: &mut [u8], at: usize)
-    requires { (listed + kept < 2 ^ 28) × (at + 12 * (2 + kept) + 20 ≤ length res.old) }
+// Writes the nodes, the start and the final one first, and the trailer of the form of the sheet.
+fn put_states(listed: usize, kept: usize, form: Form, res: &mut [u8], at: usize)
+    requires { (listed + kept < 2 ^ 28) × (at + node_length * (2 + kept) + trailer_length form ≤ length res.old) }
     ensures { res.new
-        ≡ sets res.old at (bytes_of_all (nodes_part listed kept)) }
+        ≡ sets res.old at (bytes_of_all (nodes_part form listed kept)) }
 {
     let links = listed + kept;
     let heads = [listed as u32, 0, 0, 0, 1, 0];
-    let trailer = Trailer::of(links as u32, (2 + kept) as u32, 0);
+    let trailer = Trailer::of(links as u32, (2 + kept) as u32, 0, form);
     put_words(res, at, &heads);
     list_answer::put_states(kept, res, at + 2 * NODE);
     trailer.put(res, at + 2 * NODE + NODE * kept);
 }
 
 // Numbers the entries on a way as states, and writes their machine where the result has room. The
-// counts go beside the part: it is a lent area, which is longer than the slots of the entries. Bytes and
-// their count of links, no Sheet: a public function, whose clauses bound the words that are read alone. `as`
-// narrows what they bound.
+// counts go beside the part: it is a lent area, which is longer than the slots of the entries. `as`
+// narrows what the clause bounds.
 pub fn write_list(
-    sheet: &[u8],
-    links: u32,
+    sheet: &Sheet,
     part: &mut [u32],
     entries: usize,
     listed: usize,
     taken: u32,
     res: &mut [u8],
 ) -> Result<Listed, Refusal>
-    requires { Listable sheet.now links part.old entries listed }
+    requires { Listable sheet.now.bytes.now sheet.now.links part.old entries listed }
     ensures value { result
-        ≡ list_answer listed (kept_count entries listed part.old) taken (length res.old) }
+        ≡ list_answer sheet.now.form listed (kept_count entries listed part.old) taken (length res.old) }
     ensures part_after { part.new ≡ stated entries listed part.old }
     ensures res_after { res.new
-        ≡ list_after sheet.now links part.old entries listed res.old }
+        ≡ list_after sheet.now.bytes.now sheet.now.links sheet.now.form part.old entries listed res.old }
 {
     mark(part, entries, listed);
     let kept = number(part, entries) as usize;
     let made = listed + kept;
-    if res.len() < LINK * made + NODE * (2 + kept) + TRAILER + WORD * made {
+    if res.len() < LINK * made + NODE * (2 + kept) + sheet.form.trailer() + WORD * made {
         return Err(Refusal::Room);
     }
     let numbered = Numbered {
-        bytes: sheet,
-        links,
+        sheet: *sheet,
         part,
         entries,
         listed,

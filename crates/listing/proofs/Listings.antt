@@ -7,17 +7,16 @@ use native.Mathlib.Omega.{arith}
 use lib.ListN.{length, get_or, take, drop}
 use lib.Seq.{sets, take_all}
 use Rattle.sheet.specs.Machine.{Machine, machine}
-use Rattle.sheet.proofs.Fields.{length-read, read_fits}
+use Rattle.sheet.proofs.Forms.{size-least}
 use Rattle.sheet.proofs.Round.{Below}
 use Rattle.machine.specs.Readings.{link, reading_of, reading_cost, IsReading}
 use Rattle.machine.proofs.Lists.{map_same, get_or-mem}
 use Rattle.machine.proofs.Runs.{run_in, run_length}
 use Rattle.machine.proofs.Readings.{final-in}
-use Rattle.machine.proofs.Accepted.{input-read}
 use Rattle.machine.proofs.SheetFields.{sheet-fields, fields-own}
 use Rattle.search.specs.ListMachine.{result_for, result_bytes}
 use Rattle.search.specs.Listed.{list_of}
-use Rattle.search.proofs.Lists.{Accepted, accepted}
+use Rattle.search.proofs.Lists.{Accepted, accepted, result-form}
 use Rattle.search.proofs.Sizes.{rest-same}
 use Rattle.shortest_path.specs.Outcome.{answer_of}
 use Rattle.std.specs.Prelude.{Result, Ok, Err}
@@ -29,6 +28,7 @@ use Rattle.read_back.proofs.Ways.{stored-front}
 use Rattle.read_back.proofs.Answering.{list_same, answer-few, answer-reading}
 use Rattle.listing.specs.Text.{labels_of, line_of}
 use Rattle.listing.specs.Printed.{sheet_most, run_most, list_for, reading_line, reading_lines}
+use Rattle.sheet.specs.Sheet.{link_length}
 
 -- one line more
 lines_more : (m : Machine) (rank : ℕ) (runs : List (List ℕ)) (k : ℕ) → k < length runs
@@ -69,11 +69,11 @@ module _ (sheet : List ℕ) (below : Below 256 sheet) (n : ℕ) (result : List �
   a = accepted sheet below h.accepted
 
   -- the list read from the result, whatever follows it
-  list-is : list_of n nodes links result ≡ list_for m n
+  list-is : list_of (machine sheet).form n nodes links result ≡ list_for m n
   list-is =
       let r = result_for m n in
       list_same sheet below n result nodes links h ∙ rest-same m a n h.few (drop (length (answer_of sheet n)) result) []
-      ∙ ap (list_of n (length r.machine.finals) (length r.machine.links)) (append-nil (result_bytes r))
+      ∙ λ i. list_of (result-form m n i) n (length r.machine.finals) (length r.machine.links) (append-nil (result_bytes r) i)
 
   pub held-count : (told : Result ℕ Refusal) → CountsList result n nodes links told → told ≡ Ok (length (list_for (machine sheet) n))
   held-count told c = c sheet below h ∙ ap (λ (l : List (List ℕ)). let z : Result ℕ Refusal = Ok (length l) in z) list-is
@@ -94,10 +94,10 @@ module _ (sheet : List ℕ) (below : Below 256 sheet) (n : ℕ) (result : List �
     abbrev way : List ℕ
     way = get_or (list_for m n) k []
 
-    in_list : k < length (list_of n nodes links result)
+    in_list : k < length (list_of (machine sheet).form n nodes links result)
     in_list = omega (arith, b, ap length list-is)
 
-    way-is : get_or (list_of n nodes links result) k [] ≡ way
+    way-is : get_or (list_of (machine sheet).form n nodes links result) k [] ≡ way
     way-is = ap (λ (l : List (List ℕ)). get_or l k []) list-is
 
     pub held-reading : IsReading (machine sheet) (reading_of (machine sheet) (get_or (list_for (machine sheet) n) k []))
@@ -113,7 +113,8 @@ module _ (sheet : List ℕ) (below : Below 256 sheet) (n : ℕ) (result : List �
           run_length m a.climbs way i.from (reading_of m way).end i.runs,
           final-in m (reading_of m way).end i.weight i.marked,
           (sheet-fields sheet h.accepted).nodes-are,
-          length-read sheet (read_fits sheet (input-read sheet h.accepted).0),
+          (sheet-fields sheet h.accepted).sized,
+          size-least (machine sheet).form,
         )
 
     -- what is told of it, and its numbers at the area's front
@@ -131,7 +132,7 @@ module _ (sheet : List ℕ) (below : Below 256 sheet) (n : ℕ) (result : List �
       front-reading = subst (λ (l : List ℕ). IsReading m (reading_of m l)) (sym front-is) held-reading
 
       -- its links are in the sheet
-      pub front-in : (i : ℕ) → i < length (take count run) → 16 * get_or (take count run) i 0 + 16 ≤ length sheet
+      pub front-in : (i : ℕ) → i < length (take count run) → link_length * get_or (take count run) i 0 + 16 ≤ length sheet
       front-in i c =
           let s = sheet-fields sheet h.accepted in
           omega (arith, run_in m (take count run) front-reading.from (reading_of m (take count run)).end front-reading.runs (get_or (take count run) i 0) (get_or-mem (take count run) i 0 c), s.links-are, s.laid_out)

@@ -9,11 +9,11 @@ use lib.Dec.{ltb, eqb}
 use lib.ListN.{length, get_or, take, drop}
 use lib.Seq.{drop-append_seam, take_all}
 use borrow.Author.Tests.{lt-ltb, le-ltb, ne_eqb, eqb-true, eqb-false}
+use Rattle.sheet.specs.Sheet.{link_length, node_length, long_trailer, trailer_length}
 use Rattle.sheet.specs.Machine.{Machine, machine}
-use Rattle.sheet.proofs.Fields.{length-read, read_fits}
+use Rattle.sheet.proofs.Forms.{size-least, size-most}
 use Rattle.sheet.proofs.Round.{Below}
 use Rattle.machine.specs.Input.{input_number}
-use Rattle.machine.proofs.Accepted.{input-read}
 use Rattle.machine.proofs.SheetFields.{sheet-fields}
 use Rattle.machine.specs.Readings.{marked}
 use Rattle.search.specs.ListMachine.{result_for}
@@ -86,8 +86,8 @@ module _ (sheet : List ℕ) (below : Below 256 sheet) (n : ℕ) (short : length 
     a : Accepted m
     a = accepted sheet below e
 
-    layout : 16 * length m.links + 12 * length m.finals + 20 ≤ sheet_most
-    layout = omega (arith, short, length-read sheet (read_fits sheet (input-read sheet e).0), (sheet-fields sheet e).links-are, (sheet-fields sheet e).nodes-are)
+    layout : link_length * length m.links + node_length * length m.finals + trailer_length m.form ≤ sheet_most
+    layout = omega (arith, short, (sheet-fields sheet e).sized, (sheet-fields sheet e).links-are, (sheet-fields sheet e).nodes-are)
 
     product : n * (length m.links + 1) ≤ list_most * (length m.links + 1)
     product = mul-le-mul_right (length m.links + 1) few
@@ -97,19 +97,23 @@ module _ (sheet : List ℕ) (below : Below 256 sheet) (n : ℕ) (short : length 
       where
         go : (n : ℕ) → n * (length m.links + 1) ≤ list_most * (length m.links + 1) → slots_needed sheet n ≤ 1280
         go zero p = omega arith
-        go (suc zero) p = omega (arith, layout)
-        go (suc (suc k)) p = omega (arith, layout, p, marked-few m.finals, slots-many (length m.finals) (length m.links) (marked m.finals) (suc (suc k)) (omega arith))
+        go (suc zero) p = omega (arith, layout, size-least m.form)
+        go (suc (suc k)) p = omega (arith, layout, size-least m.form, p, marked-few m.finals, slots-many (length m.finals) (length m.links) (marked m.finals) (suc (suc k)) (omega arith))
+
+    -- a trailer is no longer than the longer one
+    trailer-most : (n : ℕ) → trailer_length (result_for m n).machine.form ≤ long_trailer
+    trailer-most n = size-most (result_for m n).machine.form
 
     size : length (answer_of sheet n) ≤ result_bytes_most
     size = go n few product
       where
         go : (n : ℕ) → n ≤ list_most → n * (length m.links + 1) ≤ list_most * (length m.links + 1) → length (answer_of sheet n) ≤ result_bytes_most
-        go zero b p = let s = zero-holds m a in omega (arith, result-length (result_for m 0) s.storable, s.few-nodes, s.few-links)
-        go (suc zero) b p = let s = one_holds m a in omega (arith, layout, result-length (result_for m 1) s.storable, s.few-nodes, s.few-links)
+        go zero b p = let s = zero-holds m a in omega (arith, trailer-most 0, result-length (result_for m 0) s.storable, s.few-nodes, s.few-links)
+        go (suc zero) b p = let s = one_holds m a in omega (arith, layout, size-least m.form, trailer-most 1, result-length (result_for m 1) s.storable, s.few-nodes, s.few-links)
         go (suc (suc k)) b p =
             let n = suc (suc k) in
             let s = many-holds m a n (omega arith) (omega arith) in
-            omega (arith, layout, p, marked-few m.finals, result-length (result_for m n) s.storable, s.few-nodes, s.few-links)
+            omega (arith, layout, size-least m.form, trailer-most n, p, marked-few m.finals, result-length (result_for m n) s.storable, s.few-nodes, s.few-links)
 
     pub number-none : list_number sheet n work_words result_bytes_most ≡ 0
     number-none =

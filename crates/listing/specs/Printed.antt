@@ -27,7 +27,7 @@ line_most = 23 + 11 * run_most
 abbrev pub text_most : ℕ
 text_most = 49152
 
--- The number of the refusal, or 0: more than 4,096 sheet bytes before any other test; then 1 to 7; then n from 5 to 64.
+-- The number of the refusal, or 0: more than 4,096 sheet bytes before any other test; then 1, 14 and 2 to 7; then n from 5 to 64.
 unfoldable pub listing_number : ℕ → List ℕ → ℕ
 unfolding tested_number
 listing_number n sheet = cond (ltb sheet_most (length sheet)) 20 (tested_number sheet n (cond (ltb list_most n) 20 0))
@@ -35,9 +35,9 @@ listing_number n sheet = cond (ltb sheet_most (length sheet)) 20 (tested_number 
 module _ (m : Machine) where
   -- the list for n, read from the result alone
   abbrev pub list_for : ℕ → List (List ℕ)
-  list_for n = let r = result_for m n in list_of n (length r.machine.finals) (length r.machine.links) (result_bytes r)
+  list_for n = let r = result_for m n in list_of m.form n (length r.machine.finals) (length r.machine.links) (result_bytes r)
 
-  -- rank, cost in sixty-fourths, input labels of the sheet's own links
+  -- rank, cost in the sheet's own unit, input labels of the sheet's own links
   abbrev pub reading_line : ℕ → List ℕ → List ℕ
   reading_line rank run = line_of rank (units_in (reading_cost m (reading_of m run))) (map (λ (l : ℕ). (link m l).ilabel) run)
 

@@ -3,6 +3,7 @@ use Rattle.std.specs.Prelude.{ℕ, suc, ◌*◌, ℤ, pos, negsuc}
 use mathlib.Core.List.{List, [], ◌∷◌, ◌++◌, map, flat_map}
 use Rattle.decimals.specs.Decimal.{decimal}
 use Rattle.sheet.specs.Words.{word}
+use Rattle.sheet.specs.Sheet.{link_length}
 
 -- ---- words
 -- "readings "
@@ -56,4 +57,4 @@ line_of rank cost labels = decimal rank ++ space ++ signed cost ++ flat_map labe
 
 -- the input labels of links of a sheet, by their numbers
 abbrev pub labels_of : List ℕ → List ℕ → List ℕ
-labels_of sheet run = map (λ (l : ℕ). word sheet (16 * l)) run
+labels_of sheet run = map (λ (l : ℕ). word sheet (link_length * l)) run

@@ -87,7 +87,7 @@ impl<'a> List<'a> {
     }
 }
 
-// The text for a sheet and an n that the areas are long enough for, or 1 to 7.
+// The text for a sheet and an n that the areas are long enough for, or 1, 14 and 2 to 7.
 fn list_few(sheet: &[u8], n: u32) -> Result<Page, Refusal>
     requires { (n ≤ list_most) × (length sheet.now ≤ sheet_most) }
     ensures number { number_in result ≡ listing_number n sheet.now }
@@ -105,7 +105,7 @@ fn list_few(sheet: &[u8], n: u32) -> Result<Page, Refusal>
     Ok(list.text())
 }
 
-// The refusal of an n that there are no areas for, after tests 1 to 7.
+// The refusal of an n that there are no areas for, after tests 1, 14 and 2 to 7.
 fn refusal(sheet: &[u8], n: u32) -> Refusal
     ensures { number_of result ≡ tested_number sheet.now n 20 }
 {

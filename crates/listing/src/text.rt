@@ -2,12 +2,14 @@
 // by Display: the clauses state the bytes.
 ghost use mathlib.Core.List.{flat_map};
 ghost use Rattle.std.specs.Prelude.{◌≡◌, ℕ, ◌+◌, ◌*◌, ◌≤◌, ◌<◌, ◌++◌, length, get_or};
+ghost use Rattle.sheet.specs.Sheet.{link_length};
 ghost use Rattle.sheet.specs.Refusals.{number_of};
 ghost use Rattle.listing.specs.Printed.{text_most};
 ghost use Rattle.listing.specs.Text.{signed, first_line, refused_line, label_text, labels_of, line_of};
 
 use decimals::text::Text;
 use sheet::refusal::Refusal;
+use sheet::tr::LINK;
 
 // The text of a listing as it is made, in an area that every listing fits in.
 pub type Page = Text<49152>;
@@ -59,19 +61,19 @@ fn put_label(page: &mut Page, label: u32)
 
 // The input labels of the links of a run, which are numbers of links of the sheet.
 fn put_labels(page: &mut Page, sheet: &[u8], run: &[u32])
-    requires by_index { (i : ℕ) → i < length run.now → 16 * get_or run.now i 0 + 16 ≤ length sheet.now }
+    requires by_index { (i : ℕ) → i < length run.now → link_length * get_or run.now i 0 + link_length ≤ length sheet.now }
     requires room { length page.old + 11 * length run.now ≤ text_most }
     ensures text { page.new ≡ page.old ++ flat_map label_text (labels_of sheet.now run.now) }
     ensures upper_bound { length page.new ≤ length page.old + 11 * length run.now }
 {
     for l in run {
-        put_label(page, sheet::words::word(sheet, 16 * (*l as usize)));
+        put_label(page, sheet::words::word(sheet, LINK * (*l as usize)));
     }
 }
 
 // The line of a reading: its rank, its cost, and the labels of its links.
 pub fn put_line(page: &mut Page, sheet: &[u8], run: &[u32], rank: u32, cost: i32)
-    requires by_index { (i : ℕ) → i < length run.now → 16 * get_or run.now i 0 + 16 ≤ length sheet.now }
+    requires by_index { (i : ℕ) → i < length run.now → link_length * get_or run.now i 0 + link_length ≤ length sheet.now }
     requires room { length page.old + 23 + 11 * length run.now ≤ text_most }
     ensures text { page.new ≡ page.old ++ line_of rank cost (labels_of sheet.now run.now) }
     ensures upper_bound { length page.new ≤ length page.old + 23 + 11 * length run.now }

@@ -2,11 +2,12 @@
 use mathlib.Core.Path.{◌≡◌, refl}
 use mathlib.Core.Bool.{true, false}
 use mathlib.Core.Option.{none, some}
-use mathlib.Core.List.{[], ◌∷◌, map}
+use mathlib.Core.List.{List, [], ◌∷◌, ◌++◌, map}
 use Prim.Native.Nat.{ℕ}
 use lib.IntN.{pos}
 use lib.ListN.{length}
 use Rattle.tropical_weight.specs.Tropical.{fin, inf}
+use Rattle.sheet.specs.declared.form.Form.{Form}
 use Rattle.sheet.specs.Sheet.{parts_of}
 use Rattle.sheet.specs.Machine.{Link, Machine, machine_of}
 use Rattle.sheet.proofs.Bench.{sheet_a}
@@ -21,12 +22,24 @@ arc s label units n = record { source = s; ilabel = label; olabel = label; weigh
 
 -- ---- Sheet A
 abbrev pub machine_a : Machine
-machine_a = record { links = arc 0 1 64 1 ∷ arc 0 2 32 2 ∷ arc 1 3 16 3 ∷ arc 1 5 0 2 ∷ arc 2 4 48 3 ∷ []; finals = none ∷ none ∷ none ∷ some (fin (pos 32)) ∷ []; start = some 0 }
+machine_a = record { links = arc 0 1 64 1 ∷ arc 0 2 32 2 ∷ arc 1 3 16 3 ∷ arc 1 5 0 2 ∷ arc 2 4 48 3 ∷ []; finals = none ∷ none ∷ none ∷ some (fin (pos 32)) ∷ []; start = some 0; form = Form.Short }
 
 -- it is the machine of Sheet A's 148 bytes
 of-sheet : machine_of (parts_of sheet_a) ≡ machine_a
 unfolding sheet_a parts_of machine_of
 of-sheet = refl
+
+-- with a sixth field of 256 the same bytes are a sheet in 256ths: four times as many units
+unfoldable pub sheet_fine : List ℕ
+unfolding sheet_a
+sheet_fine = sheet_a ++ (0 ∷ 1 ∷ 0 ∷ 0 ∷ [])
+
+abbrev pub machine_fine : Machine
+machine_fine = record { links = arc 0 1 256 1 ∷ arc 0 2 128 2 ∷ arc 1 3 64 3 ∷ arc 1 5 0 2 ∷ arc 2 4 192 3 ∷ []; finals = none ∷ none ∷ none ∷ some (fin (pos 128)) ∷ []; start = some 0; form = Form.Long 256 }
+
+of_fine_sheet : machine_of (parts_of sheet_fine) ≡ machine_fine
+unfolding sheet_fine parts_of machine_of
+of_fine_sheet = refl
 
 readings-A : map (λ (x : Reading). x.run) (readings machine_a) ≡ (0 ∷ 2 ∷ []) ∷ (1 ∷ 4 ∷ []) ∷ (0 ∷ 3 ∷ 4 ∷ []) ∷ []
 unfolding readings
@@ -49,7 +62,7 @@ labels-A = refl
 
 -- ---- two equal links, then three: six readings, and the parents are the lowest of each
 unfoldable pub machine_b : Machine
-machine_b = record { links = arc 0 1 0 1 ∷ arc 0 1 0 1 ∷ arc 1 1 0 2 ∷ arc 1 1 0 2 ∷ arc 1 1 0 2 ∷ []; finals = none ∷ none ∷ some (fin (pos 0)) ∷ []; start = some 0 }
+machine_b = record { links = arc 0 1 0 1 ∷ arc 0 1 0 1 ∷ arc 1 1 0 2 ∷ arc 1 1 0 2 ∷ arc 1 1 0 2 ∷ []; finals = none ∷ none ∷ some (fin (pos 0)) ∷ []; start = some 0; form = Form.Short }
 
 ties-B : (length (readings machine_b) ≡ 6) × (best machine_b ≡ some (record { run = 0 ∷ 2 ∷ []; end = 2 }))
 unfolding machine_b readings best
@@ -57,7 +70,7 @@ ties-B = (refl, refl)
 
 -- ---- from node 1 of four: nodes 0 and 3 are not reached, though 0 links to 1; both finals cost the same, and the lower wins
 unfoldable pub machine_c : Machine
-machine_c = record { links = arc 0 1 7 1 ∷ arc 1 2 4 2 ∷ []; finals = some (fin (pos 0)) ∷ some (fin (pos 4)) ∷ some (fin (pos 0)) ∷ some (fin (pos 0)) ∷ []; start = some 1 }
+machine_c = record { links = arc 0 1 7 1 ∷ arc 1 2 4 2 ∷ []; finals = some (fin (pos 0)) ∷ some (fin (pos 4)) ∷ some (fin (pos 0)) ∷ some (fin (pos 0)) ∷ []; start = some 1; form = Form.Short }
 
 below-C : (map (is_reached machine_c) (0 ∷ 1 ∷ 2 ∷ 3 ∷ []) ≡ false ∷ true ∷ true ∷ false ∷ []) × (distances machine_c ≡ unreached ∷ reached (pos 0) ∷ reached (pos 4) ∷ []) × (best machine_c ≡ some (record { run = []; end = 1 }))
 unfolding machine_c dist distances best
@@ -65,7 +78,7 @@ below-C = (refl, refl, refl)
 
 -- ---- no start: no reading and no distance
 machine_d : Machine
-machine_d = record { links = []; finals = some (fin (pos 0)) ∷ []; start = none }
+machine_d = record { links = []; finals = some (fin (pos 0)) ∷ []; start = none; form = Form.Short }
 
 none-D : (readings machine_d ≡ []) × (distances machine_d ≡ []) × (best machine_d ≡ none) × (total machine_d ≡ inf)
 unfolding machine_d readings distances best total
@@ -77,7 +90,7 @@ sorted = refl
 
 -- ---- barred: 1 is reached, 2 led to by a barred link from it, 3 led to only from 2; of six runs to marks one is of finite cost, the one reading
 machine_e : Machine
-machine_e = record { links = arc 0 1 5 1 ∷ barred 0 2 1 ∷ barred 1 3 2 ∷ arc 2 4 0 3 ∷ []; finals = none ∷ some (fin (pos 1)) ∷ some inf ∷ some (fin (pos 0)) ∷ []; start = some 0 }
+machine_e = record { links = arc 0 1 5 1 ∷ barred 0 2 1 ∷ barred 1 3 2 ∷ arc 2 4 0 3 ∷ []; finals = none ∷ some (fin (pos 1)) ∷ some inf ∷ some (fin (pos 0)) ∷ []; start = some 0; form = Form.Short }
   where
     barred : ℕ → ℕ → ℕ → Link
     barred s label n = record { source = s; ilabel = label; olabel = label; weight = inf; next = n }

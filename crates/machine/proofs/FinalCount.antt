@@ -10,11 +10,11 @@ use native.Mathlib.Omega.{arith}
 use lib.Dec.{eqb}
 use borrow.Author.Tests.{eq-eqb, ne_eqb}
 use Rattle.tropical_weight.specs.Tropical.{Tropical}
-use Rattle.sheet.specs.Below.{list_below}
+use Rattle.sheet.specs.Below.{sum_below, list_below}
 use Rattle.sheet.specs.Machine.{weight_of, final_of}
 use Rattle.sheet.specs.Records.{mark_at, final_at}
 use Rattle.machine.specs.Readings.{marked}
-use Rattle.machine.specs.Finals.{finals_at, final_count}
+use Rattle.machine.specs.Finals.{final_count}
 
 marked_append : (fs gs : List (Option Tropical)) → marked (fs ++ gs) ≡ marked fs + marked gs
 unfolding marked
@@ -24,18 +24,23 @@ marked_append (some w ∷ fs) gs = omega (arith, marked_append fs gs)
 
 module _ (bytes : List ℕ) (T : ℕ) where
   pub count_none : final_count bytes T 0 ≡ 0
-  unfolding finals_at list_below marked
+  unfolding sum_below
   count_none = refl
 
   -- node v, by its mark
   count_next : (v : ℕ) (b : Bool) → eqb (mark_at bytes T v) 0 ≡ b → final_count bytes T (suc v) ≡ final_count bytes T v + cond b 0 1
-  unfolding finals_at list_below marked
-  count_next v b e =
-      marked_append (finals_at bytes T v) (final_of (mark_at bytes T v) (final_at bytes T v) ∷ [])
-      ∙ ap (λ (t : Bool). final_count bytes T v + marked (cond t none (some (weight_of (final_at bytes T v))) ∷ [])) e
-      ∙ ap (λ (n : ℕ). final_count bytes T v + n) (one b)
+  unfolding sum_below
+  count_next v b e = ap (λ (t : Bool). final_count bytes T v + cond t 0 1) e
+
+  -- they are the nodes with a final weight, in whatever unit
+  pub count-marked : (j n : ℕ) → marked (list_below n (λ v. final_of j (mark_at bytes T v) (final_at bytes T v))) ≡ final_count bytes T n
+  unfolding sum_below list_below marked
+  count-marked j zero = refl
+  count-marked j (suc v) =
+      marked_append (list_below v (λ u. final_of j (mark_at bytes T u) (final_at bytes T u))) (final_of j (mark_at bytes T v) (final_at bytes T v) ∷ [])
+      ∙ λ i. count-marked j v i + one (eqb (mark_at bytes T v) 0) i
     where
-      one : (b : Bool) → marked (cond b none (some (weight_of (final_at bytes T v))) ∷ []) ≡ cond b 0 1
+      one : (b : Bool) → marked (cond b none (some (weight_of j (final_at bytes T v))) ∷ []) ≡ cond b 0 1
       one true = refl
       one false = refl
 

@@ -10,16 +10,19 @@ use Rattle.tropical_weight.specs.Limits.{node_limit, link_limit}
 use Rattle.std.specs.Prelude.{Err}
 use Rattle.sheet.specs.declared.refusal.Refusal.{Refusal}
 use Rattle.sheet.specs.Refusals.{number_of, number_in, answer}
+use Rattle.sheet.specs.declared.accepted.Sheet.{Sheet}
+use Rattle.sheet.specs.declared.form.Form.{Form}
 use Rattle.sheet.specs.declared.tr.Trailer.{Trailer}
-use Rattle.sheet.specs.Sheet.{parts_of, read_number, stated_links, stated_nodes}
+use Rattle.sheet.specs.Sheet.{unit_of, parts_of, read_number, stated_links, stated_nodes}
 use Rattle.sheet.specs.Records.{trailer_at}
 use Rattle.sheet.specs.Accepted.{trailer_in}
-use Rattle.sheet.specs.Machine.{machine}
+use Rattle.sheet.specs.Machine.{unit_in, machine}
 use Rattle.sheet.proofs.Refusals.{number-positive, Known, known, known-cond}
-use Rattle.sheet.proofs.AcceptedSheet.{read-known}
+use Rattle.sheet.proofs.AcceptedSheet.{read-known, form-of-bytes}
 use Rattle.machine.specs.declared.climbing.Machine.{Machine}
 use Rattle.machine.specs.Answers.{nodes_climb}
 use Rattle.machine.specs.Input.{counts_fit, links_climb, bounds_number, input_number}
+use Rattle.machine.proofs.Accepted.{form-stated}
 use Rattle.machine.proofs.Testing.{input-5, input-6, input-passes, counts-are, climb-same}
 use Rattle.machine.proofs.SheetFields.{SheetFields, fields-for}
 
@@ -33,7 +36,7 @@ unfolding input_number
 input-known bytes = known-cond (not (eqb (read_number bytes) 0)) (read_number bytes) (bounds_number (parts_of bytes)) (read-known bytes) (bounds-known bytes)
 
 -- ---- an accepted sheet with its counts
-module _ (bytes : List ℕ) (links nodes start : ℕ) (accepted : read_number bytes ≡ 0) (stated : trailer_in links nodes start ≡ trailer_at bytes) where
+module _ (bytes : List ℕ) (links nodes start : ℕ) (form : Form) (accepted : read_number bytes ≡ 0) (stated : trailer_in links nodes start form ≡ trailer_at bytes) where
   links-are : links ≡ stated_links bytes
   links-are = ap (λ (t : Trailer). t.links) stated
 
@@ -77,4 +80,11 @@ module _ (bytes : List ℕ) (links nodes start : ℕ) (accepted : read_number by
 
 -- ---- the records of its sheet
 pub machine-fields : (m : Machine) → SheetFields m.sheet.bytes.now m.sheet.links m.sheet.nodes (machine m.sheet.bytes.now)
-machine-fields m = let s = m.sheet in fields-for s.bytes.now m.climbs (trailer_in s.links s.nodes s.start) s.stated
+machine-fields m = let s = m.sheet in fields-for s.bytes.now m.climbs (trailer_in s.links s.nodes s.start s.form) s.stated
+
+-- ---- the form of a sheet's value is its machine's, and so the unit
+pub form-of : (s : Sheet) → (machine s.bytes.now).form ≡ s.form
+form-of s = form-stated s.bytes.now ∙ sym (form-of-bytes s)
+
+pub unit-of : (s : Sheet) → unit_in (machine s.bytes.now) ≡ unit_of s.form
+unit-of s = ap unit_of (form-of s)

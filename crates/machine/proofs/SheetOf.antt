@@ -8,22 +8,23 @@ use native.Mathlib.Omega.{arith}
 use lib.Dec.{ltb, eqb}
 use lib.ListN.{length, get_or}
 use borrow.Author.Tests.{lt-ltb, le-leb, lt-leb, eq-eqb}
-use Rattle.tropical_weight.specs.Limits.{unit, weight_limit, sum_limit, node_limit, link_limit}
+use Rattle.tropical_weight.specs.Limits.{finest, weight_limit, sum_limit, node_limit, link_limit}
 use Rattle.tropical_weight.specs.Tropical.{Tropical, fin, inf, Within}
 use Rattle.tropical_weight.proofs.Sums.{within-mono}
 use Rattle.tropical_weight.proofs.Grid.{grid_bits-means}
-use Rattle.sheet.specs.Sheet.{no_start, link_count, node_count, next, mark, final_bits, well_marked, nodes_fit, start_fits, nexts_fit, barred_bits, weight_fits, weights_fit, sheet_of, verdict, parts_of, read_number}
-use Rattle.sheet.specs.Machine.{Link, Machine, machine_of, sources_below, bits_of, start_field, parts_for}
+use Rattle.sheet.specs.Sheet.{unit_of, unit_fits, no_start, link_count, node_count, link_length, next, mark, final_bits, well_marked, nodes_fit, start_fits, nexts_fit, barred_bits, weight_fits, weights_fit, sheet_of, verdict, parts_of, read_number}
+use Rattle.sheet.specs.Machine.{Link, Machine, unit_in, machine_of, sources_below, bits_of, start_field, parts_for}
 use Rattle.sheet.proofs.Apart.{or_left, or_right}
 use Rattle.sheet.proofs.Below.{all_below-of}
+use Rattle.sheet.proofs.Forms.{covered, unit-word}
 use Rattle.sheet.proofs.Refusals.{first-passed}
-use Rattle.sheet.proofs.Encoding.{bits-inf, LinkFits, Writable, AllHeld, Held, bits-lt, links-are, nodes-are, start_is, link_bits-is, next-is, mark-some, mark-none, final_bits-some, final_bits-none, counts-are, source_of, records-fit, number_is, fields_back, machine-read}
+use Rattle.sheet.proofs.Encoding.{bits-inf, form-is, LinkFits, Writable, AllHeld, Held, bits-lt, links-are, nodes-are, start_is, link_bits-is, next-is, mark-some, mark-none, final_bits-some, final_bits-none, counts-are, source_of, records-fit, number_is, fields_back, machine-read}
 use Rattle.machine.specs.Readings.{no_link, link, final}
 use Rattle.machine.specs.Climbs.{Climbs, Small}
 use Rattle.machine.specs.Input.{links_climb, bounds_number, input_number}
 use Rattle.machine.proofs.Lists.{get_d_any}
 
--- what tests 1 to 4 ask of a machine
+-- what tests 1, 14 and 2 to 4 ask of a machine
 pub record Readable (m : Machine) : Type 0 where
   pub source_in : (l : ℕ) → l < length m.links → (link m l).source < length m.finals
   pub next-in : (l : ℕ) → l < length m.links → (link m l).next < length m.finals
@@ -33,12 +34,13 @@ pub record Readable (m : Machine) : Type 0 where
   pub small : Small weight_limit m
   pub starts : (v : ℕ) → m.start ≡ some v → v < length m.finals
   pub few-nodes : length m.finals < 2 ^ 32
-  pub few-links : 16 * length m.links < 2 ^ 32
+  pub few-links : link_length * length m.links < 2 ^ 32
+  pub unit_fits_lem : unit_fits m.form ≡ true
 
 -- the field of a weight within the limit passes test 4
-pub weight-fits : (w : Tropical) → Within weight_limit w → weight_fits (bits_of w) ≡ true
-weight-fits (fin k) s = or_right _ _ ((grid_bits-means unit (omega arith) weight_limit (omega arith) (bits_of (fin k)) (bits-lt (fin k))).1 (k, s, refl))
-weight-fits inf s = or_left _ _ (eq-eqb (bits_of inf) barred_bits bits-inf)
+pub weight-fits : (j : ℕ) → j ≤ finest → (w : Tropical) → Within weight_limit w → weight_fits j (bits_of j w) ≡ true
+weight-fits j c (fin k) s = or_right _ _ ((grid_bits-means j c weight_limit (omega arith) (bits_of j (fin k)) (bits-lt j c (fin k))).1 (k, s, refl))
+weight-fits j c inf s = or_left _ _ (eq-eqb (bits_of j inf) barred_bits (bits-inf j))
 
 module _ (m : Machine) (a : Readable m) where
   -- ---- its fields are words, and give its weights back
@@ -52,6 +54,7 @@ module _ (m : Machine) (a : Readable m) where
     start_fits_lem = start_word m.start a.starts;
     few-nodes = a.few-nodes;
     few-links = a.few-links;
+    unit-word = unit-word m.form a.unit_fits_lem;
   }
     where
       start_word : (o : Option ℕ) → ((v : ℕ) → o ≡ some v → v < length m.finals) → start_field o < 2 ^ 32
@@ -97,25 +100,34 @@ module _ (m : Machine) (a : Readable m) where
   unfolding nexts_fit
   nexts-fit = all_below-of (link_count (parts_for m)) _ (λ l h. lt-ltb (next (parts_for m) l) (node_count (parts_for m)) (omega (arith, next-is m l no_link (in-links l h), a.next-in l (in-links l h), nodes-are m)))
 
-  final-fits : (v : ℕ) → v < length m.finals → eqb (mark (parts_for m) v) 0 || weight_fits (final_bits (parts_for m) v) ≡ true
+  unit-is : unit_of (parts_for m).form ≡ unit_in m
+  unit-is = ap unit_of (form-is m)
+
+  -- the field of a weight that the machine has
+  grid : (bits : ℕ) (w : Tropical) → bits ≡ bits_of (unit_in m) w → Within weight_limit w → weight_fits (unit_of (parts_for m).form) bits ≡ true
+  grid bits w e s = (λ i. weight_fits (unit-is i) (e i)) ∙ weight-fits (unit_in m) (covered m.form) w s
+
+  final-fits : (v : ℕ) → v < length m.finals → eqb (mark (parts_for m) v) 0 || weight_fits (unit_of (parts_for m).form) (final_bits (parts_for m) v) ≡ true
   final-fits v h = go (final m v) refl
     where
-      go : (o : Option Tropical) → final m v ≡ o → eqb (mark (parts_for m) v) 0 || weight_fits (final_bits (parts_for m) v) ≡ true
-      go none e = λ i. eqb (mark-none m v h e i) 0 || weight_fits (final_bits (parts_for m) v)
-      go (some w) e = (λ i. eqb (mark-some m v h w e i) 0 || weight_fits (final_bits-some m v h w e i)) ∙ weight-fits w (a.small.on_final v w e)
+      go : (o : Option Tropical) → final m v ≡ o → eqb (mark (parts_for m) v) 0 || weight_fits (unit_of (parts_for m).form) (final_bits (parts_for m) v) ≡ true
+      go none e = λ i. eqb (mark-none m v h e i) 0 || weight_fits (unit_of (parts_for m).form) (final_bits (parts_for m) v)
+      go (some w) e = (λ i. eqb (mark-some m v h w e i) 0 || weight_fits (unit_of (parts_for m).form) (final_bits (parts_for m) v)) ∙ grid (final_bits (parts_for m) v) w (final_bits-some m v h w e) (a.small.on_final v w e)
 
   weights-fit : weights_fit (parts_for m) ≡ true
   unfolding weights_fit
   weights-fit =
-      let on-links = all_below-of (link_count (parts_for m)) _ (λ l h.
-      ap weight_fits (link_bits-is m l no_link (in-links l h)) ∙ weight-fits (link m l).weight (a.small.on_link l (in-links l h))) in
+      let on-links = all_below-of (link_count (parts_for m)) _ (λ l h. grid _ (link m l).weight (link_bits-is m l no_link (in-links l h)) (a.small.on_link l (in-links l h))) in
       let on-nodes = all_below-of (node_count (parts_for m)) _ (λ v h. final-fits v (in-nodes v h)) in
       λ i. on-links i && on-nodes i
+
+  form-fits : unit_fits (parts_for m).form ≡ true
+  form-fits = ap unit_fits (form-is m) ∙ a.unit_fits_lem
 
   -- ---- so its sheet passes them, and read from the sheet the machine is the same
   pub sheet-read : read_number (sheet_of (parts_for m)) ≡ 0
   unfolding verdict
-  sheet-read = number_is m writable ∙ simp (records-fit m writable, nodes-fit, start_fits_lem, nexts-fit, weights-fit)
+  sheet-read = number_is m writable ∙ simp (records-fit m writable, nodes-fit, form-fits, start_fits_lem, nexts-fit, weights-fit)
 
   pub sheet-machine : machine_of (parts_of (sheet_of (parts_for m))) ≡ m
   sheet-machine = machine-read m writable held

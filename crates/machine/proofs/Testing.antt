@@ -13,13 +13,14 @@ use Rattle.std.specs.Prelude.{Err}
 use Rattle.sheet.specs.declared.refusal.Refusal.{Refusal}
 use Rattle.sheet.specs.Below.{all_below, sum_below}
 use Rattle.sheet.specs.Words.{word}
-use Rattle.sheet.specs.Sheet.{node_count, count, next, parts_of, sizes_fit, start_fits, nexts_fit, weights_fit, verdict, read_number, stated_links, stated_nodes, nodes_fit, trailer_field}
+use Rattle.sheet.specs.Sheet.{link_length, node_length, node_count, count, next, parts_of, sizes_fit, form_of, unit_fits, start_fits, nexts_fit, weights_fit, verdict, read_number, stated_links, stated_nodes, nodes_fit, trailer_field}
 use Rattle.sheet.specs.Machine.{sources_below}
 use Rattle.sheet.specs.Records.{trailer_at}
 use Rattle.sheet.specs.Refusals.{number_of}
 use Rattle.sheet.specs.Answers.{tested}
 use Rattle.sheet.proofs.Refusals.{answer-err, refusal-told, number-positive, first-passed}
 use Rattle.sheet.proofs.AcceptedSheet.{read-known, nodes-pass, trailer-stated}
+use Rattle.sheet.proofs.Passes.{first_failing}
 use Rattle.sheet.proofs.NodeSources.{first-total}
 use Rattle.sheet.proofs.Below.{all_below-same, sum_below-same}
 use Rattle.sheet.proofs.Fields.{read-fields, length-read, read_fits}
@@ -57,21 +58,20 @@ module _ (bytes : List ℕ) where
   refused-reading r e =
       e ∙ sym (answer-err (trailer_at bytes) (input_number bytes) r (read-refused r (refusal-told (trailer_at bytes) (read_number bytes) (read-known bytes) r (sym e))))
 
-  -- the numbers are those of tests 1 to 6
-  pub input-most : input_number bytes ≤ 6
+  -- the numbers are those of tests 1 to 6, and 14
+  pub input-most : input_number bytes ≤ 14
   unfolding input_number read_number verdict bounds_number
   input-most =
       let p = parts_of bytes in
-      let bounds : bounds_number p ≤ 6 = most (not (counts_fit p)) 5 (cond (not (links_climb p)) 6 0) (omega arith) (most (not (links_climb p)) 6 0 (omega arith) (omega arith)) in
-      let weights : cond (not (weights_fit p)) 4 0 ≤ 6 = most (not (weights_fit p)) 4 0 (omega arith) (omega arith) in
-      let nexts : cond (not (nexts_fit p)) 3 (cond (not (weights_fit p)) 4 0) ≤ 6 = most (not (nexts_fit p)) 3 (cond (not (weights_fit p)) 4 0) (omega arith) weights in
-      let start : cond (not (start_fits (node_count p) p.start)) 2 (cond (not (nexts_fit p)) 3 (cond (not (weights_fit p)) 4 0)) ≤ 6 = most (not (start_fits (node_count p) p.start)) 2 (cond (not (nexts_fit p)) 3 (cond (not (weights_fit p)) 4 0)) (omega arith) nexts in
-      let read : read_number bytes ≤ 6 = most (not (sizes_fit bytes && nodes_fit p)) 1 (cond (not (start_fits (node_count p) p.start)) 2 (cond (not (nexts_fit p)) 3 (cond (not (weights_fit p)) 4 0))) (omega arith) start in
-      most (not (eqb (read_number bytes) 0)) (read_number bytes) (bounds_number p) read bounds
+      let bounds : bounds_number p ≤ 14 = most (not (counts_fit p)) 5 (cond (not (links_climb p)) 6 0) (omega arith) (most (not (links_climb p)) 6 0 (omega arith) (omega arith)) in
+      most (not (eqb (read_number bytes) 0)) (read_number bytes) (bounds_number p) (read (sizes_fit bytes && nodes_fit p) (unit_fits p.form) (start_fits (node_count p) p.start) (nexts_fit p) (weights_fit p)) bounds
     where
-      most : (b : Bool) (x y : ℕ) → x ≤ 6 → y ≤ 6 → cond b x y ≤ 6
+      most : (b : Bool) (x y : ℕ) → x ≤ 14 → y ≤ 14 → cond b x y ≤ 14
       most true x y h k = h
       most false x y h k = k
+
+      read : (a u b c d : Bool) → first_failing a u b c d ≤ 14
+      read a u b c d = most (not a) 1 _ (omega arith) (most (not u) 14 _ (omega arith) (most (not b) 2 _ (omega arith) (most (not c) 3 _ (omega arith) (most (not d) 4 0 (omega arith) (omega arith)))))
 
   module _ (read : read_number bytes ≡ 0) where
     -- by the number of tests 5 and 6
@@ -98,17 +98,17 @@ module _ (bytes : List ℕ) where
     unfolding read_number
     nodes-fit = nodes-pass (sizes_fit bytes) (parts_of bytes) read
 
-    pub counts-words : (v : ℕ) → v ≤ node_count (parts_of bytes) → sum_below v (count (parts_of bytes)) ≡ sum_below v (λ u. word bytes (16 * stated_links bytes + 12 * u))
-    counts-words v h = sum_below-same v (count (parts_of bytes)) (λ u. word bytes (16 * stated_links bytes + 12 * u)) (λ u k. (read-fields bytes).count-is u (omega (arith, (read-fields bytes).nodes-are)))
+    pub counts-words : (v : ℕ) → v ≤ node_count (parts_of bytes) → sum_below v (count (parts_of bytes)) ≡ sum_below v (λ u. word bytes (link_length * stated_links bytes + node_length * u))
+    counts-words v h = sum_below-same v (count (parts_of bytes)) (λ u. word bytes (link_length * stated_links bytes + node_length * u)) (λ u k. (read-fields bytes).count-is u (omega (arith, (read-fields bytes).nodes-are)))
 
     -- the counts add up to the links
-    pub counts-total : sum_below (stated_nodes bytes) (λ u. word bytes (16 * stated_links bytes + 12 * u)) ≡ stated_links bytes
-    counts-total = first-total bytes (stated_links bytes) (stated_nodes bytes) (trailer_field bytes 4) read (trailer-stated bytes read)
+    pub counts-total : sum_below (stated_nodes bytes) (λ u. word bytes (link_length * stated_links bytes + node_length * u)) ≡ stated_links bytes
+    counts-total = first-total bytes (stated_links bytes) (stated_nodes bytes) (trailer_field bytes 4) (form_of bytes) read (trailer-stated bytes read)
 
     -- one link of node v, by its place among them
     one_link : (v i : ℕ) → v < node_count (parts_of bytes) → i < count (parts_of bytes) v
         → ltb (get_or (sources_below (parts_of bytes) (node_count (parts_of bytes))) (sum_below v (count (parts_of bytes)) + i) 0) (next (parts_of bytes) (sum_below v (count (parts_of bytes)) + i))
-        ≡ ltb v (word bytes (16 * (sum_below v (count (parts_of bytes)) + i) + 12))
+        ≡ ltb v (word bytes (link_length * (sum_below v (count (parts_of bytes)) + i) + 12))
     one_link v i h k =
         let P = parts_of bytes in
         let N = node_count P in
@@ -127,14 +127,14 @@ module _ (bytes : List ℕ) where
         let P = parts_of bytes in
         let N = node_count P in
         let q : ℕ → Bool = λ l. ltb (get_or (sources_below P N) l 0) (next P l) in
-        let w : ℕ → ℕ = λ u. word bytes (16 * stated_links bytes + 12 * u) in
+        let w : ℕ → ℕ = λ u. word bytes (link_length * stated_links bytes + node_length * u) in
         ap (λ (n : ℕ). all_below n q) (sym (counts-sum P nodes-fit))
         ∙ all-sums N (count P) q
-        ∙ all_below-same N (λ v. all_below (count P v) (λ i. q (sum_below v (count P) + i))) (λ v. all_below (w v) (λ i. ltb v (word bytes (16 * (sum_below v w + i) + 12))))
-        (λ v h. all_below-same (count P v) (λ i. q (sum_below v (count P) + i)) (λ i. ltb v (word bytes (16 * (sum_below v (count P) + i) + 12))) (λ i k. one_link v i h k)
-        ∙ λ j. all_below ((read-fields bytes).count-is v (subst (λ (n : ℕ). v < n) (read-fields bytes).nodes-are h) j) (λ i. ltb v (word bytes (16 * (counts-words v (le_of_lt h) j + i) + 12))))
-        ∙ ap (λ (n : ℕ). all_below n (λ v. all_below (w v) (λ i. ltb v (word bytes (16 * (sum_below v w + i) + 12))))) (read-fields bytes).nodes-are
+        ∙ all_below-same N (λ v. all_below (count P v) (λ i. q (sum_below v (count P) + i))) (λ v. all_below (w v) (λ i. ltb v (word bytes (link_length * (sum_below v w + i) + 12))))
+        (λ v h. all_below-same (count P v) (λ i. q (sum_below v (count P) + i)) (λ i. ltb v (word bytes (link_length * (sum_below v (count P) + i) + 12))) (λ i k. one_link v i h k)
+        ∙ λ j. all_below ((read-fields bytes).count-is v (subst (λ (n : ℕ). v < n) (read-fields bytes).nodes-are h) j) (λ i. ltb v (word bytes (link_length * (counts-words v (le_of_lt h) j + i) + 12))))
+        ∙ ap (λ (n : ℕ). all_below n (λ v. all_below (w v) (λ i. ltb v (word bytes (link_length * (sum_below v w + i) + 12))))) (read-fields bytes).nodes-are
 
     -- the records lie in the sheet
-    pub in-sheet : 16 * stated_links bytes + 12 * stated_nodes bytes ≤ length bytes
+    pub in-sheet : link_length * stated_links bytes + node_length * stated_nodes bytes ≤ length bytes
     in-sheet = omega (arith, length-read bytes (read_fits bytes read))

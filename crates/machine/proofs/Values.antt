@@ -1,4 +1,4 @@
--- Of a machine that passes tests 1 to 6: its weights, final weights and start, by the fields of its sheet. Assumes nothing.
+-- Of a machine that passes tests 1, 14 and 2 to 6: its weights, final weights and start, by the fields of its sheet. Assumes nothing.
 use mathlib.Core.Path.{◌≡◌, refl, sym, ap, ◌∙◌}
 use mathlib.Core.Bool.{Bool, true, false, ◌||◌, cond}
 use mathlib.Core.Option.{none, some}
@@ -9,13 +9,13 @@ use lib.Dec.{ltb, eqb}
 use borrow.Author.Tests.{ltb-true, eqb-true}
 use Rattle.std.specs.Prelude.{None, Some}
 use Rattle.sheet.specs.declared.tr.Trailer.{Trailer}
-use Rattle.sheet.specs.Sheet.{Parts, no_start, link_count, node_count, mark, final_bits, link_bits, start_fits, weight_fits, parts_of}
-use Rattle.sheet.specs.Machine.{machine_of, machine, weight_of, start_of}
+use Rattle.sheet.specs.Sheet.{Parts, unit_of, no_start, link_count, node_count, mark, final_bits, link_bits, start_fits, weight_fits, parts_of}
+use Rattle.sheet.specs.Machine.{unit_in, machine_of, machine, weight_of, start_of}
 use Rattle.sheet.specs.Accepted.{start_in, ending}
 use Rattle.sheet.proofs.Sources.{machine-links, machine-nodes, machine-final}
 use Rattle.machine.specs.declared.climbing.Machine.{Machine}
 use Rattle.machine.specs.Readings.{final}
-use Rattle.machine.proofs.Accepted.{Passes, passes, link-grid, final-grid}
+use Rattle.machine.proofs.Accepted.{Passes, passes, link-grid, final-grid, machine-form}
 use Rattle.machine.proofs.Machines.{machine-fields}
 
 module _ (m : Machine) where
@@ -34,24 +34,31 @@ module _ (m : Machine) where
   in-nodes : (v : ℕ) → v < m.sheet.nodes → v < node_count p
   in-nodes v h = omega (arith, machine-nodes p, (machine-fields m).nodes-are)
 
+  unit-is : unit_in (machine m.sheet.bytes.now) ≡ unit_of p.form
+  unit-is = ap unit_of (machine-form p)
+
   -- the field of a link's weight passes test 4
-  pub link-fits : (l : ℕ) → l < m.sheet.links → weight_fits (link_bits (parts_of m.sheet.bytes.now) l) ≡ true
-  link-fits l h = link-grid p t l (in-links l h)
+  pub link-fits : (l : ℕ) → l < m.sheet.links → weight_fits (unit_in (machine m.sheet.bytes.now)) (link_bits (parts_of m.sheet.bytes.now) l) ≡ true
+  link-fits l h = ap (λ (j : ℕ). weight_fits j (link_bits p l)) unit-is ∙ link-grid p t l (in-links l h)
 
   -- so does that of a final weight, where there is one
   pub ending-none : (v : ℕ) → v < m.sheet.nodes → ending (parts_of m.sheet.bytes.now) v ≡ None → final (machine m.sheet.bytes.now) v ≡ none
   ending-none v h e = machine-final p v (in-nodes v h) ∙ go (eqb (mark p v) 0) e
     where
-      go : (b : Bool) → cond b None (Some (final_bits p v)) ≡ None → cond b none (some (weight_of (final_bits p v))) ≡ none
+      go : (b : Bool) → cond b None (Some (final_bits p v)) ≡ None → cond b none (some (weight_of (unit_of p.form) (final_bits p v))) ≡ none
       go true q = refl
       go false q = let z : ◌≡◌ {A = ℕ} 0 1 = cc in absurd (omega arith)
 
-  pub ending-some : (v k : ℕ) → v < m.sheet.nodes → ending (parts_of m.sheet.bytes.now) v ≡ Some k → (weight_fits k ≡ true) × (final (machine m.sheet.bytes.now) v ≡ some (weight_of k))
-  ending-some v k h e = let r = go (eqb (mark p v) 0) e (final-grid p t v (in-nodes v h)) in (r.0, machine-final p v (in-nodes v h) ∙ r.1)
+  pub ending-some : (v k : ℕ) → v < m.sheet.nodes → ending (parts_of m.sheet.bytes.now) v ≡ Some k
+      → (weight_fits (unit_in (machine m.sheet.bytes.now)) k ≡ true) × (final (machine m.sheet.bytes.now) v ≡ some (weight_of (unit_in (machine m.sheet.bytes.now)) k))
+  ending-some v k h e =
+      let r = go (eqb (mark p v) 0) e (final-grid p t v (in-nodes v h)) in
+      (ap (λ (j : ℕ). weight_fits j k) unit-is ∙ r.0, machine-final p v (in-nodes v h) ∙ r.1 ∙ ap (λ (j : ℕ). some (weight_of j k)) (sym unit-is))
     where
-      go : (b : Bool) → cond b None (Some (final_bits p v)) ≡ Some k → b || weight_fits (final_bits p v) ≡ true → (weight_fits k ≡ true) × (cond b none (some (weight_of (final_bits p v))) ≡ some (weight_of k))
+      go : (b : Bool) → cond b None (Some (final_bits p v)) ≡ Some k → b || weight_fits (unit_of p.form) (final_bits p v) ≡ true
+          → (weight_fits (unit_of p.form) k ≡ true) × (cond b none (some (weight_of (unit_of p.form) (final_bits p v))) ≡ some (weight_of (unit_of p.form) k))
       go true q g = let z : ◌≡◌ {A = ℕ} 0 1 = cc in absurd (omega arith)
-      go false q g = let same : final_bits p v ≡ k = cc in (ap weight_fits (sym same) ∙ g, ap (λ (n : ℕ). some (weight_of n)) same)
+      go false q g = let same : final_bits p v ≡ k = cc in (ap (weight_fits (unit_of p.form)) (sym same) ∙ g, ap (λ (n : ℕ). some (weight_of (unit_of p.form) n)) same)
 
   -- the start, where it is a node; else there is none
   start-stated : m.sheet.start ≡ p.start

@@ -1,4 +1,4 @@
--- The refusals from the input that every call on a machine tests: 1 to 6. Definitions only.
+-- The refusals from the input that every call on a machine tests: 1, 14 and 2 to 6. Definitions only.
 use Rattle.std.specs.Prelude.{ℕ, Bool, not, ◌&&◌, cond, List, leb, ltb, eqb, get_or}
 use Rattle.tropical_weight.specs.Limits.{node_limit, link_limit}
 use Rattle.sheet.specs.Below.{all_below}
@@ -19,7 +19,7 @@ unfoldable pub bounds_number : Parts → ℕ
 unfolding links_climb
 bounds_number p = cond (not (counts_fit p)) 5 (cond (not (links_climb p)) 6 0)
 
--- the first number of 1 to 6 whose test fails, or 0
+-- the first number of 1, 14 and 2 to 6 whose test fails, or 0
 unfoldable pub input_number : List ℕ → ℕ
 unfolding read_number parts_of bounds_number
 input_number bytes = let k = read_number bytes in cond (not (eqb k 0)) k (bounds_number (parts_of bytes))

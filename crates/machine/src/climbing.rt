@@ -1,4 +1,4 @@
-// A machine that a call works on: a sheet that has passed tests 1 to 6.
+// A machine that a call works on: a sheet that has passed tests 1, 14 and 2 to 6.
 ghost use Rattle.std.specs.Prelude.{◌≡◌, IfOk};
 ghost use Rattle.sheet.specs.Refusals.{number_in};
 ghost use Rattle.machine.specs.Input.{input_number};
@@ -40,7 +40,7 @@ fn links_climb(sheet: &Sheet) -> bool
 }
 
 impl<'a> Machine<'a> {
-    // Tests 1 to 6 of a byte string: those of reading, then the limits, then that links climb.
+    // Tests 1, 14 and 2 to 6 of a byte string: those of reading, then the limits, then that links climb.
     pub fn new(bytes: &'a [u8]) -> Result<Machine<'a>, Refusal>
         ensures number { number_in result ≡ input_number bytes.now }
         ensures same { IfOk result (λ m. m.sheet.bytes ≡ bytes.entry) }

@@ -10,17 +10,17 @@ use lib.Ieee.{binary32, lt, of_bits}
 use lib.ListN.{length, get_or, set, take, length-set}
 use lib.Seq.{get_or-set_same, get_or-set_other, take_at, ext_get_or}
 use borrow.Author.Tests.{leb-false, ltb-true}
-use Rattle.tropical_weight.specs.Limits.{unit, sum_limit}
+use Rattle.tropical_weight.specs.Limits.{finest, sum_limit}
 use Rattle.tropical_weight.specs.Tropical.{Tropical, le_t, lt_t, eq_t, Within}
 use Rattle.tropical_weight.proofs.Semiring.{lt_t-not}
-use Rattle.tropical_weight.proofs.Exact.{covered, lt-of_t, bits_back}
+use Rattle.tropical_weight.proofs.Exact.{lt-of_t, bits_back}
 use Rattle.sheet.specs.Below.{list_below}
 use Rattle.sheet.specs.Machine.{bits_of}
 use Rattle.sheet.proofs.Below.{length-list_below, get_or-list_below}
 use Rattle.search.specs.Heap.{swapped, sift_up, child, sift_down, pushed, popped}
 use Rattle.search.specs.Reversed.{Reversed}
 use Rattle.search.specs.Search.{Entry, half, finished, is_half, rank, precedes}
-use Rattle.slots.specs.Slots.{nothing}
+use Rattle.slots.specs.Slots.{slot_length, nothing}
 use Rattle.search_slots.specs.Slots.{node_word, rank_word, heap_word, heap_of, node_field}
 use Rattle.n_shortest.specs.EntryWords.{entry_w}
 use Rattle.n_shortest.specs.HeapWords.{half_first, less_w, store_w, swap_w, place_less, parent_of, sift_up_w, child_w, sift_down_w, push_w, pop_w}
@@ -70,10 +70,10 @@ push-keeps P len keeps part x h = up-keeps P (suc len) (both-keep P (suc len) ke
 -- ---- the length, and the words that are no place of the heap
 module _ (part : List ℕ) where
   length-keeps : (q : List ℕ) (i x : ℕ) → length q ≡ length part → length (store_w q i x) ≡ length part
-  length-keeps q i x h = length-set q (8 * i + 5) x ∙ h
+  length-keeps q i x h = length-set q (slot_length * i + 5) x ∙ h
 
-  word_keeps : (j d : ℕ) (q : List ℕ) (i x : ℕ) → (j ≡ 8 * i + 5 → ⊥) → get_or q j d ≡ get_or part j d → get_or (store_w q i x) j d ≡ get_or part j d
-  word_keeps j d q i x n h = get_or-set_other q (8 * i + 5) j x d n ∙ h
+  word_keeps : (j d : ℕ) (q : List ℕ) (i x : ℕ) → (j ≡ slot_length * i + 5 → ⊥) → get_or q j d ≡ get_or part j d → get_or (store_w q i x) j d ≡ get_or part j d
+  word_keeps j d q i x n h = get_or-set_other q (slot_length * i + 5) j x d n ∙ h
 
 module _ (part : List ℕ) (len x : ℕ) where
   pub push-length : length (push_w part len x) ≡ length part
@@ -82,7 +82,7 @@ module _ (part : List ℕ) (len x : ℕ) where
   pub push-other : (j d : ℕ) → (j % 8 ≡ 5 → ⊥) → get_or (push_w part len x) j d ≡ get_or part j d
   push-other j d n = push-keeps (λ q. get_or q j d ≡ get_or part j d) len (λ q i y l. word_keeps part j d q i y (λ e. n (omega arith))) part x refl
 
-  pub push-beyond : (j d : ℕ) → 8 * suc len ≤ j → get_or (push_w part len x) j d ≡ get_or part j d
+  pub push-beyond : (j d : ℕ) → slot_length * suc len ≤ j → get_or (push_w part len x) j d ≡ get_or part j d
   push-beyond j d b = push-keeps (λ q. get_or q j d ≡ get_or part j d) len (λ q i y l. word_keeps part j d q i y (λ e. omega arith)) part x refl
 
 module _ (part : List ℕ) (len : ℕ) (some : 0 < len) where
@@ -92,7 +92,7 @@ module _ (part : List ℕ) (len : ℕ) (some : 0 < len) where
   pub pop-other : (j d : ℕ) → (j % 8 ≡ 5 → ⊥) → get_or (pop_w part len) j d ≡ get_or part j d
   pop-other j d n = pop-keeps (λ q. get_or q j d ≡ get_or part j d) len (λ q i y l. word_keeps part j d q i y (λ e. n (omega arith))) part some refl
 
-  pub pop-beyond : (j d : ℕ) → 8 * len ≤ j → get_or (pop_w part len) j d ≡ get_or part j d
+  pub pop-beyond : (j d : ℕ) → slot_length * len ≤ j → get_or (pop_w part len) j d ≡ get_or part j d
   pop-beyond j d b = pop-keeps (λ q. get_or q j d ≡ get_or part j d) len (λ q i y l. word_keeps part j d q i y (λ e. omega arith)) part some refl
 
 -- ---- the order depends on ranks and entries alone
@@ -104,22 +104,22 @@ less-same p q r e =
 -- ---- what every entry in the heap has is kept
 module _ (Q : ℕ → Type 0) where
   abbrev Roomy : ℕ → List ℕ → Type 0
-  Roomy n q = (8 * n ≤ length q) × Each Q q n
+  Roomy n q = (slot_length * n ≤ length q) × Each Q q n
 
   roomy-swap : (n : ℕ) (q : List ℕ) (i j : ℕ) → i < n → j < n → Roomy n q → Roomy n (swap_w q i j)
   roomy-swap n q i j li lj h = (simp length-set h.0, swap-each Q q n i j h.0 li lj h.1)
 
-  stored_last : (part : List ℕ) (len x : ℕ) → 8 * suc len ≤ length part → Each Q part len → Q x → Each Q (store_w part len x) (suc len)
+  stored_last : (part : List ℕ) (len x : ℕ) → slot_length * suc len ≤ length part → Each Q part len → Q x → Each Q (store_w part len x) (suc len)
   stored_last part len x r h b = store-each Q part (suc len) len x r (omega arith) b (λ k m ne. h k (omega arith))
 
-  stored-first : (part : List ℕ) (len : ℕ) → 8 * len ≤ length part → 0 < len → Each Q part len → Each Q (store_w part 0 (heap_word part (len - 1))) len
+  stored-first : (part : List ℕ) (len : ℕ) → slot_length * len ≤ length part → 0 < len → Each Q part len → Each Q (store_w part 0 (heap_word part (len - 1))) len
   stored-first part len r l h = store-each Q part len 0 (heap_word part (len - 1)) r l (h (len - 1) (omega arith)) (λ k m ne. h k m)
 
-  pub push-each : (part : List ℕ) (len x : ℕ) → 8 * suc len ≤ length part → Each Q part len → Q x → Each Q (push_w part len x) (suc len)
+  pub push-each : (part : List ℕ) (len x : ℕ) → slot_length * suc len ≤ length part → Each Q part len → Q x → Each Q (push_w part len x) (suc len)
   unfolding push_w
   push-each part len x r h b = (up-keeps (Roomy (suc len)) (suc len) (roomy-swap (suc len)) len (store_w part len x) len (omega arith) (simp length-set r, stored_last part len x r h b)).1
 
-  pub pop-each : (part : List ℕ) (len : ℕ) → 8 * len ≤ length part → 0 < len → Each Q part len → Each Q (pop_w part len) (len - 1)
+  pub pop-each : (part : List ℕ) (len : ℕ) → slot_length * len ≤ length part → 0 < len → Each Q part len → Each Q (pop_w part len) (len - 1)
   unfolding pop_w
   pop-each part len r l h = (down-keeps (Roomy (len - 1)) (len - 1) (roomy-swap (len - 1)) (len - 1) (store_w part 0 (heap_word part (len - 1))) 0 (simp length-set (omega arith), λ k m. stored-first part len r l h k (omega arith))).1
 
@@ -133,7 +133,7 @@ heap-length part n = length-list_below n (heap_word part)
 pub heap-same : (p q : List ℕ) (n : ℕ) → ((i : ℕ) → i < n → heap_word p i ≡ heap_word q i) → heap_of p n ≡ heap_of q n
 heap-same p q n h = ext_get_or 0 (heap_of p n) (heap_of q n) (heap-length p n ∙ sym (heap-length q n)) (λ i l. let m : i < n = omega (arith, heap-length p n) in heap-at p n i m ∙ h i m ∙ sym (heap-at q n i m))
 
-heap-store : (part : List ℕ) (n i x : ℕ) → 8 * n ≤ length part → i < n → heap_of (store_w part i x) n ≡ set (heap_of part n) i x
+heap-store : (part : List ℕ) (n i x : ℕ) → slot_length * n ≤ length part → i < n → heap_of (store_w part i x) n ≡ set (heap_of part n) i x
 heap-store part n i x r l =
     let q = store_w part i x in
     ext_get_or 0 (heap_of q n) (set (heap_of part n) i x) (heap-length q n ∙ sym (length-set (heap_of part n) i x ∙ heap-length part n)) (λ k m. let b : k < n = omega (arith, heap-length q n) in heap-at q n k b ∙ at k b (ℕ_discrete k i))
@@ -142,7 +142,7 @@ heap-store part n i x r l =
     at k b (yes e) = ap (heap_word (store_w part i x)) e ∙ place_same part i x (omega arith) ∙ sym (get_or-set_same (heap_of part n) i x 0 (omega (arith, heap-length part n))) ∙ ap (λ (k : ℕ). get_or (set (heap_of part n) i x) k 0) (sym e)
     at k b (no ne) = place_other part i x k ne ∙ sym (heap-at part n k b) ∙ sym (get_or-set_other (heap_of part n) i k x 0 ne)
 
-heap-last : (part : List ℕ) (len x : ℕ) → 8 * suc len ≤ length part → heap_of (store_w part len x) (suc len) ≡ heap_of part len ++ (x ∷ [])
+heap-last : (part : List ℕ) (len x : ℕ) → slot_length * suc len ≤ length part → heap_of (store_w part len x) (suc len) ≡ heap_of part len ++ (x ∷ [])
 unfolding list_below
 heap-last part len x r = λ k. heap-same (store_w part len x) part len (λ i l. place_other part len x i (λ e. omega arith)) k ++ (place_same part len x (omega arith) k ∷ [])
 
@@ -161,7 +161,7 @@ module _ (before : ℕ → ℕ → Bool) (Q : ℕ → Type 0) where
   Agrees part = (a b : ℕ) → Q a → Q b → less_w part a b ≡ before a b
 
   record Alike (n : ℕ) (part : List ℕ) : Type 0 where
-    room : 8 * n ≤ length part
+    room : slot_length * n ≤ length part
     each : Each Q part n
     agrees : Agrees part
 
@@ -169,7 +169,7 @@ module _ (before : ℕ → ℕ → Bool) (Q : ℕ → Type 0) where
   agrees-store part i x h a b p q = (λ k. kept k a b) ∙ h a b p q
     where
       kept : less_w (store_w part i x) ≡ less_w part
-      kept = less-same (store_w part i x) part (λ a. get_or-set_other part (8 * i + 5) (8 * a + 4) x 0 (λ e. omega arith)) (λ a. entry-same (store_w part i x) part a (get_or-set_other part (8 * i + 5) (8 * a) x 0 (λ e. omega arith)) (get_or-set_other part (8 * i + 5) (8 * a + 1) x 0 (λ e. omega arith)))
+      kept = less-same (store_w part i x) part (λ a. get_or-set_other part (slot_length * i + 5) (slot_length * a + 4) x 0 (λ e. omega arith)) (λ a. entry-same (store_w part i x) part a (get_or-set_other part (slot_length * i + 5) (slot_length * a) x 0 (λ e. omega arith)) (get_or-set_other part (slot_length * i + 5) (slot_length * a + 1) x 0 (λ e. omega arith)))
 
   module _ (n : ℕ) where
     alike-swap : (part : List ℕ) (i j : ℕ) → i < n → j < n → Alike n part → Alike n (swap_w part i j)
@@ -235,14 +235,14 @@ module _ (before : ℕ → ℕ → Bool) (Q : ℕ → Type 0) where
             let l = leb-false n (2 * i + 1) e in
             down_turn f part i c (sift_down_w f n (swap_w part i c) c) s l refl (child-in part n i l) (down l)
 
-  pub push-is : (part : List ℕ) (len x : ℕ) → 8 * suc len ≤ length part → Each Q part len → Q x → Agrees part → heap_of (push_w part len x) (suc len) ≡ pushed before x (heap_of part len)
+  pub push-is : (part : List ℕ) (len x : ℕ) → slot_length * suc len ≤ length part → Each Q part len → Q x → Agrees part → heap_of (push_w part len x) (suc len) ≡ pushed before x (heap_of part len)
   unfolding push_w pushed
   push-is part len x r h b agrees =
       up_is (suc len) len (store_w part len x) len (omega arith) (record { room = simp length-set r; each = stored_last Q part len x r h b; agrees = agrees-store part len x agrees })
       ∙ ap (λ (h : List ℕ). sift_up before len h len) (heap-last part len x r)
       ∙ ap (λ (k : ℕ). sift_up before k (heap_of part len ++ (x ∷ [])) k) (sym (heap-length part len))
 
-  pub pop-is : (part : List ℕ) (len : ℕ) → 8 * len ≤ length part → 0 < len → Each Q part len → Agrees part → heap_of (pop_w part len) (len - 1) ≡ popped before (heap_of part len)
+  pub pop-is : (part : List ℕ) (len : ℕ) → slot_length * len ≤ length part → 0 < len → Each Q part len → Agrees part → heap_of (pop_w part len) (len - 1) ≡ popped before (heap_of part len)
   unfolding pop_w popped
   pop-is part zero r l h agrees = absurd (omega arith)
   pop-is part (suc n) r l h agrees =
@@ -264,8 +264,8 @@ by_tests x y t = (λ k. lt_t-not x y k || (not (lt_t-not y x k) && t)) ∙ go (l
     go false true = refl
     go false false = refl
 
-module _ (part : List ℕ) (a b : ℕ) (x y : Tropical) (hx : Within sum_limit x) (hy : Within sum_limit y) (ex : rank_word part a ≡ bits_of x) (ey : rank_word part b ≡ bits_of y) where
-  rank_less : (v w : Tropical) → Within sum_limit v → Within sum_limit w → (i j : ℕ) → i ≡ bits_of v → j ≡ bits_of w → lt (of_bits binary32 i) (of_bits binary32 j) ≡ lt_t v w
+module _ (unit : ℕ) (covered : unit ≤ finest) (part : List ℕ) (a b : ℕ) (x y : Tropical) (hx : Within sum_limit x) (hy : Within sum_limit y) (ex : rank_word part a ≡ bits_of unit x) (ey : rank_word part b ≡ bits_of unit y) where
+  rank_less : (v w : Tropical) → Within sum_limit v → Within sum_limit w → (i j : ℕ) → i ≡ bits_of unit v → j ≡ bits_of unit w → lt (of_bits binary32 i) (of_bits binary32 j) ≡ lt_t v w
   rank_less v w hv hw i j ei ej = (λ k. lt (of_bits binary32 (ei k)) (of_bits binary32 (ej k))) ∙ (λ k. lt (bits_back unit covered v k) (bits_back unit covered w k)) ∙ lt-of_t unit covered v w hv hw
 
   pub less-grid : less_w part a b ≡ lt_t x y || (eq_t x y && half_first (entry_w part a) (entry_w part b))
@@ -286,14 +286,14 @@ half_is part a b (half v c) (half w d) h k m n = λ i. half_first (entry-half pa
 half_is part a b (half v c) (finished d) h k m n = λ i. half_first (entry-half part a (λ z. omega (arith, z, m)) i) (entry-finished part b n i)
 half_is part a b (finished c) e h k m n = ap (λ x. half_first x (entry_w part b)) (entry-finished part a m)
 
--- entry e is at slot a, with its rank
-pub record Ranked (r : Reversed) (part : List ℕ) (a : ℕ) (e : Entry) : Type 0 where
+-- entry e is at slot a, with its rank in units of 1 / 2 ^ unit
+pub record Ranked (unit : ℕ) (r : Reversed) (part : List ℕ) (a : ℕ) (e : Entry) : Type 0 where
   pub named : Named e
   pub node : node_word part a ≡ node_field e
   pub within : Within sum_limit (rank r e)
-  pub bits : rank_word part a ≡ bits_of (rank r e)
+  pub bits : rank_word part a ≡ bits_of unit (rank r e)
 
-pub less-precedes : (r : Reversed) (part : List ℕ) (a b : ℕ) (d e : Entry) → Ranked r part a d → Ranked r part b e → less_w part a b ≡ precedes r d e
-less-precedes r part a b d e s t =
-    less-grid part a b (rank r d) (rank r e) s.within t.within s.bits t.bits
+pub less-precedes : (unit : ℕ) → unit ≤ finest → (r : Reversed) (part : List ℕ) (a b : ℕ) (d e : Entry) → Ranked unit r part a d → Ranked unit r part b e → less_w part a b ≡ precedes r d e
+less-precedes unit covered r part a b d e s t =
+    less-grid unit covered part a b (rank r d) (rank r e) s.within t.within s.bits t.bits
     ∙ ap (λ (h : Bool). lt_t (rank r d) (rank r e) || (eq_t (rank r d) (rank r e) && h)) (half_is part a b d e s.named t.named s.node t.node)

@@ -11,26 +11,27 @@ use lib.Seq.{get_or-set_same, get_or-set_other}
 use borrow.Author.Tests.{eq-eqb, ne_eqb, le-leb, lt-leb}
 use Rattle.search_slots.specs.Slots.{heap_word}
 use Rattle.n_shortest.specs.HeapWords.{store_w, swap_w, place_less, parent_of, sift_up_w, child_w, sift_down_w}
+use Rattle.slots.specs.Slots.{slot_length}
 
 -- ---- stores at places
-pub place_same : (part : List ℕ) (i x : ℕ) → 8 * i + 5 < length part → heap_word (store_w part i x) i ≡ x
-place_same part i x l = get_or-set_same part (8 * i + 5) x 0 l
+pub place_same : (part : List ℕ) (i x : ℕ) → slot_length * i + 5 < length part → heap_word (store_w part i x) i ≡ x
+place_same part i x l = get_or-set_same part (slot_length * i + 5) x 0 l
 
 pub place_other : (part : List ℕ) (i x k : ℕ) → (k ≡ i → ⊥) → heap_word (store_w part i x) k ≡ heap_word part k
-place_other part i x k n = get_or-set_other part (8 * i + 5) (8 * k + 5) x 0 (λ e. n (omega arith))
+place_other part i x k n = get_or-set_other part (slot_length * i + 5) (slot_length * k + 5) x 0 (λ e. n (omega arith))
 
 -- what every place below n holds: a store of such an entry keeps it
 module _ (P : ℕ → Type 0) where
   abbrev pub Each : List ℕ → ℕ → Type 0
   Each part n = (i : ℕ) → i < n → P (heap_word part i)
 
-  pub store-each : (part : List ℕ) (n i x : ℕ) → 8 * n ≤ length part → i < n → P x → ((k : ℕ) → k < n → (k ≡ i → ⊥) → P (heap_word part k)) → Each (store_w part i x) n
+  pub store-each : (part : List ℕ) (n i x : ℕ) → slot_length * n ≤ length part → i < n → P x → ((k : ℕ) → k < n → (k ≡ i → ⊥) → P (heap_word part k)) → Each (store_w part i x) n
   store-each part n i x r l p h k m = elim (ℕ_discrete k i) [
     | yes e ↦ subst (λ (k : ℕ). P (heap_word (store_w part i x) k)) (sym e) (subst P (sym (place_same part i x (omega arith))) p)
     | no ne ↦ subst P (sym (place_other part i x k ne)) (h k m ne)
   ]
 
-  pub swap-each : (part : List ℕ) (n i j : ℕ) → 8 * n ≤ length part → i < n → j < n → Each part n → Each (swap_w part i j) n
+  pub swap-each : (part : List ℕ) (n i j : ℕ) → slot_length * n ≤ length part → i < n → j < n → Each part n → Each (swap_w part i j) n
   swap-each part n i j r li lj h =
       store-each (store_w part i (heap_word part j)) n j (heap_word part i) (simp length-set r) lj (h i li)
       (λ k m ne. store-each part n i (heap_word part j) r li (h j lj) (λ k m ne. h k m) k m)

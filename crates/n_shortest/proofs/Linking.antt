@@ -11,7 +11,7 @@ use borrow.Author.Tests.{eq-eqb, ne_eqb}
 use Rattle.n_shortest.specs.declared.n_best.Places.{Places}
 use Rattle.n_shortest.specs.declared.entry.Entry.{Entry}
 use Rattle.n_shortest.specs.declared.entry.Entry.TheVariants.{Half, Finished}
-use Rattle.slots.specs.Slots.{nothing}
+use Rattle.slots.specs.Slots.{slot_length, nothing}
 use Rattle.search_slots.specs.Slots.{head_word, next_word, weight_word, chain_word}
 use Rattle.n_shortest.specs.SearchWords.{Words, repeated, put_w, link_w, links_w, expand_w, Sized, Chain}
 use Rattle.n_shortest.proofs.Putting.{put_entries, put-beyond, sized-put, length-put}
@@ -21,8 +21,8 @@ pub chain_same : (p : Places) (a b : List ℕ) → length a ≡ length b → ((j
 unfolding Chain
 chain_same p a b l f zero k h = h
 chain_same p a b l f (suc n) k h =
-    let next : next_word a p.links k ≡ next_word b p.links k = f (p.links + 8 * k) (omega arith) in
-    let on : chain_word a p.links k ≡ chain_word b p.links k = f (p.links + 8 * k + 2) (omega arith) in
+    let next : next_word a p.links k ≡ next_word b p.links k = f (p.links + slot_length * k) (omega arith) in
+    let on : chain_word a p.links k ≡ chain_word b p.links k = f (p.links + slot_length * k + 2) (omega arith) in
     (omega (arith, h.0, l), omega (arith, h.1, l, next), chain_same p a b l f n (chain_word b p.links k) (subst (Chain p a n) on h.2))
 
 module _ (p : Places) (x : ℕ) (cost : Float) where
@@ -43,13 +43,13 @@ module _ (p : Places) (x : ℕ) (cost : Float) where
   pub record Going (most head : ℕ) (s₀ : Words) (turn k : ℕ) (s : Words) : Type 0 where
     pub fan : ℕ
     pub chain : Chain p s.part fan k
-    pub free : 8 * (s.counts.entries + fan) ≤ p.nodes
+    pub free : slot_length * (s.counts.entries + fan) ≤ p.nodes
     pub rest : links_w p x cost most head s₀ ≡ links_w p x cost (most - turn) k s
 
   -- the link that is next, and the room for its entry
   pub record Next (k : ℕ) (s : Words) (fan : ℕ) : Type 0 where
-    pub slot : p.links + 8 * k + 2 < length s.part
-    pub node : p.nodes + 8 * next_word s.part p.links k + 1 < length s.part
+    pub slot : p.links + slot_length * k + 2 < length s.part
+    pub node : p.nodes + slot_length * next_word s.part p.links k + 1 < length s.part
     pub fewer : ℕ
     pub one_more : fan ≡ suc fewer
     pub chain : Chain p s.part fewer (chain_word s.part p.links k)
@@ -66,7 +66,7 @@ module _ (p : Places) (x : ℕ) (cost : Float) where
     abbrev by : Entry
     by = Half (next_word s.part p.links k) (add binary32 cost (of_bits binary32 (weight_word s.part p.links k)))
 
-    free_one : 8 * (s.counts.entries + 1) ≤ p.nodes
+    free_one : slot_length * (s.counts.entries + 1) ≤ p.nodes
     free_one = omega (arith, g.free, d.one_more)
 
     pub going_on : (y : Words) → y ≡ link_w p x cost k s → Going most head s₀ (turn + 1) (chain_word s.part p.links k) y
@@ -84,18 +84,18 @@ module _ (p : Places) (x : ℕ) (cost : Float) where
     pub beyond : (j : ℕ) → p.nodes ≤ j → get_or z.part j 0 ≡ get_or s.part j 0
     pub long : length z.part ≡ length s.part
 
-  pub linked : (n k : ℕ) (s : Words) (fan : ℕ) → Sized p s → Chain p s.part fan k → 8 * (s.counts.entries + fan) ≤ p.nodes → Linked s (links_w p x cost n k s) fan
+  pub linked : (n k : ℕ) (s : Words) (fan : ℕ) → Sized p s → Chain p s.part fan k → slot_length * (s.counts.entries + fan) ≤ p.nodes → Linked s (links_w p x cost n k s) fan
   linked zero k s fan z h f = subst (λ w. Linked s w fan) (sym (links-none k s)) (record { sized = z; few = omega arith; beyond = λ j b. refl; long = refl })
   linked (suc n) k s fan z h f = go (ℕ_discrete k nothing) (linked n (chain_word s.part p.links k) (link_w p x cost k s))
     where
       go : Dec (k ≡ nothing)
-          → ((fan : ℕ) → Sized p (link_w p x cost k s) → Chain p (link_w p x cost k s).part fan (chain_word s.part p.links k) → 8 * ((link_w p x cost k s).counts.entries + fan) ≤ p.nodes → Linked (link_w p x cost k s) (links_w p x cost n (chain_word s.part p.links k) (link_w p x cost k s)) fan)
+          → ((fan : ℕ) → Sized p (link_w p x cost k s) → Chain p (link_w p x cost k s).part fan (chain_word s.part p.links k) → slot_length * ((link_w p x cost k s).counts.entries + fan) ≤ p.nodes → Linked (link_w p x cost k s) (links_w p x cost n (chain_word s.part p.links k) (link_w p x cost k s)) fan)
           → Linked s (links_w p x cost (suc n) k s) fan
       go (yes e) on = subst (λ w. Linked s w fan) (sym (links_end (suc n) k s e)) (record { sized = z; few = omega arith; beyond = λ j b. refl; long = refl })
       go (no e) on =
           let d = next k s fan h e in
           let by = Half (next_word s.part p.links k) (add binary32 cost (of_bits binary32 (weight_word s.part p.links k))) in
-          let free : 8 * (s.counts.entries + 1) ≤ p.nodes = omega (arith, f, d.one_more) in
+          let free : slot_length * (s.counts.entries + 1) ≤ p.nodes = omega (arith, f, d.one_more) in
           let l = length-put p s by x (repeated p.inputs k) z free in
           let b = put-beyond p s by x (repeated p.inputs k) z free in
           let y = on d.fewer (sized-put p s by x (repeated p.inputs k) z free) (chain_same p s.part (link_w p x cost k s).part (sym l) (λ j q. sym (b j (omega (arith, z.after)))) d.fewer (chain_word s.part p.links k) d.chain) (omega (arith, f, d.one_more, put_entries p.nodes by x (repeated p.inputs k) s)) in

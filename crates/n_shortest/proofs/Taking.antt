@@ -19,17 +19,18 @@ use Rattle.n_shortest.specs.EntryWords.{entry_w}
 use Rattle.n_shortest.specs.SearchWords.{Words, expand_w, listed_w, finished_w, taken_w, without, step_w, stopped_w, after_w, Sized, Chain, Expands, Takes}
 use Rattle.n_shortest.proofs.HeapPlaces.{pop-length, pop-other, pop-beyond, pop-each}
 use Rattle.n_shortest.proofs.Linking.{chain_same}
+use Rattle.slots.specs.Slots.{slot_length}
 
 -- ---- a visit
 abbrev pub visited : Places → ℕ → Words → Words
-visited p v s = record { part = set s.part (p.nodes + 8 * v + 3) (visits_word s.part p.nodes v + 1); counts = s.counts }
+visited p v s = record { part = set s.part (p.nodes + slot_length * v + 3) (visits_word s.part p.nodes v + 1); counts = s.counts }
 
 module _ (p : Places) (s : Words) (v : ℕ) (z : Sized p s) where
-  at_other : (j : ℕ) → (j ≡ p.nodes + 8 * v + 3 → ⊥) → get_or (visited p v s).part j 0 ≡ get_or s.part j 0
-  at_other j n = get_or-set_other s.part (p.nodes + 8 * v + 3) j (visits_word s.part p.nodes v + 1) 0 n
+  at_other : (j : ℕ) → (j ≡ p.nodes + slot_length * v + 3 → ⊥) → get_or (visited p v s).part j 0 ≡ get_or s.part j 0
+  at_other j n = get_or-set_other s.part (p.nodes + slot_length * v + 3) j (visits_word s.part p.nodes v + 1) 0 n
 
   long : length (visited p v s).part ≡ length s.part
-  long = length-set s.part (p.nodes + 8 * v + 3) (visits_word s.part p.nodes v + 1)
+  long = length-set s.part (p.nodes + slot_length * v + 3) (visits_word s.part p.nodes v + 1)
 
   pub sized-visited : Sized p (visited p v s)
   sized-visited = record {
@@ -38,15 +39,15 @@ module _ (p : Places) (s : Words) (v : ℕ) (z : Sized p s) where
     after = z.after;
     inside = omega (arith, z.inside, long);
     small = z.small;
-    each = λ i h. omega (arith, z.each i h, at_other (8 * i + 5) (λ y. omega (arith, y, z.heap-few, z.room)));
-    numbers = λ i h. subst Number (sym (at_other (8 * i + 4) (λ y. omega (arith, y, z.room)))) (z.numbers i h);
+    each = λ i h. omega (arith, z.each i h, at_other (slot_length * i + 5) (λ y. omega (arith, y, z.heap-few, z.room)));
+    numbers = λ i h. subst Number (sym (at_other (slot_length * i + 4) (λ y. omega (arith, y, z.room)))) (z.numbers i h);
   }
 
   pub expands-visited : Expands p s v → Expands p (visited p v s) v
   expands-visited e = record {
     fan = e.fan;
     slot = e.slot;
-    chain = subst (Chain p (visited p v s).part e.fan) (sym (at_other (p.nodes + 8 * v + 2) (λ y. omega (arith, y))))
+    chain = subst (Chain p (visited p v s).part e.fan) (sym (at_other (p.nodes + slot_length * v + 2) (λ y. omega (arith, y))))
         (chain_same p s.part (visited p v s).part (sym long) (λ j b. sym (at_other j (λ y. omega (arith, y, e.slot)))) e.fan (head_word s.part p.nodes v) e.chain);
     free = e.free;
   }
@@ -81,7 +82,7 @@ module _ (p : Places) (n most x : ℕ) (s : Words) where
 
 -- ---- the heap without its head
 module _ (p : Places) (s : Words) (z : Sized p s) (some_in : 0 < s.counts.heap) where
-  heap-room : 8 * s.counts.heap ≤ length s.part
+  heap-room : slot_length * s.counts.heap ≤ length s.part
   heap-room = omega (arith, z.heap-few, z.room, z.after, z.inside)
 
   beyond : (j : ℕ) → p.nodes ≤ j → get_or (without s).part j 0 ≡ get_or s.part j 0
@@ -95,21 +96,21 @@ module _ (p : Places) (s : Words) (z : Sized p s) (some_in : 0 < s.counts.heap) 
     inside = omega (arith, z.inside, pop-length s.part s.counts.heap some_in);
     small = z.small;
     each = λ i h. pop-each (λ y. y < s.counts.entries) s.part s.counts.heap heap-room some_in z.each i h;
-    numbers = λ i h. subst Number (sym (pop-other s.part s.counts.heap some_in (8 * i + 4) 0 (λ y. omega arith))) (z.numbers i h);
+    numbers = λ i h. subst Number (sym (pop-other s.part s.counts.heap some_in (slot_length * i + 4) 0 (λ y. omega arith))) (z.numbers i h);
   }
 
   expands-without : (v : ℕ) → Expands p s v → Expands p (without s) v
   expands-without v e = record {
     fan = e.fan;
     slot = e.slot;
-    chain = subst (Chain p (without s).part e.fan) (sym (beyond (p.nodes + 8 * v + 2) (omega arith)))
+    chain = subst (Chain p (without s).part e.fan) (sym (beyond (p.nodes + slot_length * v + 2) (omega arith)))
         (chain_same p s.part (without s).part (sym (pop-length s.part s.counts.heap some_in)) (λ j b. sym (beyond j (omega (arith, z.after)))) e.fan (head_word s.part p.nodes v) e.chain);
     free = e.free;
   }
 
   pub takes-without : (n : ℕ) (e : Entry) → Takes p n s e → Takes p n (without s) e
   takes-without n (Finished c) t = t
-  takes-without n (Half v c) t = let q = beyond (p.nodes + 8 * v + 3) (omega arith) in (t.0, omega (arith, t.1, q), λ b. expands-without v (t.2 (omega (arith, q))))
+  takes-without n (Half v c) t = let q = beyond (p.nodes + slot_length * v + 3) (omega arith) in (t.0, omega (arith, t.1, q), λ b. expands-without v (t.2 (omega (arith, q))))
 
 pub step_is : (p : Places) (n most : ℕ) (s : Words) → taken_w p n most (heap_word s.part 0) (entry_w s.part (heap_word s.part 0)) (without s) ≡ step_w p n most s
 unfolding step_w

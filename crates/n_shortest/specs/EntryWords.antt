@@ -3,7 +3,7 @@ use Rattle.std.specs.Prelude.{cond, List, ℕ, ◌+◌, ◌*◌, ◌<◌, eqb, F
 use Rattle.std.specs.Float.{binary32}
 use Rattle.std.specs.Float.Ieee.{add, of_bits, to_bits}
 use Rattle.tropical_weight.specs.Single.{number_bits}
-use Rattle.slots.specs.Slots.{nothing}
+use Rattle.slots.specs.Slots.{slot_length, nothing}
 use Rattle.distance.specs.Held.{weight_in, distance_in}
 use Rattle.search_slots.specs.Slots.{node_word, cost_word, rank_word}
 use Rattle.n_shortest.specs.declared.entry.Entry.{Entry}
@@ -23,11 +23,11 @@ rank_by d (Half v c) = add binary32 d c
 rank_by d (Finished c) = c
 
 abbrev pub rank_w : List ℕ → ℕ → Entry → Float
-rank_w part nodes e = rank_by (weight_in (distance_in part (nodes + 8 * node_of e))) e
+rank_w part nodes e = rank_by (weight_in (distance_in part (nodes + slot_length * node_of e))) e
 
 -- the node of a half-built one has a slot
 abbrev pub Inside : List ℕ → ℕ → Entry → Type 0
-Inside part nodes (Half v c) = nodes + 8 * v + 1 < length part
+Inside part nodes (Half v c) = nodes + slot_length * v + 1 < length part
 Inside part nodes (Finished c) = Unit
 
 -- the entry in slot x
@@ -44,4 +44,4 @@ rank_of part x = of_bits binary32 (rank_word part x)
 abbrev pub stored : List ℕ → ℕ → ℕ → Entry → ℕ → ℕ → List ℕ
 stored part nodes i e from input =
     let rank = number_bits (rank_w part nodes e) in
-    set (set (set (set (set part (8 * i) (node_of e)) (8 * i + 1) (to_bits binary32 (cost_of e))) (8 * i + 2) from) (8 * i + 3) input) (8 * i + 4) rank
+    set (set (set (set (set part (slot_length * i) (node_of e)) (slot_length * i + 1) (to_bits binary32 (cost_of e))) (slot_length * i + 2) from) (slot_length * i + 3) input) (slot_length * i + 4) rank

@@ -1,8 +1,9 @@
 -- Mirrors the code: the heap on the words of the part. A reader need not believe it: laws tie it to Heap of crate search (proofs/HeapPlaces).
--- Place i is word 8 * i + 5 and holds the number of an entry. Definitions only.
+-- Place i is word slot_length * i + 5 and holds the number of an entry. Definitions only.
 use Rattle.std.specs.Prelude.{Bool, true, false, not, ◌&&◌, ◌||◌, cond, List, ℕ, zero, suc, ◌+◌, ◌-◌, ◌*◌, ◌/◌, ◌≤◌, ◌<◌, eqb, leb, ltb, length, set}
 use Rattle.std.specs.Float.Ieee.{lt}
 use Rattle.tropical_weight.specs.Single.{Number}
+use Rattle.slots.specs.Slots.{slot_length}
 use Rattle.search_slots.specs.Slots.{rank_word, heap_word}
 use Rattle.n_shortest.specs.declared.entry.Entry.{Entry}
 use Rattle.n_shortest.specs.declared.entry.Entry.TheVariants.{Half, Finished}
@@ -10,12 +11,12 @@ use Rattle.n_shortest.specs.EntryWords.{entry_w, rank_of}
 
 -- the slot of entry a lies in the part, and its rank is a number
 pub record Comparable (part : List ℕ) (a : ℕ) : Type 0 where
-  pub inside : 8 * a + 5 < length part
+  pub inside : slot_length * a + 5 < length part
   pub number : Number (rank_word part a)
 
 -- the heap lies in the part, and holds entries that can be compared
 pub record HeapFits (part : List ℕ) (len : ℕ) : Type 0 where
-  pub room : 8 * len ≤ length part
+  pub room : slot_length * len ≤ length part
   pub each : (i : ℕ) → i < len → Comparable part (heap_word part i)
 
 -- ---- the order of entries
@@ -34,7 +35,7 @@ less_w part a b =
 
 -- ---- places
 abbrev pub store_w : List ℕ → ℕ → ℕ → List ℕ
-store_w part i x = set part (8 * i + 5) x
+store_w part i x = set part (slot_length * i + 5) x
 
 abbrev pub swap_w : List ℕ → ℕ → ℕ → List ℕ
 swap_w part i j = store_w (store_w part i (heap_word part j)) j (heap_word part i)

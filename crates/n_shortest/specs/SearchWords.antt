@@ -8,7 +8,7 @@ use Rattle.n_shortest.specs.declared.n_best.Places.{Places}
 use Rattle.n_shortest.specs.declared.entry.Entry.{Entry}
 use Rattle.n_shortest.specs.declared.entry.Entry.TheVariants.{Half, Finished}
 use Rattle.tropical_weight.specs.Single.{Number}
-use Rattle.slots.specs.Slots.{nothing}
+use Rattle.slots.specs.Slots.{slot_length, nothing}
 use Rattle.search_slots.specs.Slots.{rank_word, heap_word, head_word, visits_word, next_word, weight_word, chain_word}
 use Rattle.n_shortest.specs.EntryWords.{entry_w, stored}
 use Rattle.n_shortest.specs.HeapWords.{push_w, pop_w}
@@ -60,7 +60,7 @@ abbrev pub listed_w : ℕ → Words → Words
 listed_w x s =
     let c = s.counts in
     record {
-      part = set s.part (8 * c.listed + 6) x;
+      part = set s.part (slot_length * c.listed + 6) x;
       counts = record { entries = c.entries; heap = c.heap; listed = c.listed + 1; taken = c.taken };
     }
 
@@ -74,7 +74,7 @@ unfolding expand_w finished_w
 taken_w p n most x (Finished cost) s = finished_w x cost s
 taken_w p n most x (Half v cost) s =
     let visits = visits_word s.part p.nodes v + 1 in
-    let t : Words = record { part = set s.part (p.nodes + 8 * v + 3) visits; counts = s.counts } in
+    let t : Words = record { part = set s.part (p.nodes + slot_length * v + 3) visits; counts = s.counts } in
     let u = expand_w p most x v cost t in
     cond (ltb n visits) t u
 
@@ -114,7 +114,7 @@ begun_w p part = put_w p.nodes (Half 0 (of_bits binary32 0)) 0 nothing (none_w p
 -- the slots of the entries lie before those of the nodes, and these before those of the links; the heap holds entries, and their ranks are numbers
 pub record Sized (p : Places) (s : Words) : Type 0 where
   pub heap-few : s.counts.heap ≤ s.counts.entries
-  pub room : 8 * s.counts.entries ≤ p.nodes
+  pub room : slot_length * s.counts.entries ≤ p.nodes
   pub after : p.nodes ≤ p.links
   pub inside : p.links ≤ length s.part
   pub small : p.nodes < 4294967296
@@ -124,21 +124,21 @@ pub record Sized (p : Places) (s : Words) : Type 0 where
 -- a chain of so many reversed links from k on, each in its slot, to nodes that have slots
 unfoldable pub Chain : Places → List ℕ → ℕ → ℕ → Type 0
 Chain p part zero k = k ≡ nothing
-Chain p part (suc n) k = (p.links + 8 * k + 2 < length part) × (p.nodes + 8 * next_word part p.links k + 1 < length part) × Chain p part n (chain_word part p.links k)
+Chain p part (suc n) k = (p.links + slot_length * k + 2 < length part) × (p.nodes + slot_length * next_word part p.links k + 1 < length part) × Chain p part n (chain_word part p.links k)
 
 -- what an expansion at node v asks: a chain, and slots for what it puts in
 pub record Expands (p : Places) (s : Words) (v : ℕ) : Type 0 where
   pub fan : ℕ
-  pub slot : p.nodes + 8 * v + 3 < p.links
+  pub slot : p.nodes + slot_length * v + 3 < p.links
   pub chain : Chain p s.part fan (head_word s.part p.nodes v)
-  pub free : 8 * (s.counts.entries + fan + cond (eqb v p.end) 1 0) ≤ p.nodes
+  pub free : slot_length * (s.counts.entries + fan + cond (eqb v p.end) 1 0) ≤ p.nodes
 
 -- what taking an entry asks: a slot for the list; or one of its node, and an expansion unless that has been taken n times
 abbrev pub Takes : Places → ℕ → Words → Entry → Type 0
-Takes p n s (Finished c) = (8 * s.counts.listed + 6 < p.nodes) × (s.counts.listed + 1 < 4294967296)
+Takes p n s (Finished c) = (slot_length * s.counts.listed + 6 < p.nodes) × (s.counts.listed + 1 < 4294967296)
 Takes p n s (Half v c) =
     let visits = visits_word s.part p.nodes v + 1 in
-    (p.nodes + 8 * v + 3 < p.links) × (visits < 4294967296) × (visits ≤ n → Expands p s v)
+    (p.nodes + slot_length * v + 3 < p.links) × (visits < 4294967296) × (visits ≤ n → Expands p s v)
 
 -- what a removal asks
 pub record Ready (p : Places) (n : ℕ) (s : Words) : Type 0 where
@@ -153,5 +153,5 @@ Runs p n most part = (k : ℕ) → stopped_w n (after_w p n most k (begun_w p pa
 -- what the first entry asks: a slot, and one for node 0
 pub record Begins (p : Places) (part : List ℕ) : Type 0 where
   pub sized : Sized p (none_w part)
-  pub free : 8 ≤ p.nodes
+  pub free : slot_length ≤ p.nodes
   pub node : p.nodes + 1 < length part

@@ -1,7 +1,7 @@
 // Entries (shortest_path.rs of rustfst) in their slots: made by expansion, read by the heap.
 ghost use Rattle.std.specs.Prelude.{◌≡◌, ◌+◌, ◌*◌, ◌<◌, length, unwrap_or};
 ghost use Rattle.tropical_weight.specs.Single.{Number};
-ghost use Rattle.slots.specs.Slots.{nothing};
+ghost use Rattle.slots.specs.Slots.{slot_length, nothing};
 ghost use Rattle.search_slots.specs.Slots.{rank_word};
 ghost use Rattle.n_shortest.specs.HeapWords.{half_first};
 ghost use Rattle.n_shortest.specs.EntryWords.{node_of, cost_of, rank_w, Inside, entry_w, rank_of, stored};
@@ -62,7 +62,7 @@ impl Entry {
 // The entry in slot x.
 #[tactic(auto, unfolding(crate::specs::EntryWords::entry_w))]
 pub fn entry_at(part: &[u32], x: u32) -> Entry
-    requires { 8 * x + 1 < length part.now }
+    requires { slot_length * x + 1 < length part.now }
     ensures { result ≡ entry_w part.now x }
 {
     let at = SLOT * (x as usize);
@@ -76,7 +76,7 @@ pub fn entry_at(part: &[u32], x: u32) -> Entry
 
 // The rank of the entry in slot x, as it was when it was stored.
 pub fn rank_at(part: &[u32], x: u32) -> f32
-    requires { (8 * x + 4 < length part.now) × Number (rank_word part.now x) }
+    requires { (slot_length * x + 4 < length part.now) × Number (rank_word part.now x) }
     ensures { result ≡ rank_of part.now x }
 {
     tropical_weight::from_number_bits(part[SLOT * (x as usize) + RANK])
@@ -85,7 +85,7 @@ pub fn rank_at(part: &[u32], x: u32) -> f32
 // Stores an entry in slot i, with its rank, the entry it came from and the input link by which it is
 // put in, if there is one.
 pub fn store(part: &mut [u32], nodes: usize, i: u32, e: Entry, from: u32, input: Option<u32>)
-    requires { (8 * i + 4 < length part.old) × Inside part.old nodes e }
+    requires { (slot_length * i + 4 < length part.old) × Inside part.old nodes e }
     ensures { part.new ≡ stored part.old nodes i e from (unwrap_or input nothing) }
 {
     let at = SLOT * (i as usize);

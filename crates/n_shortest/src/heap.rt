@@ -2,6 +2,7 @@
 // It stays functions over the part: its length is another at each call, and while an entry is put in or
 // removed, so a struct of both would be plainer in none of them. The sifts are recursions, as their definitions are.
 ghost use Rattle.std.specs.Prelude.{◌≡◌, ◌+◌, ◌-◌, ◌*◌, ◌≤◌, ◌<◌, length};
+ghost use Rattle.slots.specs.Slots.{slot_length};
 ghost use Rattle.n_shortest.specs.HeapWords.{Comparable, HeapFits, less_w, swap_w, sift_up_w, child_w, sift_down_w, push_w, pop_w};
 
 use crate::entry;
@@ -29,7 +30,7 @@ fn less(part: &[u32], a: u32, b: u32) -> bool
 // Swaps what stands at two places. By hand: the library's swap compares the two indices first, and where many
 // entries tie a list took a tenth more by it.
 fn swap(part: &mut [u32], i: usize, j: usize)
-    requires { (8 * i + 5 < length part.old) × (8 * j + 5 < length part.old) }
+    requires { (slot_length * i + 5 < length part.old) × (slot_length * j + 5 < length part.old) }
     ensures { part.new ≡ swap_w part.old i j }
 {
     let x = part[SLOT * i + PLACE];
@@ -89,7 +90,7 @@ fn sift_down(part: &mut [u32], n: usize, i: usize)
 // Puts entry x into a heap of len: at the end, and then up.
 #[tactic(auto, unfolding(crate::specs::HeapWords::push_w))]
 pub fn push(part: &mut [u32], len: usize, x: u32)
-    requires { HeapFits part.old len × (8 * (len + 1) ≤ length part.old) × Comparable part.old x }
+    requires { HeapFits part.old len × (slot_length * (len + 1) ≤ length part.old) × Comparable part.old x }
     ensures { part.new ≡ push_w part.old len x }
 {
     part[SLOT * len + PLACE] = x;

@@ -3,7 +3,7 @@
 ghost use Rattle.std.specs.Prelude.{◌≡◌, ℕ, ◌+◌, ◌-◌, ◌*◌, ◌≤◌, ◌<◌, length, unwrap_or};
 ghost use Rattle.std.specs.Float.{binary32};
 ghost use Rattle.std.specs.Float.Ieee.{of_bits};
-ghost use Rattle.slots.specs.Slots.{nothing};
+ghost use Rattle.slots.specs.Slots.{slot_length, nothing};
 ghost use Rattle.search_slots.specs.Slots.{next_word, weight_word, chain_word};
 ghost use Rattle.n_shortest.specs.EntryWords.{Inside};
 ghost use Rattle.n_shortest.specs.SearchWords.{put_w, repeated, links_w, expand_w, finished_w, taken_w, step_w, after_w, none_w, begun_w, Sized, Chain, Expands, Takes, Ready, Begins, Runs};
@@ -49,7 +49,7 @@ struct Link {
 }
 
 fn link_at(part: &[u32], links: usize, k: u32) -> Link
-    requires { links + 8 * k + 2 < length part.now }
+    requires { links + slot_length * k + 2 < length part.now }
     ensures next { result.next ≡ next_word part.now links k }
     ensures weight { result.weight ≡ of_bits binary32 (weight_word part.now links k) }
     ensures chain { result.chain ≡ chain_word part.now links k }
@@ -78,7 +78,7 @@ impl<'a> Search<'a> {
 
     // Puts an entry in: into the next slot, and into the heap.
     fn put(&mut self, e: Entry, from: u32, input: Option<u32>)
-        requires { (8 * (self.old.counts.entries + 1) ≤ self.old.places.nodes) × Inside self.old.part.now self.old.places.nodes e }
+        requires { (slot_length * (self.old.counts.entries + 1) ≤ self.old.places.nodes) × Inside self.old.part.now self.old.places.nodes e }
         ensures { Goes self.old self.new (put_w self.old.places.nodes e from (unwrap_or input nothing) (words_of self.old)) }
     {
         let entries = self.counts.entries;
@@ -93,7 +93,7 @@ impl<'a> Search<'a> {
     // Puts in an entry for each reversed link from `head` on, along their chain. There are no more
     // links than `most`, so that the loop ends whatever the words are.
     fn put_links(&mut self, x: u32, cost: f32, head: u32)
-        requires { (n : ℕ) × Chain self.old.places self.old.part.now n head × (8 * (self.old.counts.entries + n) ≤ self.old.places.nodes) }
+        requires { (n : ℕ) × Chain self.old.places self.old.part.now n head × (slot_length * (self.old.counts.entries + n) ≤ self.old.places.nodes) }
         ensures { Goes self.old self.new (links_w self.old.places x cost self.old.most head (words_of self.old)) }
     {
         let mut k = head;
@@ -124,7 +124,7 @@ impl<'a> Search<'a> {
 
     // Lists entry x, which has finished, next where its cost is finite. What is barred is taken alone.
     fn finish(&mut self, x: u32, cost: f32)
-        requires { (8 * self.old.counts.listed + 6 < length self.old.part.now) × (self.old.counts.listed + 1 < 4294967296) }
+        requires { (slot_length * self.old.counts.listed + 6 < length self.old.part.now) × (self.old.counts.listed + 1 < 4294967296) }
         ensures { Goes self.old self.new (finished_w x cost (words_of self.old)) }
     {
         if !tropical_weight::natural_less(cost, tropical_weight::zero()) {

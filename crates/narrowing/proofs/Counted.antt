@@ -9,7 +9,7 @@ use lib.ListN.{length}
 use Rattle.sheet.specs.declared.tr.Trailer.{Trailer}
 use Rattle.sheet.specs.Below.{sum_below}
 use Rattle.sheet.specs.Words.{word}
-use Rattle.sheet.specs.Sheet.{count, node_count, parts_of, stated_links}
+use Rattle.sheet.specs.Sheet.{link_length, node_length, count, node_count, parts_of, stated_links}
 use Rattle.sheet.specs.Records.{first_link}
 use Rattle.sheet.specs.Machine.{Link, machine, leaving}
 use Rattle.sheet.proofs.Below.{sum_below-same}
@@ -42,7 +42,7 @@ before-seam m c h =
     let p = parts_of bytes in
     let stated : m.sheet.links ≡ stated_links bytes = ap (λ (t : Trailer). t.links) m.sheet.stated in
     let inside : c ≤ node_count p = omega (arith, h, (machine-fields m).nodes-are, machine-nodes p) in
-    ap (λ (n : ℕ). sum_below c (λ v. word bytes (16 * n + 12 * v))) stated
+    ap (λ (n : ℕ). sum_below c (λ v. word bytes (link_length * n + node_length * v))) stated
     ∙ sym (counts-words bytes (input-read bytes m.climbs).0 c inside)
     ∙ sum_below-same c (count p) (leaving (machine bytes).links) (λ v i. sym (leaving-is p (passes bytes m.climbs).nodes-fit v (omega arith)))
     ∙ sum-leaving (machine bytes).links c

@@ -1,5 +1,6 @@
 -- Both parts of a machine within the limits as sheets: they are accepted, and read from them the parts are the same. Assumes nothing.
 use mathlib.Core.Path.{◌≡◌, sym, ap, ◌∙◌, subst}
+use mathlib.Core.Bool.{true}
 use mathlib.Core.Option.{some, some-injective}
 use Prim.Native.Nat.{ℕ, ◌+◌, ◌^◌, ◌≤◌, ◌<◌}
 use native.Mathlib.Omega.{arith}
@@ -7,19 +8,19 @@ use lib.ListN.{length}
 use Rattle.tropical_weight.specs.Limits.{weight_limit, node_limit, link_limit}
 use Rattle.tropical_weight.specs.Tropical.{one, Within}
 use Rattle.tropical_weight.proofs.Sums.{within-one}
-use Rattle.sheet.specs.Sheet.{sheet_of}
+use Rattle.sheet.specs.Sheet.{unit_fits, sheet_of}
 use Rattle.sheet.specs.Machine.{Link, Machine, machine, parts_for}
 use Rattle.machine.specs.Readings.{link, final}
 use Rattle.machine.specs.Climbs.{Climbs, Small}
 use Rattle.machine.specs.Input.{input_number}
 use Rattle.machine.proofs.SheetOf.{Readable, sheet-machine, sheet-accepted}
 use Rattle.narrowing.specs.Parts.{preheat, bake}
-use Rattle.narrowing.proofs.Seam.{Narrows, seam, seam-in, first-links, in-first, first-link, first-start, first-nodes, first-final, first-marked, second-links, in-second, second-link, second-start, second-nodes, second-final}
+use Rattle.narrowing.proofs.Seam.{Narrows, seam, seam-in, first-links, in-first, first-link, first-start, first-form, first-nodes, first-final, first-marked, second-links, in-second, second-link, second-start, second-form, second-nodes, second-final}
 use Rattle.narrowing.proofs.Joined.{climbs-first, climbs-second}
 
 module _ (c : ℕ) (m : Machine) (k : Climbs m) (t : Narrows c m) (small : Small weight_limit m)
     (labels : (l : ℕ) → l < length m.links → ((link m l).ilabel < 2 ^ 32) × ((link m l).olabel < 2 ^ 32))
-    (few : length m.finals ≤ node_limit) (short : length m.links ≤ link_limit) where
+    (few : length m.finals ≤ node_limit) (short : length m.links ≤ link_limit) (told : unit_fits m.form ≡ true) where
   -- ---- the first part
   readable-first : Readable (preheat c m)
   readable-first =
@@ -38,6 +39,7 @@ module _ (c : ℕ) (m : Machine) (k : Climbs m) (t : Narrows c m) (small : Small
         starts = λ v e. omega (arith, some-injective t.from v (sym t.starts ∙ sym (first-start c m) ∙ e), t.by, first-nodes c m t.inside);
         few-nodes = omega (arith, first-nodes c m t.inside, t.inside, few);
         few-links = omega (arith, first-links c m, seam-in c m, short);
+        unit_fits_lem = ap unit_fits (first-form c m) ∙ told;
       }
 
   pub first-accepted : input_number (sheet_of (parts_for (preheat c m))) ≡ 0
@@ -62,6 +64,7 @@ module _ (c : ℕ) (m : Machine) (k : Climbs m) (t : Narrows c m) (small : Small
         starts = λ v e. omega (arith, some-injective 0 v (sym (second-start c m) ∙ e), second-nodes c m, t.inside);
         few-nodes = omega (arith, second-nodes c m, few);
         few-links = omega (arith, second-links c m k, short);
+        unit_fits_lem = ap unit_fits (second-form c m) ∙ told;
       }
 
   pub second-accepted : input_number (sheet_of (parts_for (bake c m))) ≡ 0

@@ -13,10 +13,12 @@ use lib.ListN.{length, take, drop}
 use lib.Seq.{take-nil, drop-nil, length-take-le}
 use borrow.Author.Tests.{lt-ltb, le-ltb, le-leb, lt-leb, eq-eqb, ne_eqb}
 use Rattle.tropical_weight.specs.Tropical.{Tropical, one}
-use Rattle.sheet.specs.Machine.{Link, Machine, link_fields, leaving, final_fields, node_fields}
+use Rattle.sheet.specs.Sheet.{link_words, node_words}
+use Rattle.sheet.specs.Machine.{Link, Machine, unit_in, link_fields, leaving, final_fields, node_fields}
 use Rattle.sheet.proofs.Apart.{not-both}
 use Rattle.sheet.proofs.Below.{split_at}
 use Rattle.sheet.proofs.Encoding.{bits-one}
+use Rattle.sheet.proofs.Forms.{covered}
 use Rattle.machine.specs.Readings.{keep}
 use Rattle.machine.specs.Climbs.{Climbs}
 use Rattle.narrowing.specs.Parts.{is_before, is_after, preheat, from_node, bake}
@@ -63,58 +65,59 @@ leaving-from c v (k ∷ ks) = go (split_at k.source c) (leaving-from c v ks)
           | no d ↦ ne_eqb (k.source - c) v (λ e. d (omega (arith, e))) ∙ sym (ne_eqb k.source (c + v) d)
         ]
 
--- ---- the words of the first links, four a link, and of the first nodes and the others, three a node
-take-links : (n : ℕ) (ks : List Link) → flat_map link_fields (take n ks) ≡ take (4 * n) (flat_map link_fields ks)
-unfolding flat_map
-take-links zero ks = refl
-take-links (suc n) [] = sym (take-nil (4 * suc n))
-take-links (suc n) (k ∷ ks) =
-    ap (λ (l : List ℕ). link_fields k ++ l) (take-links n ks)
-    ∙ ap (λ (j : ℕ). take j (link_fields k ++ flat_map link_fields ks)) (let e : suc (suc (suc (suc (4 * n)))) ≡ 4 * suc n = omega arith in e)
+-- ---- the words of the first links, four a link, and of the first nodes and the others, three a node, in units of 1 / 2 ^ j
+module _ (j : ℕ) where
+  take-links : (n : ℕ) (ks : List Link) → flat_map (link_fields j) (take n ks) ≡ take (link_words * n) (flat_map (link_fields j) ks)
+  unfolding flat_map
+  take-links zero ks = refl
+  take-links (suc n) [] = sym (take-nil (link_words * suc n))
+  take-links (suc n) (k ∷ ks) =
+      ap (λ (l : List ℕ). link_fields j k ++ l) (take-links n ks)
+      ∙ ap (λ (i : ℕ). take i (link_fields j k ++ flat_map (link_fields j) ks)) (let e : suc (suc (suc (suc (link_words * n)))) ≡ link_words * suc n = omega arith in e)
 
-take-nodes : (n : ℕ) (ks : List Link) (v : ℕ) (fs : List (Option Tropical)) → node_fields ks v (take n fs) ≡ take (3 * n) (node_fields ks v fs)
-unfolding node_fields
-take-nodes zero ks v fs = refl
-take-nodes (suc n) ks v [] = sym (take-nil (3 * suc n))
-take-nodes (suc n) ks v (f ∷ fs) =
-    ap (λ (l : List ℕ). (leaving ks v ∷ final_fields f) ++ l) (take-nodes n ks (suc v) fs) ∙ go f
-    ∙ ap (λ (j : ℕ). take j ((leaving ks v ∷ final_fields f) ++ node_fields ks (suc v) fs)) (let e : suc (suc (suc (3 * n))) ≡ 3 * suc n = omega arith in e)
-  where
-    go : (f : Option Tropical) → (leaving ks v ∷ final_fields f) ++ take (3 * n) (node_fields ks (suc v) fs) ≡ take (suc (suc (suc (3 * n)))) ((leaving ks v ∷ final_fields f) ++ node_fields ks (suc v) fs)
-    go none = refl
-    go (some w) = refl
+  take-nodes : (n : ℕ) (ks : List Link) (v : ℕ) (fs : List (Option Tropical)) → node_fields j ks v (take n fs) ≡ take (node_words * n) (node_fields j ks v fs)
+  unfolding node_fields
+  take-nodes zero ks v fs = refl
+  take-nodes (suc n) ks v [] = sym (take-nil (node_words * suc n))
+  take-nodes (suc n) ks v (f ∷ fs) =
+      ap (λ (l : List ℕ). (leaving ks v ∷ final_fields j f) ++ l) (take-nodes n ks (suc v) fs) ∙ go f
+      ∙ ap (λ (i : ℕ). take i ((leaving ks v ∷ final_fields j f) ++ node_fields j ks (suc v) fs)) (let e : suc (suc (suc (node_words * n))) ≡ node_words * suc n = omega arith in e)
+    where
+      go : (f : Option Tropical) → (leaving ks v ∷ final_fields j f) ++ take (node_words * n) (node_fields j ks (suc v) fs) ≡ take (suc (suc (suc (node_words * n)))) ((leaving ks v ∷ final_fields j f) ++ node_fields j ks (suc v) fs)
+      go none = refl
+      go (some w) = refl
 
-drop-nodes : (n : ℕ) (ks : List Link) (v : ℕ) (fs : List (Option Tropical)) → node_fields ks (v + n) (drop n fs) ≡ drop (3 * n) (node_fields ks v fs)
-unfolding node_fields
-drop-nodes zero ks v fs = ap (λ (u : ℕ). node_fields ks u fs) (let e : v + 0 ≡ v = omega arith in e)
-drop-nodes (suc n) ks v [] = sym (drop-nil (3 * suc n))
-drop-nodes (suc n) ks v (f ∷ fs) =
-    ap (λ (u : ℕ). node_fields ks u (drop n fs)) (let e : v + suc n ≡ suc v + n = omega arith in e)
-    ∙ drop-nodes n ks (suc v) fs ∙ go f
-    ∙ ap (λ (j : ℕ). drop j ((leaving ks v ∷ final_fields f) ++ node_fields ks (suc v) fs)) (let e : suc (suc (suc (3 * n))) ≡ 3 * suc n = omega arith in e)
-  where
-    go : (f : Option Tropical) → drop (3 * n) (node_fields ks (suc v) fs) ≡ drop (suc (suc (suc (3 * n)))) ((leaving ks v ∷ final_fields f) ++ node_fields ks (suc v) fs)
-    go none = refl
-    go (some w) = refl
+  drop-nodes : (n : ℕ) (ks : List Link) (v : ℕ) (fs : List (Option Tropical)) → node_fields j ks (v + n) (drop n fs) ≡ drop (node_words * n) (node_fields j ks v fs)
+  unfolding node_fields
+  drop-nodes zero ks v fs = ap (λ (u : ℕ). node_fields j ks u fs) (let e : v + 0 ≡ v = omega arith in e)
+  drop-nodes (suc n) ks v [] = sym (drop-nil (node_words * suc n))
+  drop-nodes (suc n) ks v (f ∷ fs) =
+      ap (λ (u : ℕ). node_fields j ks u (drop n fs)) (let e : v + suc n ≡ suc v + n = omega arith in e)
+      ∙ drop-nodes n ks (suc v) fs ∙ go f
+      ∙ ap (λ (i : ℕ). drop i ((leaving ks v ∷ final_fields j f) ++ node_fields j ks (suc v) fs)) (let e : suc (suc (suc (node_words * n))) ≡ node_words * suc n = omega arith in e)
+    where
+      go : (f : Option Tropical) → drop (node_words * n) (node_fields j ks (suc v) fs) ≡ drop (suc (suc (suc (node_words * n)))) ((leaving ks v ∷ final_fields j f) ++ node_fields j ks (suc v) fs)
+      go none = refl
+      go (some w) = refl
 
-nodes-append : (ks : List Link) (v : ℕ) (fs gs : List (Option Tropical)) → node_fields ks v (fs ++ gs) ≡ node_fields ks v fs ++ node_fields ks (v + length fs) gs
-unfolding node_fields
-nodes-append ks v [] gs = ap (λ (u : ℕ). node_fields ks u gs) (let e : v ≡ v + 0 = omega arith in e)
-nodes-append ks v (f ∷ fs) gs =
-    ap (λ (l : List ℕ). (leaving ks v ∷ final_fields f) ++ l) (nodes-append ks (suc v) fs gs ∙ ap (λ (u : ℕ). node_fields ks (suc v) fs ++ node_fields ks u gs) (let e : suc v + length fs ≡ v + suc (length fs) = omega arith in e))
-    ∙ sym (append_assoc (leaving ks v ∷ final_fields f) (node_fields ks (suc v) fs) (node_fields ks (v + suc (length fs)) gs))
+  nodes-append : (ks : List Link) (v : ℕ) (fs gs : List (Option Tropical)) → node_fields j ks v (fs ++ gs) ≡ node_fields j ks v fs ++ node_fields j ks (v + length fs) gs
+  unfolding node_fields
+  nodes-append ks v [] gs = ap (λ (u : ℕ). node_fields j ks u gs) (let e : v ≡ v + 0 = omega arith in e)
+  nodes-append ks v (f ∷ fs) gs =
+      ap (λ (l : List ℕ). (leaving ks v ∷ final_fields j f) ++ l) (nodes-append ks (suc v) fs gs ∙ ap (λ (u : ℕ). node_fields j ks (suc v) fs ++ node_fields j ks u gs) (let e : suc v + length fs ≡ v + suc (length fs) = omega arith in e))
+      ∙ sym (append_assoc (leaving ks v ∷ final_fields j f) (node_fields j ks (suc v) fs) (node_fields j ks (v + suc (length fs)) gs))
 
--- of nodes that as many links leave
-nodes-same : (ks ls : List Link) (v u : ℕ) (fs : List (Option Tropical)) → ((i : ℕ) → i < length fs → leaving ks (v + i) ≡ leaving ls (u + i)) → node_fields ks v fs ≡ node_fields ls u fs
-unfolding node_fields
-nodes-same ks ls v u [] h = refl
-nodes-same ks ls v u (f ∷ fs) h = λ i. (first i ∷ final_fields f) ++ nodes-same ks ls (suc v) (suc u) fs rest i
-  where
-    first : leaving ks v ≡ leaving ls u
-    first = ap (leaving ks) (let e : v ≡ v + 0 = omega arith in e) ∙ h 0 (omega arith) ∙ ap (leaving ls) (let e : u + 0 ≡ u = omega arith in e)
+  -- of nodes that as many links leave
+  nodes-same : (ks ls : List Link) (v u : ℕ) (fs : List (Option Tropical)) → ((i : ℕ) → i < length fs → leaving ks (v + i) ≡ leaving ls (u + i)) → node_fields j ks v fs ≡ node_fields j ls u fs
+  unfolding node_fields
+  nodes-same ks ls v u [] h = refl
+  nodes-same ks ls v u (f ∷ fs) h = λ i. (first i ∷ final_fields j f) ++ nodes-same ks ls (suc v) (suc u) fs rest i
+    where
+      first : leaving ks v ≡ leaving ls u
+      first = ap (leaving ks) (let e : v ≡ v + 0 = omega arith in e) ∙ h 0 (omega arith) ∙ ap (leaving ls) (let e : u + 0 ≡ u = omega arith in e)
 
-    rest : (i : ℕ) → i < length fs → leaving ks (suc v + i) ≡ leaving ls (suc u + i)
-    rest i b = ap (leaving ks) (let e : suc v + i ≡ v + suc i = omega arith in e) ∙ h (suc i) (omega arith) ∙ ap (leaving ls) (let e : u + suc i ≡ suc u + i = omega arith in e)
+      rest : (i : ℕ) → i < length fs → leaving ks (suc v + i) ≡ leaving ls (suc u + i)
+      rest i b = ap (leaving ks) (let e : suc v + i ≡ v + suc i = omega arith in e) ∙ h (suc i) (omega arith) ∙ ap (leaving ls) (let e : u + suc i ≡ suc u + i = omega arith in e)
 
 -- ---- the two parts
 module _ (c : ℕ) (m : Machine) where
@@ -132,24 +135,27 @@ module _ (c : ℕ) (m : Machine) where
   leaving-after v = leaving-from c v m.links
 
   -- the links that leave nodes below c are the first
-  pub first-words : Climbs m → flat_map link_fields (preheat c m).links ≡ take (4 * seam c m) (flat_map link_fields m.links)
+  pub first-words : Climbs m → flat_map (link_fields (unit_in (preheat c m))) (preheat c m).links ≡ take (link_words * seam c m) (flat_map (link_fields (unit_in m)) m.links)
   unfolding preheat
-  first-words k = ap (flat_map link_fields) (before-take c m k) ∙ take-links (seam c m) m.links
+  first-words k = ap (flat_map (link_fields (unit_in m))) (before-take c m k) ∙ take-links (unit_in m) (seam c m) m.links
 
   -- the nodes below c, and c with mark 1, weight 0 and no links
-  pub first-node-words : c < length m.finals → node_fields (preheat c m).links 0 (preheat c m).finals ≡ take (3 * c) (node_fields m.links 0 m.finals) ++ (0 ∷ 1 ∷ 0 ∷ [])
+  pub first-node-words : c < length m.finals
+      → node_fields (unit_in (preheat c m)) (preheat c m).links 0 (preheat c m).finals ≡ take (node_words * c) (node_fields (unit_in m) m.links 0 m.finals) ++ (0 ∷ 1 ∷ 0 ∷ [])
   unfolding preheat node_fields
   first-node-words h =
+      let j = unit_in m in
       let ks = keep (is_before c) m.links in
       let front = take c m.finals in
       let size : length front ≡ c = length-take-le c m.finals (omega arith) in
-      let same = nodes-same ks m.links 0 0 front (λ v b. leaving-before (0 + v) (omega (arith, size))) ∙ take-nodes c m.links 0 m.finals in
+      let same = nodes-same j ks m.links 0 0 front (λ v b. leaving-before (0 + v) (omega (arith, size))) ∙ take-nodes j c m.links 0 m.finals in
       let at : leaving ks (0 + length front) ≡ 0 = ap (leaving ks) (zero-add (length front) ∙ size) ∙ leaving-at in
-      nodes-append ks 0 front (some one ∷ []) ∙ λ i. same i ++ (at i ∷ 1 ∷ bits-one i ∷ [])
+      nodes-append j ks 0 front (some one ∷ []) ∙ λ i. same i ++ (at i ∷ 1 ∷ bits-one j (covered m.form) i ∷ [])
 
   -- the nodes from c on, as they are
-  pub second-node-words : node_fields (bake c m).links 0 (bake c m).finals ≡ drop (3 * c) (node_fields m.links 0 m.finals)
+  pub second-node-words : node_fields (unit_in (bake c m)) (bake c m).links 0 (bake c m).finals ≡ drop (node_words * c) (node_fields (unit_in m) m.links 0 m.finals)
   unfolding bake
   second-node-words =
-      nodes-same (bake c m).links m.links 0 c (drop c m.finals) (λ v h. ap (leaving (bake c m).links) (zero-add v) ∙ leaving-after v)
-      ∙ ap (λ (u : ℕ). node_fields m.links u (drop c m.finals)) (sym (zero-add c)) ∙ drop-nodes c m.links 0 m.finals
+      let j = unit_in m in
+      nodes-same j (bake c m).links m.links 0 c (drop c m.finals) (λ v h. ap (leaving (bake c m).links) (zero-add v) ∙ leaving-after v)
+      ∙ ap (λ (u : ℕ). node_fields j m.links u (drop c m.finals)) (sym (zero-add c)) ∙ drop-nodes j c m.links 0 m.finals

@@ -61,7 +61,7 @@ narrowing c m e =
       ];
     }
 
--- ---- of any machine: the parts' nodes and starts, and the number of links of the first part
+-- ---- of any machine: the parts' nodes, starts and form, and the number of links of the first part
 abbrev pub seam : ℕ → Machine → ℕ
 seam c m = length (keep (is_before c) m.links)
 
@@ -80,9 +80,17 @@ module _ (c : ℕ) (m : Machine) where
   unfolding preheat
   first-start = refl
 
+  pub first-form : (preheat c m).form ≡ m.form
+  unfolding preheat
+  first-form = refl
+
   pub second-start : (bake c m).start ≡ some 0
   unfolding bake
   second-start = refl
+
+  pub second-form : (bake c m).form ≡ m.form
+  unfolding bake
+  second-form = refl
 
   pub second-nodes : length (bake c m).finals ≡ length m.finals - c
   unfolding bake

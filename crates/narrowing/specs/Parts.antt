@@ -13,10 +13,10 @@ is_before c k = ltb k.source c
 abbrev pub is_after : ℕ → Link → Bool
 is_after c k = leb c k.source
 
--- nodes up to c, with c final at weight 0 and its links removed
+-- nodes up to c, with c final at weight 0 and its links removed; in the machine's form, as the other part
 unfoldable pub preheat : ℕ → Machine → Machine
 unfolding keep
-preheat c m = record { links = keep (is_before c) m.links; finals = take c m.finals ++ (some one ∷ []); start = m.start }
+preheat c m = record { links = keep (is_before c) m.links; finals = take c m.finals ++ (some one ∷ []); start = m.start; form = m.form }
 
 -- a link whose nodes count from c
 abbrev pub from_node : ℕ → Link → Link
@@ -25,7 +25,7 @@ from_node c k = record { source = k.source - c; ilabel = k.ilabel; olabel = k.ol
 -- nodes from c, starting there
 unfoldable pub bake : ℕ → Machine → Machine
 unfolding keep
-bake c m = record { links = map (from_node c) (keep (is_after c) m.links); finals = drop c m.finals; start = some 0 }
+bake c m = record { links = map (from_node c) (keep (is_after c) m.links); finals = drop c m.finals; start = some 0; form = m.form }
 
 -- the numbers that those links have in the whole machine
 unfoldable pub numbers : (Link → Bool) → Machine → List ℕ

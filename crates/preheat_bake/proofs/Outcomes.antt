@@ -12,11 +12,12 @@ use borrow.Author.Tests.{lt-ltb, le-ltb}
 use Rattle.std.specs.Prelude.{Ok, Err}
 use Rattle.sheet.specs.declared.refusal.Refusal.{Refusal}
 use Rattle.sheet.specs.Refusals.{number_of}
-use Rattle.sheet.specs.Words.{bytes_of_all}
-use Rattle.sheet.specs.Sheet.{sheet_of, trailer_of}
-use Rattle.sheet.specs.Machine.{Machine, machine, parts_for}
+use Rattle.sheet.specs.Words.{word_length, bytes_of_all}
+use Rattle.sheet.specs.Sheet.{sheet_size, node_length, trailer_length, sheet_of, trailer_of}
+use Rattle.sheet.specs.Machine.{Machine, unit_in, machine, parts_for}
 use Rattle.sheet.proofs.Below.{length-list_below}
 use Rattle.sheet.proofs.Bytes.{length-bytes_of_all}
+use Rattle.sheet.proofs.Writing.{trailer-size}
 use Rattle.sheet.proofs.Encoding.{length-links, length-nodes}
 use Rattle.sheet.proofs.Refusals.{answer-made, answer-none, over-refused, over-stored, Known, known, known-cond, first-passed, first-failed, first-zero}
 use Rattle.machine.specs.Climbs.{Climbs}
@@ -26,9 +27,10 @@ use Rattle.machine.proofs.SheetFields.{sheet-fields}
 use Rattle.narrowing.specs.Narrows.{narrows, narrow_number}
 use Rattle.narrowing.proofs.Refused.{narrow-known, number-passes, passes-number}
 use Rattle.narrowing.specs.Parts.{is_before, is_after, preheat, bake, numbers}
-use Rattle.narrowing.proofs.Seam.{narrowing, seam, seam-in, first-links, first-nodes, second-links, second-nodes, numbers-before, numbers-after}
+use Rattle.narrowing.proofs.Seam.{narrowing, seam, seam-in, first-links, first-form, first-nodes, second-links, second-form, second-nodes, numbers-before, numbers-after}
 use Rattle.preheat_bake.specs.declared.counts.Counts.{Counts}
 use Rattle.preheat_bake.specs.Outcome.{part_bytes, parted, answer_of, split_number, counts_of, split_answer, split_over}
+use Rattle.preheat_bake.specs.Promise.{numbered_length, parted_size}
 
 -- ---- the number
 module _ (bytes : List ℕ) (c room : ℕ) where
@@ -43,7 +45,7 @@ module _ (bytes : List ℕ) (c room : ℕ) where
   unfolding split_number
   number-input r e = first-failed (input_number bytes) _ r e
 
-  -- a sheet that passes tests 1 to 6: by the test of the node, and then by the room
+  -- a sheet that passes tests 1, 14 and 2 to 6: by the test of the node, and then by the room
   module _ (i : input_number bytes ≡ 0) where
     pub number-node : split_number bytes c room ≡ (let j = narrow_number c (machine bytes) in cond (not (eqb j 0)) j (cond (ltb room (length (answer_of bytes c))) 21 0))
     unfolding split_number
@@ -62,7 +64,7 @@ module _ (bytes : List ℕ) (c room : ℕ) where
       pub number-made : length (answer_of bytes c) ≤ room → split_number bytes c room ≡ 0
       number-made h = number-room ∙ ap (λ (b : Bool). cond b 21 0) (le-ltb room (length (answer_of bytes c)) h)
 
-  -- 0 says that tests 1 to 6 and 13 are passed
+  -- 0 says that tests 1, 14, 2 to 6 and 13 are passed
   pub number-zero : split_number bytes c room ≡ 0 → (input_number bytes ≡ 0) × (narrows c (machine bytes) ≡ true)
   unfolding split_number
   number-zero e =
@@ -86,13 +88,13 @@ module _ (bytes : List ℕ) (c : ℕ) (old : List ℕ) where
     made-over h = over-stored (answer_of bytes c) old (split_number bytes c (length old)) e h
 
 -- ---- how long they are
-pub sheet-long : (part : Machine) → length (sheet_of (parts_for part)) ≡ 16 * length part.links + 12 * length part.finals + 20
+pub sheet-long : (part : Machine) → length (sheet_of (parts_for part)) ≡ sheet_size part.form (length part.links) (length part.finals)
 unfolding sheet_of parts_for
 sheet-long part =
     let p = parts_for part in
-    omega (arith, length-bytes_of_all (p.links ++ p.nodes ++ trailer_of p), length-append (p.links ++ p.nodes) (trailer_of p), length-append p.links p.nodes, length-links part.links, length-nodes part.links 0 part.finals)
+    omega (arith, length-bytes_of_all (p.links ++ p.nodes ++ trailer_of p), length-append (p.links ++ p.nodes) (trailer_of p), length-append p.links p.nodes, length-links (unit_in part) part.links, length-nodes (unit_in part) part.links 0 part.finals, trailer-size p)
 
-part-length : (part : Machine) (own : List ℕ) → length (part_bytes part own) ≡ 16 * length part.links + 12 * length part.finals + 20 + 4 * length own
+part-length : (part : Machine) (own : List ℕ) → length (part_bytes part own) ≡ sheet_size part.form (length part.links) (length part.finals) + word_length * length own
 part-length part own = length-append (sheet_of (parts_for part)) (bytes_of_all own) ∙ omega (arith, sheet-long part, length-bytes_of_all own)
 
 module _ (c : ℕ) (m : Machine) (k : Climbs m) where
@@ -103,14 +105,14 @@ module _ (c : ℕ) (m : Machine) (k : Climbs m) where
   second-own = ap length (numbers-after c m k) ∙ length-list_below (length m.links - seam c m) (λ l. seam c m + l) ∙ sym (second-links c m k)
 
   module _ (inside : c < length m.finals) where
-    pub first-length : length (part_bytes (preheat c m) (numbers (is_before c) m)) ≡ 20 * seam c m + 12 * (c + 1) + 20
-    first-length = omega (arith, part-length (preheat c m) (numbers (is_before c) m), first-own, first-links c m, first-nodes c m inside)
+    pub first-length : length (part_bytes (preheat c m) (numbers (is_before c) m)) ≡ numbered_length * seam c m + node_length * (c + 1) + trailer_length m.form
+    first-length = omega (arith, part-length (preheat c m) (numbers (is_before c) m), first-own, first-links c m, first-nodes c m inside, ap trailer_length (first-form c m))
 
-    pub second-length : length (part_bytes (bake c m) (numbers (is_after c) m)) ≡ 20 * (length m.links - seam c m) + 12 * (length m.finals - c) + 20
-    second-length = omega (arith, part-length (bake c m) (numbers (is_after c) m), second-own, second-links c m k, second-nodes c m)
+    pub second-length : length (part_bytes (bake c m) (numbers (is_after c) m)) ≡ numbered_length * (length m.links - seam c m) + node_length * (length m.finals - c) + trailer_length m.form
+    second-length = omega (arith, part-length (bake c m) (numbers (is_after c) m), second-own, second-links c m k, second-nodes c m, ap trailer_length (second-form c m))
 
     -- whatever c is
-    pub parted-length : length (parted c m) ≡ 20 * length m.links + 12 * (length m.finals + 1) + 40
+    pub parted-length : length (parted c m) ≡ parted_size m
     unfolding parted
     parted-length =
         let first = part_bytes (preheat c m) (numbers (is_before c) m) in
@@ -118,5 +120,5 @@ module _ (c : ℕ) (m : Machine) (k : Climbs m) where
         omega (arith, length-append first second, first-length, second-length, seam-in c m, inside)
 
 pub answer-length : (bytes : List ℕ) (c : ℕ) → input_number bytes ≡ 0 → narrows c (machine bytes) ≡ true
-    → length (answer_of bytes c) ≡ 20 * length (machine bytes).links + 12 * (length (machine bytes).finals + 1) + 40
+    → length (answer_of bytes c) ≡ parted_size (machine bytes)
 answer-length bytes c i n = parted-length c (machine bytes) (sheet-fields bytes i).climbs (narrowing c (machine bytes) n).inside

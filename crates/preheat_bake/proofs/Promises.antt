@@ -13,8 +13,8 @@ use Rattle.std.specs.Prelude.{Result, Ok, Err, IfOk}
 use Rattle.sheet.specs.declared.refusal.Refusal.{Refusal}
 use Rattle.sheet.specs.Refusals.{number_in}
 use Rattle.sheet.specs.Below.{list_below}
-use Rattle.sheet.specs.Words.{word, bytes_of_all}
-use Rattle.sheet.specs.Sheet.{sheet_of}
+use Rattle.sheet.specs.Words.{word_length, word, bytes_of_all}
+use Rattle.sheet.specs.Sheet.{sheet_size, trailer_length, unit_fits, parts_of, sheet_of}
 use Rattle.sheet.specs.Machine.{Machine, machine, parts_for}
 use Rattle.sheet.proofs.Apart.{not-both}
 use Rattle.sheet.proofs.Below.{split_at, length-list_below, get_or-list_below}
@@ -23,11 +23,12 @@ use Rattle.sheet.proofs.Refusals.{answer-some, over-made, number-told, before-ro
 use Rattle.sheet.proofs.Round.{Below, word_back}
 use Rattle.machine.specs.Readings.{Reading, link}
 use Rattle.machine.specs.Input.{input_number}
+use Rattle.machine.proofs.Accepted.{passes, machine-form}
 use Rattle.machine.proofs.SheetFields.{SheetFields, fields-own, labels-below}
 use Rattle.narrowing.specs.Narrows.{narrows, narrow_number}
 use Rattle.narrowing.specs.Parts.{is_before, is_after, from_node, preheat, bake, numbers}
 use Rattle.narrowing.specs.Joins.{joined, Joins}
-use Rattle.narrowing.proofs.Seam.{Narrows, narrowing, seam, seam-in, first-links, first-nodes, first-link, second-links, second-nodes, second-link, numbers-before, numbers-after}
+use Rattle.narrowing.proofs.Seam.{Narrows, narrowing, seam, seam-in, first-links, first-form, first-nodes, first-link, second-links, second-form, second-nodes, second-link, numbers-before, numbers-after}
 use Rattle.narrowing.proofs.Refused.{unwide, number-wide, wide-number, number-not-21, passes-number, narrow-enough}
 use Rattle.narrowing.proofs.Joined.{joins, lists-joined}
 use Rattle.narrowing.proofs.PartSheets.{first-accepted, first-read, second-accepted, second-read}
@@ -44,7 +45,7 @@ module _ (f : ℕ → ℕ) (n : ℕ) (fits : (i : ℕ) → i < n → f i < 42949
     | inr b ↦ omega (arith, get_or-eq_default (list_below n f) 0 {n = i} (omega (arith, length-list_below n f)))
   ]
 
-  number_back : (own pre post : List ℕ) → own ≡ list_below n f → (i at : ℕ) → i < n → at ≡ length pre + 4 * i → word (pre ++ bytes_of_all own ++ post) at ≡ f i
+  number_back : (own pre post : List ℕ) → own ≡ list_below n f → (i at : ℕ) → i < n → at ≡ length pre + word_length * i → word (pre ++ bytes_of_all own ++ post) at ≡ f i
   number_back own pre post are i at h e =
       (λ j. word (pre ++ bytes_of_all (are j) ++ post) (e j))
       ∙ word_back (list_below n f) pre post numbers_below i (omega (arith, length-list_below n f)) ∙ get_or-list_below n f i 0 h
@@ -56,6 +57,9 @@ module _ (bytes : List ℕ) (c : ℕ) (old : List ℕ) (below : Below 256 bytes)
   module _ (i : input_number bytes ≡ 0) where
     f : SheetFields bytes (length m.links) (length m.finals) m
     f = fields-own bytes i
+
+    unit-told : unit_fits m.form ≡ true
+    unit-told = ap unit_fits (machine-form (parts_of bytes)) ∙ (passes bytes i).unit_fits_lem
 
     -- ---- the parts, and the area
     module _ (n : narrows c m ≡ true) (rest : List ℕ) where
@@ -85,15 +89,15 @@ module _ (bytes : List ℕ) (c : ℕ) (old : List ℕ) (below : Below 256 bytes)
       unfolding low low-own high high-own parted
       apart = refl
 
-      low-long : length low ≡ 16 * told.first + 12 * (c + 1) + 20
+      low-long : length low ≡ sheet_size m.form told.first (c + 1)
       unfolding low
-      low-long = omega (arith, sheet-long (preheat c m), first-nodes c m t.inside)
+      low-long = omega (arith, sheet-long (preheat c m), first-nodes c m t.inside, ap trailer_length (first-form c m))
 
-      high-long : length high ≡ 16 * told.second + 12 * (length m.finals - c) + 20
+      high-long : length high ≡ sheet_size m.form told.second (length m.finals - c)
       unfolding high
-      high-long = omega (arith, sheet-long (bake c m), second-nodes c m)
+      high-long = omega (arith, sheet-long (bake c m), second-nodes c m, ap trailer_length (second-form c m))
 
-      low-all : length (low ++ low-own) ≡ 16 * told.first + 12 * (c + 1) + 20 + 4 * told.first
+      low-all : length (low ++ low-own) ≡ sheet_size m.form told.first (c + 1) + word_length * told.first
       unfolding low-own
       low-all = length-append low low-own ∙ omega (arith, low-long, length-bytes_of_all (numbers (is_before c) m), first-own c m f.climbs)
 
@@ -110,31 +114,31 @@ module _ (bytes : List ℕ) (c : ℕ) (old : List ℕ) (below : Below 256 bytes)
 
       same-first : machine (first_sheet bytes c told area) ≡ preheat c m
       unfolding low
-      same-first = ap machine front ∙ first-read c m f.climbs t f.small (labels-below f below) f.few-nodes f.few-links
+      same-first = ap machine front ∙ first-read c m f.climbs t f.small (labels-below f below) f.few-nodes f.few-links unit-told
 
       same-second : machine (second_sheet bytes c told area) ≡ bake c m
       unfolding high
-      same-second = ap machine back ∙ second-read c m f.climbs t f.small (labels-below f below) f.few-nodes f.few-links
+      same-second = ap machine back ∙ second-read c m f.climbs t f.small (labels-below f below) f.few-nodes f.few-links unit-told
 
       accepted-first : input_number (first_sheet bytes c told area) ≡ 0
       unfolding low
-      accepted-first = ap input_number front ∙ first-accepted c m f.climbs t f.small (labels-below f below) f.few-nodes f.few-links
+      accepted-first = ap input_number front ∙ first-accepted c m f.climbs t f.small (labels-below f below) f.few-nodes f.few-links unit-told
 
       accepted-second : input_number (second_sheet bytes c told area) ≡ 0
       unfolding high
-      accepted-second = ap input_number back ∙ second-accepted c m f.climbs t f.small (labels-below f below) f.few-nodes f.few-links
+      accepted-second = ap input_number back ∙ second-accepted c m f.climbs t f.small (labels-below f below) f.few-nodes f.few-links unit-told
 
       first-back : (l : ℕ) → l < told.first → first_number bytes c told area l ≡ l
       unfolding low-own
       first-back l h =
-          let at = first_numbers_at bytes c told area + 4 * l in
+          let at = first_numbers_at bytes c told area + word_length * l in
           ap (λ (x : List ℕ). word x at) behind
           ∙ number_back (λ l. l) (seam c m) (λ l b. omega (arith, b, seam-in c m, f.few-links)) (numbers (is_before c) m) low (high ++ high-own ++ rest) (numbers-before c m f.climbs) l at (omega (arith, h, first-links c m)) (omega (arith, low-long))
 
       second-back : (l : ℕ) → l < told.second → second_number bytes c told area l ≡ seam c m + l
       unfolding high-own
       second-back l h =
-          let at = second_at bytes c told area + second_size bytes c told area + 4 * l in
+          let at = second_at bytes c told area + second_size bytes c told area + word_length * l in
           ap (λ (x : List ℕ). word x at) (apart ∙ ap (λ (x : List ℕ). x ++ rest) (sym (append_assoc (low ++ low-own) high high-own)))
           ∙ number_back (λ l. seam c m + l) (length m.links - seam c m) (λ l b. omega (arith, b, f.few-links)) (numbers (is_after c) m) (low ++ low-own ++ high) rest (numbers-after c m f.climbs) l at
           (omega (arith, h, second-links c m f.climbs)) (omega (arith, length-append (low ++ low-own) high, low-all, high-long))

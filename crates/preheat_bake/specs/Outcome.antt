@@ -23,7 +23,7 @@ parted c m = part_bytes (preheat c m) (numbers (is_before c) m) ++ part_bytes (b
 abbrev pub answer_of : List ℕ → ℕ → List ℕ
 answer_of bytes c = parted c (machine bytes)
 
--- the number of the refusal, or 0: 1 to 6, then 13, then 21
+-- the number of the refusal, or 0: 1, 14, 2 to 6, then 13, then 21
 unfoldable pub split_number : List ℕ → ℕ → ℕ → ℕ
 unfolding input_number narrows parted
 split_number bytes c room =

@@ -14,8 +14,9 @@ pub mod counts;
 mod parts;
 
 // Writes two sheets to the result area, and answers how many links each has: the nodes up to c, with c
-// final at weight 0 and its links removed, and the nodes from c, starting there. Each is followed by one
-// word per link, the number that link has in the whole sheet. 1 to 6, then 13, then 21.
+// final at weight 0 and its links removed, and the nodes from c, starting there. Each ends in a trailer of
+// the whole sheet's form, and is followed by one word per link, the number that link has in the whole.
+// 1, 14, 2 to 6, then 13, then 21.
 pub fn split(sheet: &[u8], c: u32, res: &mut [u8]) -> Result<Counts, Refusal>
     ensures value { result ≡ split_answer sheet.now c (length res.old) }
     ensures res_after { res.new ≡ split_over sheet.now c res.old }

@@ -1,4 +1,4 @@
--- Links, nodes, final weights and start of the product, by those of the two machines; it climbs. Assumes nothing.
+-- Links, nodes, final weights, start and form of the product, by those of the two machines; it climbs. Assumes nothing.
 use mathlib.Core.Path.{◌≡◌, refl, sym, subst}
 use mathlib.Core.Option.{none}
 use Prim.Native.Nat.{ℕ, ◌*◌, ◌/◌, ◌%◌, ◌≤◌, ◌<◌}
@@ -34,6 +34,10 @@ module _ (a b : Machine) where
   pub product-start : (product a b).start ≡ start_for a b a.start b.start
   unfolding product
   product-start = refl
+
+  pub product-form : (product a b).form ≡ a.form
+  unfolding product
+  product-form = refl
 
   module _ (c : Climbs a) (d : Climbs b) where
     pub meets_at : (q : ℕ) → q < length (pairs a b) → Meets a b (pair_at a b q)

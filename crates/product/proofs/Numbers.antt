@@ -9,31 +9,31 @@ use lib.Dec.{leb, eqb}
 use lib.ListN.{length}
 use borrow.Author.Tests.{le-leb, lt-leb, leb-true}
 use Rattle.std.proofs.lemmas.Bool.{and_left, and_right}
-use Rattle.tropical_weight.specs.Limits.{weight_limit, sum_limit, node_limit, link_limit}
+use Rattle.tropical_weight.specs.Limits.{finest, weight_limit, sum_limit, node_limit, link_limit}
 use Rattle.tropical_weight.specs.Tropical.{Tropical, ◌⊗◌, Within}
 use Rattle.tropical_weight.proofs.Sums.{within-mono, within-⊗}
 use Rattle.sheet.specs.declared.refusal.Refusal.{Refusal}
 use Rattle.sheet.specs.Below.{all_below}
-use Rattle.sheet.specs.Sheet.{link_count, node_count, mark, final_bits, link_bits, weight_fits, weights_fit}
-use Rattle.sheet.specs.Machine.{Machine, bits_of, parts_for}
+use Rattle.sheet.specs.Sheet.{unit_of, link_count, node_count, mark, final_bits, link_bits, weight_fits, weights_fit}
+use Rattle.sheet.specs.Machine.{Machine, unit_in, bits_of, parts_for}
 use Rattle.sheet.proofs.Apart.{both}
 use Rattle.sheet.proofs.Below.{all_below-same}
-use Rattle.sheet.proofs.Encoding.{links-are, nodes-are, link_bits-is, mark-some, mark-none, final_bits-some, weight-back}
+use Rattle.sheet.proofs.Encoding.{links-are, nodes-are, form-is, link_bits-is, mark-some, mark-none, final_bits-some, weight-back}
 use Rattle.sheet.proofs.Refusals.{Known, known-cond, known}
-use Rattle.machine.specs.Readings.{no_link, final}
+use Rattle.machine.specs.Readings.{no_link, link, final}
 use Rattle.machine.specs.Input.{counts_fit}
 use Rattle.machine.proofs.Accepted.{weight-within}
 use Rattle.product.specs.Product.{nodes, pairs, product}
 use Rattle.product.specs.Refusals.{labelled, product_number}
 use Rattle.product.specs.Fits.{final_fits, links_fit, finals_fit, sums_fit}
-use Rattle.product.proofs.Fields.{product-links, product-nodes}
+use Rattle.product.proofs.Fields.{product-links, product-nodes, product-form}
 
 -- ---- a sum of two weights that passes test 4 is within the limit
 sum-held : (v w : Tropical) → Within weight_limit v → Within weight_limit w → Within sum_limit (v ⊗ w)
 sum-held v w p q = within-mono (weight_limit + weight_limit) sum_limit (v ⊗ w) (omega arith) (within-⊗ weight_limit weight_limit v w p q)
 
-pub fits-within : (v w : Tropical) → Within weight_limit v → Within weight_limit w → weight_fits (bits_of (v ⊗ w)) ≡ true → Within weight_limit (v ⊗ w)
-fits-within v w p q e = subst (Within weight_limit) (weight-back (v ⊗ w) (sum-held v w p q)) (weight-within (bits_of (v ⊗ w)) e)
+pub fits-within : (j : ℕ) → j ≤ finest → (v w : Tropical) → Within weight_limit v → Within weight_limit w → weight_fits j (bits_of j (v ⊗ w)) ≡ true → Within weight_limit (v ⊗ w)
+fits-within j c v w p q e = subst (Within weight_limit) (weight-back j c (v ⊗ w) (sum-held v w p q)) (weight-within j c (bits_of j (v ⊗ w)) e)
 
 -- ---- three tests in a row, and what the number of the first that fails tells of them
 abbrev first-failed : Bool → Bool → Bool → ℕ
@@ -62,14 +62,18 @@ module _ (a b : Machine) where
   pub counts-are : counts_fit (parts_for (product a b)) ≡ leb (nodes a * nodes b) node_limit && leb (length (pairs a b)) link_limit
   counts-are = λ i. leb ((nodes-are (product a b) ∙ product-nodes a b) i) node_limit && leb ((links-are (product a b) ∙ product-links a b) i) link_limit
 
-  links-pass : all_below (link_count (parts_for (product a b))) (λ l. weight_fits (link_bits (parts_for (product a b)) l)) ≡ links_fit a b
+  -- its unit is that of the first
+  unit-kept : unit_in (product a b) ≡ unit_in a
+  unit-kept = ap unit_of (product-form a b)
+
+  links-pass : all_below (link_count (parts_for (product a b))) (λ l. weight_fits (unit_in a) (link_bits (parts_for (product a b)) l)) ≡ links_fit a b
   links-pass =
       let m = product a b in
-      ap (λ (n : ℕ). all_below n (λ l. weight_fits (link_bits (parts_for m) l))) (links-are m ∙ product-links a b)
-      ∙ all_below-same (length (pairs a b)) _ _ (λ l h. ap weight_fits (link_bits-is m l no_link (omega (arith, product-links a b))))
+      ap (λ (n : ℕ). all_below n (λ l. weight_fits (unit_in a) (link_bits (parts_for m) l))) (links-are m ∙ product-links a b)
+      ∙ all_below-same (length (pairs a b)) _ _ (λ l h. ap (weight_fits (unit_in a)) (link_bits-is m l no_link (omega (arith, product-links a b)) ∙ λ i. bits_of (unit-kept i) (link m l).weight))
 
   final-passes : (v : ℕ) → v < nodes a * nodes b
-      → eqb (mark (parts_for (product a b)) v) 0 || weight_fits (final_bits (parts_for (product a b)) v) ≡ final_fits (final (product a b) v)
+      → eqb (mark (parts_for (product a b)) v) 0 || weight_fits (unit_in a) (final_bits (parts_for (product a b)) v) ≡ final_fits (unit_in a) (final (product a b) v)
   final-passes v h = go (final m v) refl
     where
       m : Machine
@@ -78,19 +82,23 @@ module _ (a b : Machine) where
       inside : v < length m.finals
       inside = omega (arith, product-nodes a b)
 
-      go : (o : Option Tropical) → final m v ≡ o → eqb (mark (parts_for m) v) 0 || weight_fits (final_bits (parts_for m) v) ≡ final_fits o
-      go none e = λ i. eqb (mark-none m v inside e i) 0 || weight_fits (final_bits (parts_for m) v)
-      go (some w) e = λ i. eqb (mark-some m v inside w e i) 0 || weight_fits (final_bits-some m v inside w e i)
+      go : (o : Option Tropical) → final m v ≡ o → eqb (mark (parts_for m) v) 0 || weight_fits (unit_in a) (final_bits (parts_for m) v) ≡ final_fits (unit_in a) o
+      go none e = λ i. eqb (mark-none m v inside e i) 0 || weight_fits (unit_in a) (final_bits (parts_for m) v)
+      go (some w) e = λ i. eqb (mark-some m v inside w e i) 0 || weight_fits (unit_in a) ((final_bits-some m v inside w e ∙ λ k. bits_of (unit-kept k) w) i)
 
-  finals-pass : all_below (node_count (parts_for (product a b))) (λ v. eqb (mark (parts_for (product a b)) v) 0 || weight_fits (final_bits (parts_for (product a b)) v)) ≡ finals_fit a b
+  finals-pass : all_below (node_count (parts_for (product a b))) (λ v. eqb (mark (parts_for (product a b)) v) 0 || weight_fits (unit_in a) (final_bits (parts_for (product a b)) v)) ≡ finals_fit a b
   finals-pass =
       let m = product a b in
-      ap (λ (n : ℕ). all_below n (λ v. eqb (mark (parts_for m) v) 0 || weight_fits (final_bits (parts_for m) v))) (nodes-are m ∙ product-nodes a b)
+      ap (λ (n : ℕ). all_below n (λ v. eqb (mark (parts_for m) v) 0 || weight_fits (unit_in a) (final_bits (parts_for m) v))) (nodes-are m ∙ product-nodes a b)
       ∙ all_below-same (nodes a * nodes b) _ _ final-passes
 
   pub weights-are : weights_fit (parts_for (product a b)) ≡ sums_fit a b
   unfolding weights_fit
-  weights-are = λ i. links-pass i && finals-pass i
+  weights-are =
+      let p = parts_for (product a b) in
+      let unit : unit_of p.form ≡ unit_in a = ap unit_of (form-is (product a b)) ∙ unit-kept in
+      (λ i. all_below (link_count p) (λ l. weight_fits (unit i) (link_bits p l)) && all_below (node_count p) (λ v. eqb (mark p v) 0 || weight_fits (unit i) (final_bits p v)))
+      ∙ λ i. links-pass i && finals-pass i
 
   -- ---- the number by these tests, in their order
   -- test 5 of the product

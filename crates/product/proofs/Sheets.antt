@@ -8,12 +8,14 @@ use native.Mathlib.Omega.{arith}
 use lib.ListN.{length, length-append}
 use Rattle.tropical_weight.specs.Limits.{weight_limit}
 use Rattle.tropical_weight.specs.Tropical.{Tropical, ◌⊗◌, Within}
-use Rattle.sheet.specs.Sheet.{weight_fits, sheet_of, parts_of, trailer_of}
-use Rattle.sheet.specs.Machine.{Machine, machine_of, bits_of, parts_for}
+use Rattle.sheet.specs.Sheet.{link_length, node_length, trailer_length, unit_fits, weight_fits, sheet_of, parts_of, trailer_of}
+use Rattle.sheet.specs.Machine.{Machine, unit_in, machine_of, bits_of, parts_for}
 use Rattle.sheet.proofs.Apart.{both}
 use Rattle.sheet.proofs.Below.{all_below-at}
 use Rattle.sheet.proofs.Bytes.{length-bytes_of_all}
+use Rattle.sheet.proofs.Writing.{trailer-size}
 use Rattle.sheet.proofs.Encoding.{length-links, length-nodes}
+use Rattle.sheet.proofs.Forms.{covered}
 use Rattle.machine.specs.Readings.{link, final}
 use Rattle.machine.specs.Climbs.{Climbs, Small}
 use Rattle.machine.specs.Input.{input_number}
@@ -24,11 +26,11 @@ use Rattle.product.specs.Refusals.{product_number}
 use Rattle.product.specs.Fits.{final_fits, links_fit, finals_fit}
 use Rattle.product.specs.Halves.{pair_at}
 use Rattle.product.proofs.Nodes.{node-lt}
-use Rattle.product.proofs.Fields.{product-links, product-link, product-nodes, product-final, product-start, meets_at, climbs-product}
+use Rattle.product.proofs.Fields.{product-links, product-link, product-nodes, product-final, product-start, product-form, meets_at, climbs-product}
 use Rattle.product.proofs.Numbers.{fits-within, passes-apart}
 
 -- ---- how long it is, for any two machines
-pub product-length : (a b : Machine) → length (sheet_of (parts_for (product a b))) ≡ 16 * length (pairs a b) + 12 * (nodes a * nodes b) + 20
+pub product-length : (a b : Machine) → length (sheet_of (parts_for (product a b))) ≡ link_length * length (pairs a b) + node_length * (nodes a * nodes b) + trailer_length a.form
 unfolding sheet_of parts_for
 product-length a b =
     let m = product a b in
@@ -38,16 +40,18 @@ product-length a b =
       length-bytes_of_all (p.links ++ p.nodes ++ trailer_of p),
       length-append (p.links ++ p.nodes) (trailer_of p),
       length-append p.links p.nodes,
-      length-links m.links,
-      length-nodes m.links 0 m.finals,
+      length-links (unit_in m) m.links,
+      length-nodes (unit_in m) m.links 0 m.finals,
       product-links a b,
       product-nodes a b,
+      trailer-size p,
+      ap trailer_length (product-form a b),
     )
 
 -- ---- of two that are accepted and not refused
 module _ (a b : Machine) (c : Climbs a) (d : Climbs b) (first-small : Small weight_limit a) (second-small : Small weight_limit b)
     (first-starts : (s : ℕ) → a.start ≡ some s → s < nodes a) (second-starts : (s : ℕ) → b.start ≡ some s → s < nodes b)
-    (labels : (l : ℕ) → l < length a.links → ((link a l).ilabel < 2 ^ 32) × ((link a l).olabel < 2 ^ 32))
+    (labels : (l : ℕ) → l < length a.links → ((link a l).ilabel < 2 ^ 32) × ((link a l).olabel < 2 ^ 32)) (unit-fits : unit_fits a.form ≡ true)
     (accepted : product_number a b ≡ 0) where
   -- ---- each sum is within the limit, as its field passes test 4
   sums-pass : (links_fit a b ≡ true) × (finals_fit a b ≡ true)
@@ -57,10 +61,10 @@ module _ (a b : Machine) (c : Climbs a) (d : Climbs b) (first-small : Small weig
   small-link q h =
       let m = meets_at a b c d q h in
       let p = pair_at a b q in
-      let fits = all_below-at (length (pairs a b)) (λ q. weight_fits (bits_of (link (product a b) q).weight)) sums-pass.0 q h in
+      let fits = all_below-at (length (pairs a b)) (λ q. weight_fits (unit_in a) (bits_of (unit_in a) (link (product a b) q).weight)) sums-pass.0 q h in
       subst (λ k. Within weight_limit k.weight) (sym (product-link a b q h))
-      (fits-within (link a p.first).weight (link b p.second).weight (first-small.on_link p.first m.in-first) (second-small.on_link p.second m.in-second)
-      (sym (ap (λ k. weight_fits (bits_of k.weight)) (product-link a b q h)) ∙ fits))
+      (fits-within (unit_in a) (covered a.form) (link a p.first).weight (link b p.second).weight (first-small.on_link p.first m.in-first) (second-small.on_link p.second m.in-second)
+      (sym (ap (λ k. weight_fits (unit_in a) (bits_of (unit_in a) k.weight)) (product-link a b q h)) ∙ fits))
 
   small-final : (v : ℕ) (w : Tropical) → final (product a b) v ≡ some w → Within weight_limit w
   small-final v w e = go (final a (v / nodes b)) (final b (v % nodes b)) refl refl (sym (product-final a b v inside) ∙ e)
@@ -68,14 +72,14 @@ module _ (a b : Machine) (c : Climbs a) (d : Climbs b) (first-small : Small weig
       inside : v < nodes a * nodes b
       inside = omega (arith, final-in (product a b) v w e, product-nodes a b)
 
-      fits : weight_fits (bits_of w) ≡ true
-      fits = sym (ap final_fits e) ∙ all_below-at (nodes a * nodes b) (λ v. final_fits (final (product a b) v)) sums-pass.1 v inside
+      fits : weight_fits (unit_in a) (bits_of (unit_in a) w) ≡ true
+      fits = sym (ap (final_fits (unit_in a)) e) ∙ all_below-at (nodes a * nodes b) (λ v. final_fits (unit_in a) (final (product a b) v)) sums-pass.1 v inside
 
       go : (f g : Option Tropical) → final a (v / nodes b) ≡ f → final b (v % nodes b) ≡ g → final_for f g ≡ some w → Within weight_limit w
       go (some x) (some y) p q r =
           let sum : x ⊗ y ≡ w = cc in
           subst (Within weight_limit) sum
-          (fits-within x y (first-small.on_final (v / nodes b) x p) (second-small.on_final (v % nodes b) y q) (ap (λ z. weight_fits (bits_of z)) sum ∙ fits))
+          (fits-within (unit_in a) (covered a.form) x y (first-small.on_final (v / nodes b) x p) (second-small.on_final (v % nodes b) y q) (ap (λ z. weight_fits (unit_in a) (bits_of (unit_in a) z)) sum ∙ fits))
       go (some x) none p q r = let z : ◌≡◌ {A = ℕ} 0 1 = cc in absurd (omega arith)
       go none g p q r = let z : ◌≡◌ {A = ℕ} 0 1 = cc in absurd (omega arith)
 
@@ -102,11 +106,12 @@ module _ (a b : Machine) (c : Climbs a) (d : Climbs b) (first-small : Small weig
             (labels (pair_at a b q).first (meets_at a b c d q (inside q h)).in-first);
         small = record { on_link = λ q h. small-link q (inside q h); on_final = small-final };
         starts = starts;
+        unit_fits_lem = ap unit_fits (product-form a b) ∙ unit-fits;
         few-nodes = omega (arith, product-nodes a b, p.1);
         few-links = omega (arith, product-links a b, p.2);
       }
 
-  -- its sheet passes tests 1 to 6
+  -- its sheet passes tests 1, 14 and 2 to 6
   pub product-accepted : input_number (sheet_of (parts_for (product a b))) ≡ 0
   product-accepted =
       let p = passes-apart a b accepted in

@@ -1,4 +1,4 @@
--- The machine of what two machines both allow. Definitions only.
+-- The machine of what two machines of one unit both allow. Definitions only.
 use Rattle.std.specs.Prelude.{Bool, ◌&&◌, cond, ℕ, ◌+◌, ◌*◌, ◌/◌, ◌%◌, eqb, length}
 use Rattle.std.proofs.Math.Option.{Option, none, some}
 use mathlib.Core.List.{List, [], ◌∷◌, map}
@@ -62,10 +62,12 @@ module _ (a b : Machine) where
   start_for (some s) none = none
   start_for none t = none
 
+  -- it keeps the form of the first
   unfoldable pub product : Machine
   unfolding pairs list_below
   product = record {
     links = map link_for pairs;
     finals = list_below (nodes a * nodes b) (λ v. final_for (final a (v / nodes b)) (final b (v % nodes b)));
     start = start_for a.start b.start;
+    form = a.form;
   }

@@ -1,4 +1,4 @@
--- Which machines have no product: refusals 10, 11 and 12. Definitions only.
+-- Which machines of one unit have no product: refusals 10, 11 and 12. Definitions only.
 use Rattle.std.specs.Prelude.{Bool, not, ◌&&◌, cond, ℕ, eqb, length}
 use Rattle.sheet.specs.Below.{all_below}
 use Rattle.sheet.specs.Sheet.{weights_fit}

@@ -1,11 +1,11 @@
--- What refusals 10, 11 and 12 mean, in the words of request (f). Every link counts, and every pair of links of one label and of final nodes, reached
--- or not. Definitions only.
+-- What refusals 14, 10, 11 and 12 of two machines mean, in the words of requests (f) and (h). Every link counts, and every pair of links of one label
+-- and of final nodes, reached or not. Definitions only.
 use Rattle.std.specs.Prelude.{◌≡◌, ◌≢◌, ◌⊎◌, ◌↔◌, cond, ℕ, ◌*◌, ◌<◌, eqb, length}
 use Rattle.std.proofs.Math.Option.{some}
 use Rattle.tropical_weight.specs.Limits.{weight_limit, node_limit, link_limit}
 use Rattle.tropical_weight.specs.Tropical.{Tropical, ◌⊗◌, Within}
 use Rattle.sheet.specs.Below.{sum_below}
-use Rattle.sheet.specs.Machine.{Machine}
+use Rattle.sheet.specs.Machine.{Machine, unit_in}
 use Rattle.machine.specs.Readings.{link, final}
 use Rattle.product.specs.Product.{nodes}
 
@@ -39,6 +39,10 @@ module _ (a b : Machine) where
     pub in-second : final b second ≡ some second_weight
     pub off : OffGrid (first_weight ⊗ second_weight)
 
+  -- 14: two sheets of unequal unit
+  abbrev pub UnequalUnits : Type 0
+  UnequalUnits = unit_in a ≢ unit_in b
+
   -- 10: a label that is 0 or differs between input and output
   abbrev pub BadLabel : Type 0
   BadLabel = Mislabelled a ⊎ Mislabelled b
@@ -57,10 +61,11 @@ module _ (a b : Machine) where
 
   -- each number where its words hold and those before do not, and nowhere else
   pub record Refused (number : ℕ) : Type 0 where
-    pub labels : number ≡ 10 ↔ BadLabel
-    pub size : number ≡ 11 ↔ ((BadLabel → ⊥) × TooLarge)
-    pub sums : number ≡ 12 ↔ ((BadLabel → ⊥) × (TooLarge → ⊥) × BadSum)
+    pub units : number ≡ 14 ↔ UnequalUnits
+    pub labels : number ≡ 10 ↔ ((UnequalUnits → ⊥) × BadLabel)
+    pub size : number ≡ 11 ↔ ((UnequalUnits → ⊥) × (BadLabel → ⊥) × TooLarge)
+    pub sums : number ≡ 12 ↔ ((UnequalUnits → ⊥) × (BadLabel → ⊥) × (TooLarge → ⊥) × BadSum)
 
   -- and none of the words
   abbrev pub Unrefused : Type 0
-  Unrefused = (BadLabel → ⊥) × (TooLarge → ⊥) × (BadSum → ⊥)
+  Unrefused = (UnequalUnits → ⊥) × (BadLabel → ⊥) × (TooLarge → ⊥) × (BadSum → ⊥)

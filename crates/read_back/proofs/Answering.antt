@@ -12,18 +12,21 @@ use lib.Seq.{sets, length-sets}
 use borrow.Author.Tests.{lt-ltb, le-ltb, le-leb, lt-leb, leb-true, ltb-true, ltb-false, ne_eqb, eqb-true}
 use Rattle.tropical_weight.specs.Limits.{list_limit}
 use Rattle.tropical_weight.specs.Tropical.{Tropical, fin}
+use Rattle.sheet.specs.Sheet.{trailer_length}
 use Rattle.sheet.specs.Machine.{Machine, machine}
 use Rattle.sheet.proofs.Apart.{both}
+use Rattle.sheet.proofs.Forms.{size-least}
 use Rattle.sheet.proofs.Round.{Below}
 use Rattle.machine.specs.Readings.{IsReading, reading_of, reading_cost}
 use Rattle.machine.specs.Input.{input_number}
 use Rattle.search.specs.ListMachine.{result_for}
 use Rattle.search.specs.Listed.{list_of}
 use Rattle.search.proofs.Results.{empty_back}
-use Rattle.search.proofs.Lists.{Accepted, accepted, list_in, demand-result}
+use Rattle.search.proofs.Lists.{Accepted, accepted, list_in, demand-result, result-form}
 use Rattle.shortest_path.specs.Outcome.{tested_number, answer_of}
 use Rattle.shortest_path.proofs.Joining.{zero-empty}
 use Rattle.shortest_path.proofs.Outcomes.{tested-input, tested-seven, tested-last, tested-zero}
+use Rattle.sheet.specs.declared.form.Form.{Form}
 use Rattle.sheet.specs.declared.refusal.Refusal.{Refusal}
 use Rattle.sheet.specs.Refusals.{number_of, answer_by, answer}
 use Rattle.sheet.proofs.Refusals.{answer-ok, answer-err, number-positive, answer-none}
@@ -37,57 +40,58 @@ use Rattle.read_back.proofs.Follow.{Reads, reads-is, is-reads}
 use Rattle.read_back.proofs.Backs.{ReadsBack, result-reads, listed-reading}
 
 -- ---- how many readings
-module _ (result : List ℕ) (n nodes links : ℕ) where
-  pub list-short : length result < answer_bytes result nodes links → is_list result nodes links n ≡ false
-  list-short h = ap (λ (b : Bool). b && leb (count_in result nodes links n) n) (lt-leb (answer_bytes result nodes links) (length result) h)
+module _ (form : Form) (result : List ℕ) (n nodes links : ℕ) where
+  pub list-short : length result < answer_bytes form result nodes links → is_list form result nodes links n ≡ false
+  list-short h = ap (λ (b : Bool). b && leb (count_in result nodes links n) n) (lt-leb (answer_bytes form result nodes links) (length result) h)
 
-  list-by : answer_bytes result nodes links ≤ length result → is_list result nodes links n ≡ leb (count_in result nodes links n) n
-  list-by h = ap (λ (b : Bool). b && leb (count_in result nodes links n) n) (le-leb (answer_bytes result nodes links) (length result) h)
+  list-by : answer_bytes form result nodes links ≤ length result → is_list form result nodes links n ≡ leb (count_in result nodes links n) n
+  list-by h = ap (λ (b : Bool). b && leb (count_in result nodes links n) n) (le-leb (answer_bytes form result nodes links) (length result) h)
 
-  pub list-more : answer_bytes result nodes links ≤ length result → n < count_in result nodes links n → is_list result nodes links n ≡ false
+  pub list-more : answer_bytes form result nodes links ≤ length result → n < count_in result nodes links n → is_list form result nodes links n ≡ false
   list-more h k = list-by h ∙ lt-leb (count_in result nodes links n) n k
 
-  pub list-is : answer_bytes result nodes links ≤ length result → count_in result nodes links n ≤ n → is_list result nodes links n ≡ true
+  pub list-is : answer_bytes form result nodes links ≤ length result → count_in result nodes links n ≤ n → is_list form result nodes links n ≡ true
   list-is h k = list-by h ∙ le-leb (count_in result nodes links n) n k
 
-  pub list-long : is_list result nodes links n ≡ true → answer_bytes result nodes links ≤ length result
-  list-long e = leb-true (answer_bytes result nodes links) (length result) (both (leb (answer_bytes result nodes links) (length result)) (leb (count_in result nodes links n) n) e).0
+  pub list-long : is_list form result nodes links n ≡ true → answer_bytes form result nodes links ≤ length result
+  list-long e = leb-true (answer_bytes form result nodes links) (length result) (both (leb (answer_bytes form result nodes links) (length result)) (leb (count_in result nodes links n) n) e).0
 
-  pub count-large : list_limit < n → count_number result n nodes links ≡ 7
+  pub count-large : list_limit < n → count_number form result n nodes links ≡ 7
   unfolding count_number
-  count-large h = ap {B = ℕ} (λ (b : Bool). cond b 7 (cond (not (is_list result nodes links n)) 30 0)) (lt-ltb list_limit n h)
+  count-large h = ap {B = ℕ} (λ (b : Bool). cond b 7 (cond (not (is_list form result nodes links n)) 30 0)) (lt-ltb list_limit n h)
 
-  count-few : n ≤ list_limit → count_number result n nodes links ≡ cond (not (is_list result nodes links n)) 30 0
+  count-few : n ≤ list_limit → count_number form result n nodes links ≡ cond (not (is_list form result nodes links n)) 30 0
   unfolding count_number
-  count-few h = ap {B = ℕ} (λ (b : Bool). cond b 7 (cond (not (is_list result nodes links n)) 30 0)) (le-ltb list_limit n h)
+  count-few h = ap {B = ℕ} (λ (b : Bool). cond b 7 (cond (not (is_list form result nodes links n)) 30 0)) (le-ltb list_limit n h)
 
-  pub count_none : n ≤ list_limit → is_list result nodes links n ≡ false → count_number result n nodes links ≡ 30
+  pub count_none : n ≤ list_limit → is_list form result nodes links n ≡ false → count_number form result n nodes links ≡ 30
   count_none h e = count-few h ∙ ap {B = ℕ} (λ (b : Bool). cond (not b) 30 0) e
 
-  pub count-some : n ≤ list_limit → is_list result nodes links n ≡ true → count_number result n nodes links ≡ 0
+  pub count-some : n ≤ list_limit → is_list form result nodes links n ≡ true → count_number form result n nodes links ≡ 0
   count-some h e = count-few h ∙ ap {B = ℕ} (λ (b : Bool). cond (not b) 30 0) e
 
-  -- so the answers
-  pub counted-large : list_limit < n → Err Refusal.Count ≡ count_answer result n nodes links
-  counted-large h = sym (answer-err (count_in result nodes links n) (count_number result n nodes links) Refusal.Count (count-large h))
-
-  pub counted_none : n ≤ list_limit → is_list result nodes links n ≡ false → Err Refusal.NoAnswer ≡ count_answer result n nodes links
-  counted_none h e = sym (answer-err (count_in result nodes links n) (count_number result n nodes links) Refusal.NoAnswer (count_none h e))
-
-  pub counted-some : n ≤ list_limit → is_list result nodes links n ≡ true → Ok (count_in result nodes links n) ≡ count_answer result n nodes links
-  counted-some h e = sym (answer-ok (count_in result nodes links n) (count_number result n nodes links) (count-some h e))
-
   -- number 0 comes of a list for an n that is not too large
-  pub count-zero : count_number result n nodes links ≡ 0 → (n ≤ list_limit) × (is_list result nodes links n ≡ true)
+  pub count-zero : count_number form result n nodes links ≡ 0 → (n ≤ list_limit) × (is_list form result nodes links n ≡ true)
   count-zero e = go (ltb list_limit n) refl
     where
-      listed : n ≤ list_limit → (b : Bool) → is_list result nodes links n ≡ b → (n ≤ list_limit) × (is_list result nodes links n ≡ true)
+      listed : n ≤ list_limit → (b : Bool) → is_list form result nodes links n ≡ b → (n ≤ list_limit) × (is_list form result nodes links n ≡ true)
       listed h true q = (h, q)
       listed h false q = absurd (omega (arith, e, count_none h q))
 
-      go : (b : Bool) → ltb list_limit n ≡ b → (n ≤ list_limit) × (is_list result nodes links n ≡ true)
+      go : (b : Bool) → ltb list_limit n ≡ b → (n ≤ list_limit) × (is_list form result nodes links n ≡ true)
       go true q = absurd (omega (arith, e, count-large (ltb-true list_limit n q)))
-      go false q = listed (ltb-false list_limit n q) (is_list result nodes links n) refl
+      go false q = listed (ltb-false list_limit n q) (is_list form result nodes links n) refl
+
+-- so the answers of the count
+module _ (result : List ℕ) (n nodes links : ℕ) where
+  pub counted-large : list_limit < n → Err Refusal.Count ≡ count_answer result n nodes links
+  counted-large h = sym (answer-err (count_in result nodes links n) (count_number Form.Short result n nodes links) Refusal.Count (count-large Form.Short result n nodes links h))
+
+  pub counted_none : n ≤ list_limit → is_list Form.Short result nodes links n ≡ false → Err Refusal.NoAnswer ≡ count_answer result n nodes links
+  counted_none h e = sym (answer-err (count_in result nodes links n) (count_number Form.Short result n nodes links) Refusal.NoAnswer (count_none Form.Short result n nodes links h e))
+
+  pub counted-some : n ≤ list_limit → is_list Form.Short result nodes links n ≡ true → Ok (count_in result nodes links n) ≡ count_answer result n nodes links
+  counted-some h e = sym (answer-ok (count_in result nodes links n) (count_number Form.Short result n nodes links) (count-some Form.Short result n nodes links h e))
 
 -- ---- an answer by its number
 pub answer-as : {A : Type 0} (a b : A) (k : ℕ) → k ≡ 0 → a ≡ b → answer a k ≡ Ok b
@@ -110,13 +114,13 @@ module _ (sheet : List ℕ) (below : Below 256 sheet) (n : ℕ) (result : List �
   back : ReadsBack n (result_for m n) rest
   back = result-reads m a n h.few rest
 
-  pub list_same : list_of n nodes links result ≡ list_in n (result_for (machine sheet) n) (drop (length (answer_of sheet n)) result)
-  list_same = λ i. list_of n (h.nodes-are i) (h.links-are i) (h.bytes i)
+  pub list_same : list_of (machine sheet).form n nodes links result ≡ list_in n (result_for (machine sheet) n) (drop (length (answer_of sheet n)) result)
+  list_same = λ i. list_of (sym (result-form m n) i) n (h.nodes-are i) (h.links-are i) (h.bytes i)
 
-  long : answer_bytes result nodes links ≤ length result
-  long = omega (arith, back.long, h.nodes-are, h.links-are, ap length h.bytes)
+  long : answer_bytes (machine sheet).form result nodes links ≤ length result
+  long = omega (arith, back.long, h.nodes-are, h.links-are, ap length h.bytes, ap trailer_length (result-form m n))
 
-  pub answer-count : count_in result nodes links n ≡ length (list_of n nodes links result)
+  pub answer-count : count_in result nodes links n ≡ length (list_of (machine sheet).form n nodes links result)
   answer-count = (λ i. count_in (h.bytes i) (h.nodes-are i) (h.links-are i) n) ∙ back.counts ∙ ap length (sym list_same)
 
   -- at most n readings
@@ -124,33 +128,37 @@ module _ (sheet : List ℕ) (below : Below 256 sheet) (n : ℕ) (result : List �
   few = go n h.few
     where
       go : (n : ℕ) → n ≤ list_limit → length (list_in n (result_for m n) rest) ≤ n
-      go zero b = omega (arith, ap length (ap (λ r. list_in 0 r rest) (zero-empty m) ∙ empty_back 0 rest))
+      go zero b = omega (arith, ap length (ap (λ r. list_in 0 r rest) (zero-empty m) ∙ empty_back m.form a.unit-word 0 rest))
       go (suc k) b = omega (arith, (demand-result m a (suc k) (omega arith) b rest).size, length-map (list_in (suc k) (result_for m (suc k)) rest) (reading_of m))
 
-  pub answer-few : length (list_of n nodes links result) ≤ n
+  pub answer-few : length (list_of (machine sheet).form n nodes links result) ≤ n
   answer-few = omega (arith, few, ap length list_same)
 
-  pub answer-list : is_list result nodes links n ≡ true
-  answer-list = list-is result n nodes links long (omega (arith, answer-count, answer-few))
+  pub answer-list : is_list (machine sheet).form result nodes links n ≡ true
+  answer-list = list-is (machine sheet).form result n nodes links long (omega (arith, answer-count, answer-few))
 
-  module _ (k : ℕ) (b : k < length (list_of n nodes links result)) where
-    way : way_of result nodes links n k ≡ some (get_or (list_of n nodes links result) k [])
+  -- it is long enough for the shorter trailer, too
+  pub answer-counted : is_list Form.Short result nodes links n ≡ true
+  answer-counted = list-is Form.Short result n nodes links (omega (arith, long, size-least m.form)) (omega (arith, answer-count, answer-few))
+
+  module _ (k : ℕ) (b : k < length (list_of (machine sheet).form n nodes links result)) where
+    way : way_of (machine sheet).form result nodes links n k ≡ some (get_or (list_of (machine sheet).form n nodes links result) k [])
     way =
-        (λ i. way_of (h.bytes i) (h.nodes-are i) (h.links-are i) n k) ∙ back.each k (omega (arith, ap length list_same))
+        (λ i. way_of (sym (result-form m n) i) (h.bytes i) (h.nodes-are i) (h.links-are i) n k) ∙ back.each k (omega (arith, ap length list_same))
         ∙ ap (λ (l : List (List ℕ)). some (get_or l k [])) (sym list_same)
 
-    pub answer-reading : IsReading (machine sheet) (reading_of (machine sheet) (get_or (list_of n nodes links result) k []))
+    pub answer-reading : IsReading (machine sheet) (reading_of (machine sheet) (get_or (list_of (machine sheet).form n nodes links result) k []))
     answer-reading =
         subst (λ (l : List (List ℕ)). IsReading m (reading_of m (get_or l k []))) (sym list_same)
         (listed-reading m a n (omega (arith, b, answer-few)) h.few rest k (omega (arith, ap length list_same)))
 
-    pub answer-held : held_reading (machine sheet) result n nodes links k ≡ some (get_or (list_of n nodes links result) k [])
-    answer-held = ap (if_reading m) way ∙ ap (run_by (get_or (list_of n nodes links result) k [])) (is-reads m (get_or (list_of n nodes links result) k []) answer-reading)
+    pub answer-held : held_reading (machine sheet) result n nodes links k ≡ some (get_or (list_of (machine sheet).form n nodes links result) k [])
+    answer-held = ap (if_reading m) way ∙ ap (run_by (get_or (list_of (machine sheet).form n nodes links result) k [])) (is-reads m (get_or (list_of (machine sheet).form n nodes links result) k []) answer-reading)
 
 pub counts-list : (result : List ℕ) (n nodes links : ℕ) (told : Result ℕ Refusal) → told ≡ count_answer result n nodes links → CountsList result n nodes links told
 counts-list result n nodes links told e sheet below h =
     let count = answer-count sheet below n result nodes links h in
-    e ∙ answer-as (count_in result nodes links n) (length (list_of n nodes links result)) (count_number result n nodes links) (count-some result n nodes links h.few (answer-list sheet below n result nodes links h)) count
+    e ∙ answer-as (count_in result nodes links n) (length (list_of (machine sheet).form n nodes links result)) (count_number Form.Short result n nodes links) (count-some Form.Short result n nodes links h.few (answer-counted sheet below n result nodes links h)) count
 
 -- ---- one reading
 module _ (sheet : List ℕ) (n : ℕ) (result : List ℕ) (nodes links k room : ℕ) where
@@ -165,22 +173,22 @@ module _ (sheet : List ℕ) (n : ℕ) (result : List ℕ) (nodes links k room : 
   unfolding reading_number
   number-input d = tested-input sheet n (held_number (machine sheet) result n nodes links k room) d
 
-  pub number_counts : input_number sheet ≡ 0 → (count_number result n nodes links ≡ 0 → ⊥) → reading_number sheet n result nodes links k room ≡ count_number result n nodes links
+  pub number_counts : input_number sheet ≡ 0 → (count_number (machine sheet).form result n nodes links ≡ 0 → ⊥) → reading_number sheet n result nodes links k room ≡ count_number (machine sheet).form result n nodes links
   unfolding reading_number
   number_counts e d = go (ltb list_limit n) refl
     where
-      listed : n ≤ list_limit → (b : Bool) → is_list result nodes links n ≡ b → tested_number sheet n (held_number (machine sheet) result n nodes links k room) ≡ count_number result n nodes links
-      listed h true q = absurd (d (count-few result n nodes links h ∙ ap {B = ℕ} (λ (b : Bool). cond (not b) 30 0) q))
+      listed : n ≤ list_limit → (b : Bool) → is_list (machine sheet).form result nodes links n ≡ b → tested_number sheet n (held_number (machine sheet) result n nodes links k room) ≡ count_number (machine sheet).form result n nodes links
+      listed h true q = absurd (d (count-few (machine sheet).form result n nodes links h ∙ ap {B = ℕ} (λ (b : Bool). cond (not b) 30 0) q))
       listed h false q =
           tested-last sheet n (held_number (machine sheet) result n nodes links k room) e h
           ∙ ap {B = ℕ} (λ (b : Bool). cond (not b) 30 (cond (leb (count_in result nodes links n) k) 31 (room_number held room))) q
-          ∙ sym (count-few result n nodes links h ∙ ap {B = ℕ} (λ (b : Bool). cond (not b) 30 0) q)
+          ∙ sym (count-few (machine sheet).form result n nodes links h ∙ ap {B = ℕ} (λ (b : Bool). cond (not b) 30 0) q)
 
-      go : (b : Bool) → ltb list_limit n ≡ b → tested_number sheet n (held_number (machine sheet) result n nodes links k room) ≡ count_number result n nodes links
-      go true q = let h = ltb-true list_limit n q in tested-seven sheet n (held_number (machine sheet) result n nodes links k room) e h ∙ sym (count-large result n nodes links h)
-      go false q = listed (ltb-false list_limit n q) (is_list result nodes links n) refl
+      go : (b : Bool) → ltb list_limit n ≡ b → tested_number sheet n (held_number (machine sheet) result n nodes links k room) ≡ count_number (machine sheet).form result n nodes links
+      go true q = let h = ltb-true list_limit n q in tested-seven sheet n (held_number (machine sheet) result n nodes links k room) e h ∙ sym (count-large (machine sheet).form result n nodes links h)
+      go false q = listed (ltb-false list_limit n q) (is_list (machine sheet).form result nodes links n) refl
 
-  module _ (e : input_number sheet ≡ 0) (h : n ≤ list_limit) (is : is_list result nodes links n ≡ true) where
+  module _ (e : input_number sheet ≡ 0) (h : n ≤ list_limit) (is : is_list (machine sheet).form result nodes links n ≡ true) where
     number-listed : number ≡ cond (leb (count_in result nodes links n) k) 31 (room_number held room)
     unfolding reading_number
     number-listed =
@@ -230,7 +238,7 @@ module _ (sheet : List ℕ) (below : Below 256 sheet) (n : ℕ) (result : List �
   pub reads-list : (told : Result Told Refusal) (run : List ℕ) → told ≡ reading_answer sheet n result nodes links k (length old) → run ≡ run_after sheet n result nodes links k old → ReadsList sheet n result nodes links k old told run
   reads-list told run e s h b r =
       let m = machine sheet in
-      let way = get_or (list_of n nodes links result) k [] in
+      let way = get_or (list_of (machine sheet).form n nodes links result) k [] in
       let held = answer-held sheet below n result nodes links h k b in
       let zero : reading_number sheet n result nodes links k (length old) ≡ 0 =
       number-room sheet n result nodes links k (length old) h.accepted h.few (answer-list sheet below n result nodes links h) (omega (arith, answer-count sheet below n result nodes links h))
@@ -264,7 +272,7 @@ module _ (sheet : List ℕ) (n : ℕ) (result : List ℕ) (nodes links k : ℕ) 
   zero_held z =
       let t = tested-zero sheet n (held_number sm result n nodes links k (length old)) z in
       let last : held_number sm result n nodes links k (length old) ≡ 0 = sym (tested-last sheet n (held_number sm result n nodes links k (length old)) t.0 t.1) ∙ z in
-      (t.0, go (is_list result nodes links n) (leb (count_in result nodes links n) k) last)
+      (t.0, go (is_list (machine sheet).form result nodes links n) (leb (count_in result nodes links n) k) last)
     where
       go : (b c : Bool) → cond (not b) 30 (cond c 31 (room_number read (length old))) ≡ 0 → room_number read (length old) ≡ 0
       go true true y = absurd (omega (arith, y))
@@ -282,7 +290,7 @@ module _ (sheet : List ℕ) (n : ℕ) (result : List ℕ) (nodes links k : ℕ) 
   is_true : input_number sheet ≡ 0 → (way : List ℕ) → read ≡ some way → length way ≤ length old → IsTrue sm (length way) (units_in (reading_cost sm (reading_of sm way))) (reading_of sm way).end (sets old 0 way)
   is_true e way r h =
       let front = stored-front old way h in
-      let is = (held-is (way_of result nodes links n k) way r).reading in
+      let is = (held-is (way_of (machine sheet).form result nodes links n k) way r).reading in
       record {
         room = omega (arith, length-sets old 0 way, h);
         reading = subst (λ (x : List ℕ). IsReading sm (reading_of sm x)) (sym front) is;
@@ -330,7 +338,7 @@ module _ (sheet : List ℕ) (below : Below 256 sheet) (n : ℕ) (result : List �
       (run-refused sheet n result nodes links k (number_of r) old (number-positive r) e)
 
   -- by the reading that is held
-  pub answered-held : input_number sheet ≡ 0 → n ≤ list_limit → is_list result nodes links n ≡ true → k < count_in result nodes links n → (told : Result Told Refusal) (run : List ℕ)
+  pub answered-held : input_number sheet ≡ 0 → n ≤ list_limit → is_list (machine sheet).form result nodes links n ≡ true → k < count_in result nodes links n → (told : Result Told Refusal) (run : List ℕ)
       → told ≡ held_told (machine sheet) (held_reading (machine sheet) result n nodes links k) (length old) → run ≡ held_after (held_reading (machine sheet) result n nodes links k) old → Answered told run
   answered-held e h is b told run t s =
       let held = held_reading (machine sheet) result n nodes links k in

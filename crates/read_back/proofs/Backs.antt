@@ -11,10 +11,13 @@ use lib.Seq.{take-suc, take-length, get_or-take, length-take-le}
 use borrow.Author.Tests.{lt-ltb, ne_eqb}
 use Rattle.tropical_weight.specs.Limits.{list_limit}
 use Rattle.sheet.specs.Words.{word}
-use Rattle.sheet.specs.Sheet.{Parts, no_start, link_count, node_count, next, count, parts_of, stated_links, stated_nodes}
+use Rattle.sheet.specs.declared.form.Form.{Form}
+use Rattle.sheet.specs.Sheet.{link_length, node_length, Parts, trailer_length, unit_fields, no_start, link_count, node_count, next, count, parts_of, stated_links, stated_nodes}
 use Rattle.sheet.specs.Machine.{Link, Machine, parts_for}
+use Rattle.sheet.proofs.Forms.{size-least}
+use Rattle.sheet.proofs.Round.{Below}
 use Rattle.sheet.proofs.Fields.{get_d_words, read-fields}
-use Rattle.sheet.proofs.Encoding.{links-are, nodes-are, next-is, start_is}
+use Rattle.sheet.proofs.Encoding.{links-are, nodes-are, next-is, start_is, form-is}
 use Rattle.machine.specs.Readings.{no_link, Reading, IsReading, reading_of}
 use Rattle.machine.specs.Parents.{best}
 use Rattle.machine.proofs.Lists.{map-mem, get_or-mem, get_d_map}
@@ -53,7 +56,7 @@ module _ (r : Result) (x : Storable r) (rest : List ℕ) where
   links = length r.machine.links
 
   abbrev sheet : List ℕ
-  sheet = take (16 * links + 12 * nodes + 20) bytes
+  sheet = take (link_length * links + node_length * nodes + trailer_length r.machine.form) bytes
 
   stated-links : stated_links sheet ≡ links
   stated-links = sym (read-fields sheet).links-are ∙ ap link_count (parts-read r x rest) ∙ links-are r.machine
@@ -63,45 +66,47 @@ module _ (r : Result) (x : Storable r) (rest : List ℕ) where
 
   next-at : (l : ℕ) → l < links → next_at bytes l ≡ (get_or r.machine.links l no_link).next
   next-at l h =
-      sym (word-take bytes (16 * links + 12 * nodes + 20) (16 * l + 12) (omega arith)) ∙ sym ((read-fields sheet).next-is l (omega (arith, stated-links))) ∙ ap (λ (p : Parts). next p l) (parts-read r x rest) ∙ next-is r.machine l no_link h
+      sym (word-take bytes (link_length * links + node_length * nodes + trailer_length r.machine.form) (link_length * l + 12) (omega arith)) ∙ sym ((read-fields sheet).next-is l (omega (arith, stated-links))) ∙ ap (λ (p : Parts). next p l) (parts-read r x rest) ∙ next-is r.machine l no_link h
 
-  number-at : (l : ℕ) → l < links → number_at bytes nodes links l ≡ get_or (map word_for r.repeats) l 0
-  number-at l h = sym (get_d_words bytes (16 * links + 12 * nodes + 20) links l h) ∙ ap (λ (ws : List ℕ). get_or ws l 0) (words-read r x rest)
+  number-at : (l : ℕ) → l < links → number_at r.machine.form bytes nodes links l ≡ get_or (map word_for r.repeats) l 0
+  number-at l h = sym (get_d_words bytes (link_length * links + node_length * nodes + trailer_length r.machine.form) links l h) ∙ ap (λ (ws : List ℕ). get_or ws l 0) (words-read r x rest)
 
-  state-at : (n : ℕ) → start_state bytes nodes links n ≡ (parts_for r.machine).start
+  state-at : start_state bytes nodes links ≡ (parts_for r.machine).start
   unfolding parts_of
-  state-at n =
-      sym (word-take bytes (16 * links + 12 * nodes + 20) (16 * links + 12 * nodes + 16) (omega arith))
-      ∙ ap (word sheet) (let z : 16 * links + 12 * nodes + 16 ≡ length sheet - 20 + 16 = omega (arith, length-take-le (16 * links + 12 * nodes + 20) bytes (omega (arith, result-long r x rest))) in z)
+  state-at =
+      let f = r.machine.form in
+      sym (word-take bytes (link_length * links + node_length * nodes + trailer_length f) (link_length * links + node_length * nodes + 16) (omega (arith, size-least f)))
+      ∙ ap (word sheet) (let z : link_length * links + node_length * nodes + 16 ≡ length sheet - trailer_length f + 16 = omega (arith, size-least f, length-take-le (link_length * links + node_length * nodes + trailer_length f) bytes (omega (arith, result-long r x rest))) in z)
+      ∙ ap (λ (g : Form). word sheet (length sheet - trailer_length g + 16)) (sym (ap (λ (p : Parts). p.form) (parts-read r x rest) ∙ form-is r.machine))
       ∙ ap (λ (p : Parts). p.start) (parts-read r x rest)
 
   starts-at : 0 < nodes → start_links bytes nodes links ≡ count (parts_for r.machine) 0
   starts-at h =
-      sym (word-take bytes (16 * links + 12 * nodes + 20) (16 * links) (omega arith))
-      ∙ ap (word sheet) (let z : 16 * links ≡ 16 * stated_links sheet + 12 * 0 = omega (arith, stated-links) in z)
+      sym (word-take bytes (link_length * links + node_length * nodes + trailer_length r.machine.form) (link_length * links) (omega arith))
+      ∙ ap (word sheet) (let z : link_length * links ≡ link_length * stated_links sheet + node_length * 0 = omega (arith, stated-links) in z)
       ∙ sym ((read-fields sheet).count-is 0 (omega (arith, stated-nodes))) ∙ ap (λ (p : Parts). count p 0) (parts-read r x rest)
 
 -- What the bytes of a result say is the list for n that it holds.
 pub record ReadsBack (n : ℕ) (r : Result) (rest : List ℕ) : Type 0 where
-  pub long : answer_bytes (result_bytes r ++ rest) (length r.machine.finals) (length r.machine.links) ≤ length (result_bytes r ++ rest)
+  pub long : answer_bytes r.machine.form (result_bytes r ++ rest) (length r.machine.finals) (length r.machine.links) ≤ length (result_bytes r ++ rest)
   pub counts : count_in (result_bytes r ++ rest) (length r.machine.finals) (length r.machine.links) n ≡ length (list_in n r rest)
-  pub each : (k : ℕ) → k < length (list_in n r rest) → way_of (result_bytes r ++ rest) (length r.machine.finals) (length r.machine.links) n k ≡ some (get_or (list_in n r rest) k [])
+  pub each : (k : ℕ) → k < length (list_in n r rest) → way_of r.machine.form (result_bytes r ++ rest) (length r.machine.finals) (length r.machine.links) n k ≡ some (get_or (list_in n r rest) k [])
 
 -- ---- no readings
-empty-reads : (n : ℕ) (rest : List ℕ) → ReadsBack n empty rest
-empty-reads n rest = record {
-  long = result-long empty empty-storable rest;
-  counts = sym (ap length (empty_back n rest));
-  each = λ k h. absurd (omega (arith, ap length (empty_back n rest)));
+empty-reads : (f : Form) → Below 4294967296 (unit_fields f) → (n : ℕ) (rest : List ℕ) → ReadsBack n (empty f) rest
+empty-reads f u n rest = record {
+  long = result-long (empty f) (empty-storable f u) rest;
+  counts = sym (ap length (empty_back f u n rest));
+  each = λ k h. absurd (omega (arith, ap length (empty_back f u n rest)));
 }
 
 -- a state above the last, its link and the number that it tells: one step of a way
-one-step : (result : List ℕ) (nodes links before last q next number : ℕ) → last < q → q < nodes → only_link result nodes links before last q < links
-    → next_at result (only_link result nodes links before last q) ≡ next → next < q → number_at result nodes links (only_link result nodes links before last q) ≡ number
-    → way_from result nodes links before last nodes q ≡ told_before number (way_from result nodes links before last nodes next)
-one-step result nodes links before last q next number h inside link leads lower tells =
-    way_next result nodes links before last q h (λ i. lt-ltb q nodes inside i && lt-ltb (only_link result nodes links before last q) links link i && lt-ltb (next_at result (only_link result nodes links before last q)) q (omega (arith, leads)) i)
-    ∙ λ i. told_before (tells i) (way_from result nodes links before last nodes (leads i))
+one-step : (form : Form) (result : List ℕ) (nodes links before last q next number : ℕ) → last < q → q < nodes → only_link result nodes links before last q < links
+    → next_at result (only_link result nodes links before last q) ≡ next → next < q → number_at form result nodes links (only_link result nodes links before last q) ≡ number
+    → way_from form result nodes links before last nodes q ≡ told_before number (way_from form result nodes links before last nodes next)
+one-step form result nodes links before last q next number h inside link leads lower tells =
+    way_next form result nodes links before last q h (λ i. lt-ltb q nodes inside i && lt-ltb (only_link result nodes links before last q) links link i && lt-ltb (next_at result (only_link result nodes links before last q)) q (omega (arith, leads)) i)
+    ∙ λ i. told_before (tells i) (way_from form result nodes links before last nodes (leads i))
 
 -- ---- n = 1
 module _ (m : Machine) (y : Reading) (f : OneFits m y) (rest : List ℕ) where
@@ -121,21 +126,21 @@ module _ (m : Machine) (y : Reading) (f : OneFits m y) (rest : List ℕ) where
   T = length one.machine.links
 
   -- from state q the first q links remain, the last of them first
-  back_is : (q : ℕ) → q ≤ length y.run → way_from one_bytes N T 0 0 N q ≡ some (reverse (take q ws))
-  back_is zero h = way_end one_bytes N T 0 0 N 0 (omega arith)
+  back_is : (q : ℕ) → q ≤ length y.run → way_from m.form one_bytes N T 0 0 N q ≡ some (reverse (take q ws))
+  back_is zero h = way_end m.form one_bytes N T 0 0 N 0 (omega arith)
   back_is (suc q) h =
       let in-links : q < T = omega (arith, One.links-long m y) in
       let at : only_link one_bytes N T 0 0 (suc q) ≡ q = omega arith in
-      one-step one_bytes N T 0 0 (suc q) q (get_or ws q 0) (omega arith) (omega (arith, One.nodes-long m y)) (omega (arith, at, in-links))
+      one-step m.form one_bytes N T 0 0 (suc q) q (get_or ws q 0) (omega arith) (omega (arith, One.nodes-long m y)) (omega (arith, at, in-links))
       (ap (next_at one_bytes) at ∙ next-at one (best-storable m y f) rest q in-links ∙ ap (λ (k : Link). k.next) (One.link_at m y q no_link (omega arith))) (omega arith)
-      (ap (number_at one_bytes N T) at ∙ number-at one (best-storable m y f) rest q in-links ∙ ap (λ (k : List ℕ). get_or k q 0) (words_are m y))
+      (ap (number_at m.form one_bytes N T) at ∙ number-at one (best-storable m y f) rest q in-links ∙ ap (λ (k : List ℕ). get_or k q 0) (words_are m y))
       ∙ ap (told_before (get_or ws q 0)) (back_is q (omega arith))
       ∙ ap (λ (r : List ℕ). some (r ++ reverse (take q ws))) (told-some (get_or ws q 0) (λ z. omega (arith, z, One.word_fits m y f q (omega arith))))
       ∙ ap some (sym (ap reverse (take-suc ws q 0 (omega (arith, length-reverse y.run))) ∙ reverse-append (take q ws) (get_or ws q 0 ∷ [])))
 
-  all_back : (k : ℕ) → way_of one_bytes N T 1 k ≡ some y.run
+  all_back : (k : ℕ) → way_of m.form one_bytes N T 1 k ≡ some y.run
   all_back k =
-      ap (way_from one_bytes N T 0 0 N) (state-at one (best-storable m y f) rest 1 ∙ start_is one.machine)
+      ap (way_from m.form one_bytes N T 0 0 N) (state-at one (best-storable m y f) rest ∙ start_is one.machine)
       ∙ back_is (length y.run) (omega arith)
       ∙ ap some (ap (λ (k : ℕ). reverse (take k ws)) (sym (length-reverse y.run)) ∙ ap reverse (take-length ws) ∙ reverse-reverse y.run)
 
@@ -175,11 +180,11 @@ module _ (m : Machine) (s : Search) (w : Numbered s) (x : Fits m s) (rest : List
 
   -- a state from 2 on has the link of its entry, which leads to that of the one it came from
   step_is : (i j : ℕ) → i < length (later s) → get_or (later s) i 0 ≡ j → state_of s (came_from s j) < 2 + i
-      → way_from many_bytes states total (length s.listed) 1 states (2 + i) ≡ told_before (word_for (input_of s j)) (way_from many_bytes states total (length s.listed) 1 states (state_of s (came_from s j)))
+      → way_from m.form many_bytes states total (length s.listed) 1 states (2 + i) ≡ told_before (word_for (input_of s j)) (way_from m.form many_bytes states total (length s.listed) 1 states (state_of s (came_from s j)))
   step_is i j h e lower =
-      one-step many_bytes states total (length s.listed) 1 (2 + i) (state_of s (came_from s j)) (word_for (input_of s j)) (omega arith) (omega (arith, nodes-long m s)) (omega (arith, at, in-links))
+      one-step m.form many_bytes states total (length s.listed) 1 (2 + i) (state_of s (came_from s j)) (word_for (input_of s j)) (omega arith) (omega (arith, nodes-long m s)) (omega (arith, at, in-links))
       (ap (next_at many_bytes) at ∙ next-at many storable rest l in-links ∙ ap (λ (k : Link). k.next) (link-entry m s l i no_link h refl ∙ ap (entry_link m s) e) ∙ entry_next m s j) lower
-      (ap (number_at many_bytes states total) at ∙ number-at many storable rest l in-links ∙ get_d_map word_for many.repeats l none 0 (omega (arith, storable.word_each, in-links)) ∙ ap word_for (repeat-entry m s l i h refl ∙ ap (input_of s) e))
+      (ap (number_at m.form many_bytes states total) at ∙ number-at many storable rest l in-links ∙ get_d_map word_for many.repeats l none 0 (omega (arith, storable.word_each, in-links)) ∙ ap word_for (repeat-entry m s l i h refl ∙ ap (input_of s) e))
     where
       l : ℕ
       l = length s.listed + i
@@ -191,11 +196,11 @@ module _ (m : Machine) (s : Search) (w : Numbered s) (x : Fits m s) (rest : List
       in-links = omega (arith, links-long m s)
 
   -- the numbers along a state's way are the inputs of its entry and those that it came from
-  from_is : (g j : ℕ) → j ≤ g → j < length s.entries → OnWay s j → way_from many_bytes states total (length s.listed) 1 states (state_of s j) ≡ some (run_of s.entries g j)
+  from_is : (g j : ℕ) → j ≤ g → j < length s.entries → OnWay s j → way_from m.form many_bytes states total (length s.listed) 1 states (state_of s j) ≡ some (run_of s.entries g j)
   unfolding run_of state_of
-  from_is zero zero b h o = way_end many_bytes states total (length s.listed) 1 states 1 (omega arith)
+  from_is zero zero b h o = way_end m.form many_bytes states total (length s.listed) 1 states 1 (omega arith)
   from_is zero (suc j) b h o = absurd (omega arith)
-  from_is (suc g) zero b h o = way_end many_bytes states total (length s.listed) 1 states 1 (omega arith) ∙ ap some (sym (run-first s.entries w.zeroth (suc g)))
+  from_is (suc g) zero b h o = way_end m.form many_bytes states total (length s.listed) 1 states 1 (omega arith) ∙ ap some (sym (run-first s.entries w.zeroth (suc g)))
   from_is (suc g) (suc j) b h o =
       let r = kept_at s (length s.entries - 1) j (omega arith) o in
       let i = length (kept s j) in
@@ -209,21 +214,21 @@ module _ (m : Machine) (s : Search) (w : Numbered s) (x : Fits m s) (rest : List
   unfolding runs
   runs-long = length-map s.listed (λ i. run_of s.entries (length s.entries) i)
 
-  run_is : (k : ℕ) → k < length s.listed → way_from many_bytes states total (length s.listed) 1 states (next_at many_bytes k) ≡ some (get_or (runs s) k [])
+  run_is : (k : ℕ) → k < length s.listed → way_from m.form many_bytes states total (length s.listed) 1 states (next_at many_bytes k) ≡ some (get_or (runs s) k [])
   unfolding runs
   run_is k h =
       let i = get_or s.listed k 0 in
       let mem = get_or-mem s.listed k 0 h in
-      ap (way_from many_bytes states total (length s.listed) 1 states) (start-next k h)
+      ap (way_from m.form many_bytes states total (length s.listed) 1 states) (start-next k h)
       ∙ from_is (length s.entries) i (omega (arith, w.inside i mem)) (w.inside i mem) (way-listed s i mem)
       ∙ ap some (sym (get_d_map (λ i. run_of s.entries (length s.entries) i) s.listed k 0 [] h))
 
   -- the way of reading k, by the start's links and the last state of such an n
-  way-is : (n k : ℕ) → (n ≡ 1 → ⊥) → k < length s.listed → way_of many_bytes states total n k ≡ some (get_or (runs s) k [])
+  way-is : (n k : ℕ) → (n ≡ 1 → ⊥) → k < length s.listed → way_of m.form many_bytes states total n k ≡ some (get_or (runs s) k [])
   way-is n k d h =
-      ap (λ (b : Bool). way_from many_bytes states total (cond b 0 (start_links many_bytes states total)) (cond b 0 1) states (cond b (start_state many_bytes states total n) (cond (ltb k total) (next_at many_bytes k) 0))) (ne_eqb n 1 d)
-      ∙ ap (λ (b : Bool). way_from many_bytes states total (start_links many_bytes states total) 1 states (cond b (next_at many_bytes k) 0)) (lt-ltb k total (omega (arith, links-long m s)))
-      ∙ ap (λ (before : ℕ). way_from many_bytes states total before 1 states (next_at many_bytes k)) starts ∙ run_is k h
+      ap (λ (b : Bool). way_from m.form many_bytes states total (cond b 0 (start_links many_bytes states total)) (cond b 0 1) states (cond b (start_state many_bytes states total) (cond (ltb k total) (next_at many_bytes k) 0))) (ne_eqb n 1 d)
+      ∙ ap (λ (b : Bool). way_from m.form many_bytes states total (start_links many_bytes states total) 1 states (cond b (next_at many_bytes k) 0)) (lt-ltb k total (omega (arith, links-long m s)))
+      ∙ ap (λ (before : ℕ). way_from m.form many_bytes states total before 1 states (next_at many_bytes k)) starts ∙ run_is k h
 
   many-reads : (n : ℕ) → (n ≡ 1 → ⊥) → ReadsBack n (list_result m s) rest
   many-reads n d =
@@ -243,8 +248,8 @@ module _ (m : Machine) (a : Accepted m) where
   result-reads n b rest = go n b (best m) refl
     where
       go : (n : ℕ) → n ≤ list_limit → (o : Option Reading) → best m ≡ o → ReadsBack n (result_by m n o) rest
-      go n b none e = empty-reads n rest
-      go zero b (some y) e = empty-reads 0 rest
+      go n b none e = empty-reads m.form a.unit-word n rest
+      go zero b (some y) e = empty-reads m.form a.unit-word 0 rest
       go (suc zero) b (some y) e =
           let i = (best-is m a.climbs y e).0 in
           one-reads m y (one-fits m a y i) rest (best-back m y (one-fits m a y i) i.weight i.marked rest)

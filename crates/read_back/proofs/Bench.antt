@@ -5,6 +5,7 @@ use mathlib.Core.Option.{none, some}
 use mathlib.Core.List.{List, [], ◌∷◌}
 use Prim.Native.Nat.{ℕ}
 use lib.ListN.{set, take}
+use Rattle.sheet.specs.declared.form.Form.TheVariants as Form
 use Rattle.sheet.specs.Words.{word, bytes_of_all}
 use Rattle.machine.proofs.Bench.{machine_a}
 use Rattle.read_back.specs.Way.{count_in, is_list, way_from, way_of}
@@ -53,24 +54,24 @@ one =
     ∷ 2 ∷ 0 ∷ [])
 
 -- links 0 and 2, then links 1 and 4; there is no third
-both : (is_list two 9 9 2 ≡ true) × (count_in two 9 9 2 ≡ 2) × (way_of two 9 9 2 0 ≡ some (0 ∷ 2 ∷ [])) × (way_of two 9 9 2 1 ≡ some (1 ∷ 4 ∷ []))
+both : (is_list Form.Short two 9 9 2 ≡ true) × (count_in two 9 9 2 ≡ 2) × (way_of Form.Short two 9 9 2 0 ≡ some (0 ∷ 2 ∷ [])) × (way_of Form.Short two 9 9 2 1 ≡ some (1 ∷ 4 ∷ []))
 unfolding two word way_from
 both = (refl, refl, refl, refl)
 
-best : (is_list one 3 2 1 ≡ true) × (count_in one 3 2 1 ≡ 1) × (way_of one 3 2 1 0 ≡ some (0 ∷ 2 ∷ []))
+best : (is_list Form.Short one 3 2 1 ≡ true) × (count_in one 3 2 1 ≡ 1) × (way_of Form.Short one 3 2 1 0 ≡ some (0 ∷ 2 ∷ []))
 unfolding one word way_from
 best = (refl, refl, refl)
 
 -- a byte too short; asked for fewer; counts that are not the result's; the word of link 5 made 1, which leaves no node that is reached; state 7 led to itself
-damaged : (is_list (take 307 two) 9 9 2 ≡ false) × (is_list two 9 9 0 ≡ false) × (is_list two 9 10 2 ≡ false)
+damaged : (is_list Form.Short (take 307 two) 9 9 2 ≡ false) × (is_list Form.Short two 9 9 0 ≡ false) × (is_list Form.Short two 9 10 2 ≡ false)
 unfolding two word
 damaged = (refl, refl, refl)
 
-other-run : (way_of (set two 292 1) 9 9 2 0 ≡ some (1 ∷ 2 ∷ [])) × (if_reading machine_a (way_of (set two 292 1) 9 9 2 0) ≡ none)
+other-run : (way_of Form.Short (set two 292 1) 9 9 2 0 ≡ some (1 ∷ 2 ∷ [])) × (if_reading machine_a (way_of Form.Short (set two 292 1) 9 9 2 0) ≡ none)
 unfolding two word way_from
 other-run = (refl, refl)
 
-no_way : way_of (set two 124 7) 9 9 2 0 ≡ none
+no_way : way_of Form.Short (set two 124 7) 9 9 2 0 ≡ none
 unfolding two word way_from
 no_way = refl
 
@@ -80,3 +81,20 @@ readings = (refl, refl, refl)
 
 no-readings : (reads_to machine_a [] ≡ none) × (reads_to machine_a (0 ∷ []) ≡ none) × (reads_to machine_a (2 ∷ []) ≡ none) × (reads_to machine_a (0 ∷ 4 ∷ []) ≡ none) × (reads_to machine_a (5 ∷ []) ≡ none)
 no-readings = (refl, refl, refl, refl, refl)
+
+-- the best reading's result of the same machine in 256ths ends in the longer trailer; read as the shorter one, its sixth field would be the word of link 0
+unfoldable fine : List ℕ
+unfolding bytes_of_all
+fine =
+    bytes_of_all
+    (3 ∷ 3 ∷ 0x3e80_0000 ∷ 0
+    ∷ 1 ∷ 1 ∷ 0x3f80_0000 ∷ 1
+    ∷ 0 ∷ 1 ∷ 0x3f00_0000
+    ∷ 1 ∷ 0 ∷ 0
+    ∷ 1 ∷ 0 ∷ 0
+    ∷ 0 ∷ 32 ∷ 3 ∷ 2 ∷ 2 ∷ 256
+    ∷ 2 ∷ 0 ∷ [])
+
+by-form : (way_of (Form.Long 256) fine 3 2 1 0 ≡ some (0 ∷ 2 ∷ [])) × (way_of Form.Short fine 3 2 1 0 ≡ some (2 ∷ 256 ∷ [])) × (is_list (Form.Long 256) fine 3 2 1 ≡ true) × (is_list (Form.Long 256) (take 99 fine) 3 2 1 ≡ false) × (is_list (Form.Long 256) one 3 2 1 ≡ false)
+unfolding fine one word way_from
+by-form = (refl, refl, refl, refl, refl)

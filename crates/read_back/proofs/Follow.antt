@@ -13,23 +13,22 @@ use lib.ListN.{length}
 use lib.Ieee.{binary32, of_bits}
 use borrow.Author.Tests.{eq-eqb, ne_eqb, eqb-true, ltb-true, lt-ltb}
 use Rattle.tropical_weight.specs.Tropical.{Tropical, fin, inf, ◌⊗◌}
-use Rattle.tropical_weight.specs.Limits.{unit}
 use Rattle.tropical_weight.specs.Grid.{units_of}
 use Rattle.tropical_weight.proofs.Semiring.{is_finite, finite-⊗, is-finite}
 use Rattle.sheet.specs.Words.{word}
 use Rattle.sheet.specs.Below.{sum_below}
 use Rattle.sheet.specs.declared.tr.Trailer.{Trailer}
-use Rattle.sheet.specs.Sheet.{no_start, barred_bits}
+use Rattle.sheet.specs.Sheet.{link_length, no_start, barred_bits}
 use Rattle.sheet.specs.Records.{count_at, mark_at, final_at, first_link}
 use Rattle.sheet.specs.Accepted.{ending_at}
-use Rattle.sheet.specs.Machine.{Machine, machine, weight_of}
+use Rattle.sheet.specs.Machine.{Machine, unit_in, machine, weight_of}
 use Rattle.sheet.proofs.Apart.{both}
 use Rattle.sheet.proofs.Below.{split_at}
 use Rattle.sheet.proofs.NodeSources.{first-within}
 use Rattle.machine.specs.declared.climbing.Machine.{Machine as Climbing}
 use Rattle.machine.specs.Readings.{link, final, final_weight, node_or, IsRun, run_cost, IsReading, reading_of, reading_cost, end_from}
 use Rattle.machine.proofs.Runs.{run_ends}
-use Rattle.machine.proofs.SheetFields.{SheetFields, sheet-fields, marked-final, unmarked-final}
+use Rattle.machine.proofs.SheetFields.{SheetFields, sheet-fields}
 use Rattle.read_back.specs.declared.walk.Walk.{Walk}
 use Rattle.read_back.specs.Way.{told_before, number_told}
 use Rattle.read_back.specs.Follows.{leaves, goes_by, follows, is_ending, ends_at, ends_from, reads_to}
@@ -158,10 +157,10 @@ module _ (m : Machine) where
 
 -- ---- a walk over a sheet
 -- a weight's field bars, or is finite
-finite-bits : (bits : ℕ) → is_finite (weight_of bits) ≡ not (eqb bits barred_bits)
-finite-bits bits = go (eqb bits barred_bits)
+finite-bits : (j bits : ℕ) → is_finite (weight_of j bits) ≡ not (eqb bits barred_bits)
+finite-bits j bits = go (eqb bits barred_bits)
   where
-    go : (b : Bool) → is_finite (cond b inf (fin (units_of unit (of_bits binary32 bits)))) ≡ not b
+    go : (b : Bool) → is_finite (cond b inf (fin (units_of j (of_bits binary32 bits)))) ≡ not b
     go true = refl
     go false = refl
 
@@ -204,7 +203,7 @@ module _ (w : Walk) where
 
   -- its node's links are those from its first on
   part_end : w.at.first + count_at sheet T w.at.node ≤ T
-  part_end = omega (arith, w.at.begins, first-within sheet T w.at.sheet.nodes w.at.sheet.start w.at.sheet.accepted w.at.sheet.stated w.at.node w.at.inside)
+  part_end = omega (arith, w.at.begins, first-within sheet T w.at.sheet.nodes w.at.sheet.start w.at.sheet.form w.at.sheet.accepted w.at.sheet.stated w.at.node w.at.inside)
 
   pub leaves-here : (l : ℕ) → w.at.first ≤ l → l < w.at.first + count_at sheet w.at.sheet.links w.at.node → leaves (machine sheet) w.at.node l ≡ true
   leaves-here l a b = leaves_of m w.at.node l (omega (arith, part_end, f.links-are)) (f.source-at w.at.node l w.at.inside (omega (arith, w.at.begins)) (omega (arith, w.at.begins)))
@@ -224,23 +223,23 @@ module _ (w : Walk) where
       go false e = refl
 
   -- ---- whether it goes by a link
-  pub goes-here : (l : ℕ) → w.at.first ≤ l → l < w.at.first + count_at sheet w.at.sheet.links w.at.node → (word sheet (16 * l + 8) ≡ barred_bits → ⊥) → goes_by (machine sheet) w.at.node l ≡ true
+  pub goes-here : (l : ℕ) → w.at.first ≤ l → l < w.at.first + count_at sheet w.at.sheet.links w.at.node → (word sheet (link_length * l + 8) ≡ barred_bits → ⊥) → goes_by (machine sheet) w.at.node l ≡ true
   goes-here l a b d =
-      let passable : is_finite (link m l).weight ≡ true = ap is_finite (sym (f.weight-at l (omega (arith, part_end)))) ∙ finite-bits (word sheet (16 * l + 8)) ∙ ap not (ne_eqb (word sheet (16 * l + 8)) barred_bits d) in
+      let passable : is_finite (link m l).weight ≡ true = ap is_finite (sym (f.weight-at l (omega (arith, part_end)))) ∙ finite-bits (unit_in m) (word sheet (link_length * l + 8)) ∙ ap not (ne_eqb (word sheet (link_length * l + 8)) barred_bits d) in
       λ i. leaves-here l a b i && passable i
 
   pub goes_none : (l : ℕ) → ((w.at.first ≤ l) → (l < w.at.first + count_at sheet w.at.sheet.links w.at.node) → ⊥) → goes_by (machine sheet) w.at.node l ≡ false
   goes_none l d = ap (λ (b : Bool). b && is_finite (link m l).weight) (leaves_none l d)
 
-  pub goes-barred : (l : ℕ) → w.at.first ≤ l → l < w.at.first + count_at sheet w.at.sheet.links w.at.node → word sheet (16 * l + 8) ≡ barred_bits → goes_by (machine sheet) w.at.node l ≡ false
+  pub goes-barred : (l : ℕ) → w.at.first ≤ l → l < w.at.first + count_at sheet w.at.sheet.links w.at.node → word sheet (link_length * l + 8) ≡ barred_bits → goes_by (machine sheet) w.at.node l ≡ false
   goes-barred l a b e =
-      let shut : is_finite (link m l).weight ≡ false = ap is_finite (sym (f.weight-at l (omega (arith, part_end)))) ∙ finite-bits (word sheet (16 * l + 8)) ∙ ap not (eq-eqb (word sheet (16 * l + 8)) barred_bits e) in
+      let shut : is_finite (link m l).weight ≡ false = ap is_finite (sym (f.weight-at l (omega (arith, part_end)))) ∙ finite-bits (unit_in m) (word sheet (link_length * l + 8)) ∙ ap not (eq-eqb (word sheet (link_length * l + 8)) barred_bits e) in
       λ i. leaves-here l a b i && shut i
 
   -- what a link that leaves its node gives
   pub record OnBy (l : ℕ) : Type 0 where
     pub link-in : l < w.at.sheet.links
-    pub next-is : word sheet (16 * l + 12) ≡ (link (machine sheet) l).next
+    pub next-is : word sheet (link_length * l + 12) ≡ (link (machine sheet) l).next
     pub rises : w.at.node < (link (machine sheet) l).next
     pub inside : (link (machine sheet) l).next < w.at.sheet.nodes
 
@@ -254,6 +253,6 @@ module _ (w : Walk) where
   pub ending-is : (o : Maybe ℕ) → o ≡ ending_at sheet w.at.sheet.links w.at.node → ends_by o ≡ is_ending (final (machine sheet) w.at.node)
   ending-is o e = ap ends_by e ∙ go (eqb (mark_at sheet T w.at.node) 0) ∙ ap is_ending (sym (f.final-at w.at.node w.at.inside))
     where
-      go : (b : Bool) → ends_by (cond b None (Some (final_at sheet T w.at.node))) ≡ is_ending (cond b none (some (weight_of (final_at sheet T w.at.node))))
+      go : (b : Bool) → ends_by (cond b None (Some (final_at sheet T w.at.node))) ≡ is_ending (cond b none (some (weight_of (unit_in m) (final_at sheet T w.at.node))))
       go true = refl
-      go false = sym (finite-bits (final_at sheet T w.at.node))
+      go false = sym (finite-bits (unit_in m) (final_at sheet T w.at.node))

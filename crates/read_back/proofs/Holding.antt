@@ -21,7 +21,7 @@ use Rattle.read_back.specs.Follows.{follows, ends_at, ends_from, reads_to, run_b
 use Rattle.read_back.specs.Walks.{ended_by, outcome, Comes, Follows, Walked}
 use Rattle.read_back.specs.Answers.{units_in, reading_told, run_in}
 use Rattle.read_back.proofs.Ways.{stored-front}
-use Rattle.read_back.proofs.Follow.{reads-is, fields_in}
+use Rattle.read_back.proofs.Follow.{reads-is}
 
 -- ---- what a walk from the start finds
 module _ (m : Machine) where

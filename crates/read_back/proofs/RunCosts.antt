@@ -10,14 +10,16 @@ use lib.IntN.{ℤ}
 use lib.ListN.{length, get_or, drop}
 use lib.Seq.{drop-cons, drop-length}
 use lib.Ieee.{Float, binary32, add, of_bits}
-use Rattle.tropical_weight.specs.Limits.{unit, weight_limit, node_limit, sum_limit}
+use Rattle.tropical_weight.specs.Limits.{finest, weight_limit, node_limit, sum_limit}
 use Rattle.tropical_weight.specs.Tropical.{Tropical, fin, one, ◌⊗◌, times_all, Within}
 use Rattle.tropical_weight.specs.Grid.{of_t}
 use Rattle.tropical_weight.specs.Single.{add_all, Computes, Costs}
+use Rattle.tropical_weight.proofs.Exact.{one-of_t}
 use Rattle.tropical_weight.proofs.Semiring.{one-⊗}
 use Rattle.tropical_weight.proofs.Sums.{within-mono, limits}
 use Rattle.sheet.specs.Records.{mark_at, final_at}
-use Rattle.sheet.specs.Machine.{Machine, machine}
+use Rattle.sheet.specs.Machine.{Machine, unit_in, machine}
+use Rattle.sheet.proofs.Forms.{covered}
 use Rattle.machine.specs.declared.climbing.Machine.{Machine as Climbing}
 use Rattle.machine.specs.Readings.{link, final, final_weight, run_cost, IsReading, reading_of, reading_cost}
 use Rattle.machine.specs.Demand.{◌∈◌}
@@ -52,6 +54,12 @@ module _ (c : Climbing) (run : List ℕ) (reading : IsReading (machine c.sheet.b
   abbrev end : ℕ
   end = (reading_of m run).end
 
+  abbrev unit : ℕ
+  unit = unit_in (machine c.sheet.bytes.now)
+
+  fine : unit_in (machine c.sheet.bytes.now) ≤ finest
+  fine = covered (machine c.sheet.bytes.now).form
+
   f : SheetFields c.sheet.bytes.now c.sheet.links c.sheet.nodes (machine c.sheet.bytes.now)
   f = fields_in c
 
@@ -71,21 +79,22 @@ module _ (c : Climbing) (run : List ℕ) (reading : IsReading (machine c.sheet.b
 
   exact : (add_all (of_t unit one) (map (of_t unit) weights) ≡ of_t unit (times_all one weights)) × Within sum_limit (times_all one weights)
   exact =
-      reading-exact m f.climbs weight_limit f.small node_limit limits few (reading_of m run) reading unit (omega arith) weights (final_weight (final m end) ∷ []) refl
+      reading-exact m f.climbs weight_limit f.small node_limit limits few (reading_of m run) reading unit fine weights (final_weight (final m end) ∷ []) refl
 
   cost-is : times_all one weights ≡ run_cost m run
   cost-is = times-run m one run ∙ one-⊗ (run_cost m run)
 
   sum_is : run_sum bytes run ≡ of_t unit (run_cost m run)
   sum_is =
-      ap (add_all (of_t unit one)) (map_same (weight_at bytes) (λ l. of_t unit (link m l).weight) run (λ l q. f.link-value l (omega (arith, in-links l q, f.links-are))) ∙ sym (map-map (of_t unit) (λ l. (link m l).weight) run))
+      ap (λ (z : Float). add_all z (map (weight_at bytes) run)) (sym (one-of_t 0 (omega arith)) ∙ one-of_t unit fine)
+      ∙ ap (add_all (of_t unit one)) (map_same (weight_at bytes) (λ l. of_t unit (link m l).weight) run (λ l q. f.link-value l (omega (arith, in-links l q, f.links-are))) ∙ sym (map-map (of_t unit) (λ l. (link m l).weight) run))
       ∙ exact.0 ∙ ap (of_t unit) cost-is
 
   -- the final weight
   in-nodes : (reading_of (machine c.sheet.bytes.now) run).end < c.sheet.nodes
   in-nodes = omega (arith, final-in m end reading.weight reading.marked, f.nodes-are)
 
-  final-is : of_bits binary32 (final_at c.sheet.bytes.now c.sheet.links (reading_of (machine c.sheet.bytes.now) run).end) ≡ of_t unit (final_weight (final (machine c.sheet.bytes.now) (reading_of (machine c.sheet.bytes.now) run).end))
+  final-is : of_bits binary32 (final_at c.sheet.bytes.now c.sheet.links (reading_of (machine c.sheet.bytes.now) run).end) ≡ of_t (unit_in (machine c.sheet.bytes.now)) (final_weight (final (machine c.sheet.bytes.now) (reading_of (machine c.sheet.bytes.now) run).end))
   final-is = go (f.mark-at end in-nodes)
     where
       go : (mark_at bytes c.sheet.links end ≡ 0) ⊎ (mark_at bytes c.sheet.links end ≡ 1) → of_bits binary32 (final_at bytes c.sheet.links end) ≡ of_t unit (final_weight (final m end))
@@ -100,9 +109,9 @@ module _ (c : Climbing) (run : List ℕ) (reading : IsReading (machine c.sheet.b
 
   -- what the code adds up and answers
   pub cost-answers : (sum weight total : Float) (k : ℤ) → sum ≡ run_sum c.sheet.bytes.now run → weight ≡ of_bits binary32 (final_at c.sheet.bytes.now c.sheet.links (reading_of (machine c.sheet.bytes.now) run).end)
-      → Computes (add binary32) ◌⊗◌ sum weight total → Costs unit total k → fin k ≡ reading_cost (machine c.sheet.bytes.now) (reading_of (machine c.sheet.bytes.now) run)
+      → Computes (add binary32) ◌⊗◌ sum weight total → Costs (unit_in (machine c.sheet.bytes.now)) total k → fin k ≡ reading_cost (machine c.sheet.bytes.now) (reading_of (machine c.sheet.bytes.now) run)
   cost-answers sum weight total k s w t p =
       let within : Within sum_limit (fin reading.costs) = subst (Within sum_limit) reading.finite (reading-limit m f.climbs weight_limit f.small node_limit limits few (reading_of m run) reading) in
       let is : total ≡ of_t unit (reading_cost m (reading_of m run)) =
-      t.exact unit (omega arith) (run_cost m run) (final_weight (final m end)) (subst (Within sum_limit) cost-is exact.1) final-within (s ∙ sum_is) (w ∙ final-is) in
+      t.exact unit fine (run_cost m run) (final_weight (final m end)) (subst (Within sum_limit) cost-is exact.1) final-within (s ∙ sum_is) (w ∙ final-is) in
       ap fin (p.exact reading.costs within (is ∙ ap (of_t unit) reading.finite)) ∙ sym reading.finite

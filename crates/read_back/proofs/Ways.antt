@@ -5,12 +5,13 @@ use mathlib.Core.Option.{Option, none, some}
 use mathlib.Core.List.{List, [], ◌∷◌, ◌++◌}
 use Prim.Native.Nat.{ℕ, zero, suc, ◌+◌, ◌≤◌, ◌<◌}
 use native.Mathlib.Omega.{arith}
-use Rattle.std.specs.Prelude.{Option as Maybe, Some, None}
+use Rattle.std.specs.Prelude.{Some, None}
 use lib.Dec.{eqb, leb, ltb}
-use lib.ListN.{length, set, take, drop}
+use lib.ListN.{length, take, drop}
 use lib.Seq.{sets, sets-eq, take-append_seam}
 use borrow.Author.Tests.{le-leb, lt-leb, lt-ltb, le-ltb, eq-eqb, ne_eqb, ltb-true}
 use Rattle.sheet.specs.Sheet.{no_start}
+use Rattle.sheet.specs.declared.form.Form.{Form}
 use Rattle.sheet.proofs.Apart.{both}
 use Rattle.sheet.proofs.Bytes.{sets-append}
 use Rattle.read_back.specs.Way.{next_at, number_told, told_by, told, told_before, number_at, only_link, falls, way_from}
@@ -39,21 +40,21 @@ pub stored-front : (run way : List ℕ) → length way ≤ length run → take (
 stored-front run way h = ap (take (length way)) (sets-eq way run 0 (omega arith)) ∙ take-append_seam way (drop (0 + length way) run)
 
 -- ---- from state to state
-module _ (result : List ℕ) (nodes links before last : ℕ) where
+module _ (form : Form) (result : List ℕ) (nodes links before last : ℕ) where
   abbrev only : ℕ → ℕ
   only q = only_link result nodes links before last q
 
   abbrev way : ℕ → ℕ → Option (List ℕ)
-  way k q = way_from result nodes links before last k q
+  way k q = way_from form result nodes links before last k q
 
   abbrev ended : ℕ → Option (List ℕ)
   ended q = cond (eqb q last) (some []) none
 
   abbrev on : ℕ → ℕ → Option (List ℕ)
-  on k q = told_before (number_at result nodes links (only q)) (way k (next_at result (only q)))
+  on k q = told_before (number_at form result nodes links (only q)) (way k (next_at result (only q)))
 
   -- at the last state, and below it
-  pub way_end : (k q : ℕ) → q ≤ last → way_from result nodes links before last k q ≡ cond (eqb q last) (some []) none
+  pub way_end : (k q : ℕ) → q ≤ last → way_from form result nodes links before last k q ≡ cond (eqb q last) (some []) none
   unfolding way_from
   way_end zero q h = refl
   way_end (suc k) q h = ap (λ (b : Bool). cond b (ended q) (cond (falls result nodes links before last q) (on k q) none)) (le-leb q last h)
@@ -88,24 +89,24 @@ module _ (result : List ℕ) (nodes links before last : ℕ) where
           → cond (leb q last) (ended q) (cond c (on j q) none) ≡ cond (leb q last) (ended q) (cond c (on k q) none)
       go true e ih =
           let l = falls-lower q e in
-          ap (λ (o : Option (List ℕ)). cond (leb q last) (ended q) (told_before (number_at result nodes links (only q)) o)) (ih (next_at result (only q)) (omega (arith, l.2)) (omega (arith, l.2)))
+          ap (λ (o : Option (List ℕ)). cond (leb q last) (ended q) (told_before (number_at form result nodes links (only q)) o)) (ih (next_at result (only q)) (omega (arith, l.2)) (omega (arith, l.2)))
       go false e ih = refl
 
   -- along a state's only link, and where it has none
   pub way_next : (q : ℕ) → last < q → falls result nodes links before last q ≡ true
-      → way_from result nodes links before last nodes q ≡ told_before (number_at result nodes links (only_link result nodes links before last q)) (way_from result nodes links before last nodes (next_at result (only_link result nodes links before last q)))
+      → way_from form result nodes links before last nodes q ≡ told_before (number_at form result nodes links (only_link result nodes links before last q)) (way_from form result nodes links before last nodes (next_at result (only_link result nodes links before last q)))
   unfolding way_from
   way_next q h e = go nodes (omega (arith, (falls-lower q e).0))
     where
-      go : (k : ℕ) → q ≤ k → way k q ≡ told_before (number_at result nodes links (only q)) (way nodes (next_at result (only q)))
+      go : (k : ℕ) → q ≤ k → way k q ≡ told_before (number_at form result nodes links (only q)) (way nodes (next_at result (only q)))
       go zero b = absurd (omega arith)
       go (suc k) b =
           let l = falls-lower q e in
           ap (λ (c : Bool). cond c (ended q) (cond (falls result nodes links before last q) (on k q) none)) (lt-leb q last h)
           ∙ ap (λ (c : Bool). cond c (on k q) none) e
-          ∙ ap (told_before (number_at result nodes links (only q))) (way-more k nodes (next_at result (only q)) (omega (arith, l.2)) (omega (arith, l.2, l.0)))
+          ∙ ap (told_before (number_at form result nodes links (only q))) (way-more k nodes (next_at result (only q)) (omega (arith, l.2)) (omega (arith, l.2, l.0)))
 
-  pub way-none : (q : ℕ) → last < q → falls result nodes links before last q ≡ false → way_from result nodes links before last nodes q ≡ none
+  pub way-none : (q : ℕ) → last < q → falls result nodes links before last q ≡ false → way_from form result nodes links before last nodes q ≡ none
   unfolding way_from
   way-none q h e = go nodes
     where
@@ -119,22 +120,22 @@ module _ (result : List ℕ) (nodes links before last : ℕ) where
   -- a state above the last falls, and its way is its number and the way from there
   pub record Goes (q : ℕ) (rest : List ℕ) : Type 0 where
     pub lower : (q < nodes) × (only_link result nodes links before last q < links) × (next_at result (only_link result nodes links before last q) < q)
-    pub from : way_from result nodes links before last nodes (next_at result (only_link result nodes links before last q)) ≡ some (run_in (way_from result nodes links before last nodes (next_at result (only_link result nodes links before last q))))
-    pub is : rest ≡ told (number_at result nodes links (only_link result nodes links before last q)) ++ run_in (way_from result nodes links before last nodes (next_at result (only_link result nodes links before last q)))
+    pub from : way_from form result nodes links before last nodes (next_at result (only_link result nodes links before last q)) ≡ some (run_in (way_from form result nodes links before last nodes (next_at result (only_link result nodes links before last q))))
+    pub is : rest ≡ told (number_at form result nodes links (only_link result nodes links before last q)) ++ run_in (way_from form result nodes links before last nodes (next_at result (only_link result nodes links before last q)))
 
-  pub way-goes : (q : ℕ) (rest : List ℕ) → last < q → way_from result nodes links before last nodes q ≡ some rest → Goes q rest
+  pub way-goes : (q : ℕ) (rest : List ℕ) → last < q → way_from form result nodes links before last nodes q ≡ some rest → Goes q rest
   way-goes q rest h e = go (falls result nodes links before last q) refl
     where
-      there : (o : Option (List ℕ)) → told_before (number_at result nodes links (only q)) o ≡ some rest → (o ≡ some (run_in o)) × (rest ≡ told (number_at result nodes links (only q)) ++ run_in o)
+      there : (o : Option (List ℕ)) → told_before (number_at form result nodes links (only q)) o ≡ some rest → (o ≡ some (run_in o)) × (rest ≡ told (number_at form result nodes links (only q)) ++ run_in o)
       there none z = let y : ◌≡◌ {A = ℕ} 0 1 = cc in absurd (omega arith)
-      there (some r) z = let y : told (number_at result nodes links (only q)) ++ r ≡ rest = cc in (refl, sym y)
+      there (some r) z = let y : told (number_at form result nodes links (only q)) ++ r ≡ rest = cc in (refl, sym y)
 
       go : (c : Bool) → falls result nodes links before last q ≡ c → Goes q rest
       go true f = let t = there (way nodes (next_at result (only q))) (sym (way_next q h f) ∙ e) in record { lower = falls-lower q f; from = t.0; is = t.1 }
       go false f = let z : none ≡ some rest = sym (way-none q h f) ∙ e in let y : ◌≡◌ {A = ℕ} 0 1 = cc in absurd (omega arith)
 
   -- at the last state nothing is left
-  pub way-over : (q : ℕ) (rest : List ℕ) → q ≤ last → way_from result nodes links before last nodes q ≡ some rest → rest ≡ []
+  pub way-over : (q : ℕ) (rest : List ℕ) → q ≤ last → way_from form result nodes links before last nodes q ≡ some rest → rest ≡ []
   way-over q rest h e = go (eqb q last) (sym (way_end nodes q h) ∙ e)
     where
       go : (b : Bool) → cond b (some []) none ≡ some rest → rest ≡ []

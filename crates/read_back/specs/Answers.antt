@@ -7,6 +7,7 @@ use Rattle.tropical_weight.specs.Tropical.{Tropical, fin, inf}
 use Rattle.sheet.specs.Machine.{Machine, machine}
 use Rattle.machine.specs.Readings.{reading_of, reading_cost}
 use Rattle.shortest_path.specs.Outcome.{tested_number}
+use Rattle.sheet.specs.declared.form.Form.{Form}
 use Rattle.sheet.specs.declared.refusal.Refusal.{Refusal}
 use Rattle.sheet.specs.Refusals.{answer}
 use Rattle.read_back.specs.declared.reading.Told.{Told}
@@ -14,12 +15,13 @@ use Rattle.read_back.specs.Way.{count_in, is_list, way_of}
 use Rattle.read_back.specs.Follows.{if_reading}
 
 -- ---- how many readings
--- 7, then 30
-unfoldable pub count_number : List ℕ → ℕ → ℕ → ℕ → ℕ
-count_number result n nodes links = cond (ltb list_limit n) 7 (cond (not (is_list result nodes links n)) 30 0)
+-- 7, then 30, in a result whose sheet is of this form
+unfoldable pub count_number : Form → List ℕ → ℕ → ℕ → ℕ → ℕ
+count_number form result n nodes links = cond (ltb list_limit n) 7 (cond (not (is_list form result nodes links n)) 30 0)
 
+-- No sheet tells the form, and the count does not go by it: a result is long enough if it is with the shorter trailer.
 abbrev pub count_answer : List ℕ → ℕ → ℕ → ℕ → Result ℕ Refusal
-count_answer result n nodes links = answer (count_in result nodes links n) (count_number result n nodes links)
+count_answer result n nodes links = answer (count_in result nodes links n) (count_number Form.Short result n nodes links)
 
 -- ---- one of them
 -- the units of a cost: a reading's is finite
@@ -29,7 +31,7 @@ units_in inf = pos 0
 
 -- reading k of a list, where its way is a reading of the machine
 abbrev pub held_reading : Machine → List ℕ → ℕ → ℕ → ℕ → ℕ → Option (List ℕ)
-held_reading m result n nodes links k = if_reading m (way_of result nodes links n k)
+held_reading m result n nodes links k = if_reading m (way_of m.form result nodes links n k)
 
 -- 30 where it is none, 21 where it has more links than there is room for
 abbrev pub room_number : Option (List ℕ) → ℕ → ℕ
@@ -40,9 +42,9 @@ room_number (some run) room = cond (ltb room (length run)) 21 0
 abbrev pub held_number : Machine → List ℕ → ℕ → ℕ → ℕ → ℕ → ℕ → ℕ
 held_number m result n nodes links k room =
     let last = room_number (held_reading m result n nodes links k) room in
-    cond (not (is_list result nodes links n)) 30 (cond (leb (count_in result nodes links n) k) 31 last)
+    cond (not (is_list m.form result nodes links n)) 30 (cond (leb (count_in result nodes links n) k) 31 last)
 
--- 1 to 7, then those
+-- 1, 14 and 2 to 7, then those
 unfoldable pub reading_number : List ℕ → ℕ → List ℕ → ℕ → ℕ → ℕ → ℕ → ℕ
 unfolding tested_number
 reading_number sheet n result nodes links k room = tested_number sheet n (held_number (machine sheet) result n nodes links k room)

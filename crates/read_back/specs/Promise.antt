@@ -22,13 +22,13 @@ pub record IsAnswer (sheet : List ℕ) (n : ℕ) (result : List ℕ) (nodes link
 
 -- of such a result, as many readings as the list that it holds
 abbrev pub CountsList : List ℕ → ℕ → ℕ → ℕ → Result ℕ Refusal → Type 0
-CountsList result n nodes links told = (sheet : List ℕ) → ((i : ℕ) → get_or sheet i 0 < 256) → IsAnswer sheet n result nodes links → told ≡ Ok (length (list_of n nodes links result))
+CountsList result n nodes links told = (sheet : List ℕ) → ((i : ℕ) → get_or sheet i 0 < 256) → IsAnswer sheet n result nodes links → told ≡ Ok (length (list_of (machine sheet).form n nodes links result))
 
 -- and of each, in an area with room for its links, just that reading of the list
 abbrev pub ReadsList : List ℕ → ℕ → List ℕ → ℕ → ℕ → ℕ → List ℕ → Result Told Refusal → List ℕ → Type 0
 ReadsList sheet n result nodes links k old told run =
-    let way = get_or (list_of n nodes links result) k [] in
-    IsAnswer sheet n result nodes links → k < length (list_of n nodes links result) → length way ≤ length old → (told ≡ Ok (reading_told (machine sheet) way)) × (run ≡ sets old 0 way)
+    let way = get_or (list_of (machine sheet).form n nodes links result) k [] in
+    IsAnswer sheet n result nodes links → k < length (list_of (machine sheet).form n nodes links result) → length way ≤ length old → (told ≡ Ok (reading_told (machine sheet) way)) × (run ≡ sets old 0 way)
 
 -- Of any bytes: the run of so many links, at the area's front, is a reading of the sheet, at that cost and end.
 pub record IsTrue (m : Machine) (count : ℕ) (cost : ℤ) (end : ℕ) (run : List ℕ) : Type 0 where

@@ -32,7 +32,7 @@ Comes sheet place (Some w) = (w.at.sheet.bytes.now ≡ sheet) × (place ≡ some
 -- ---- the list for n that a result holds
 -- a way through its machine
 abbrev pub way_in : HeldList → ℕ → Option (List ℕ)
-way_in l q = way_from l.res.now l.nodes l.links l.before (last_state l.n) l.nodes q
+way_in l q = way_from l.form l.res.now l.nodes l.links l.before (last_state l.n) l.nodes q
 
 -- the only link of a state above the last, where it leads to a lower state
 abbrev pub FallsBy : HeldList → ℕ → Maybe ℕ → Type 0
@@ -41,7 +41,7 @@ FallsBy l q (Some only) = (falls l.res.now l.nodes l.links l.before (last_state 
 
 -- the way of reading k
 abbrev pub way_to : HeldList → ℕ → Option (List ℕ)
-way_to l k = way_of l.res.now l.nodes l.links l.n k
+way_to l k = way_of l.form l.res.now l.nodes l.links l.n k
 
 -- the state where it begins, where there is one
 abbrev pub BeginsBy : HeldList → ℕ → Maybe ℕ → Type 0

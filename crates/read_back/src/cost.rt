@@ -31,5 +31,5 @@ pub fn cost_of(w: &Walk, run: &[u32]) -> i32
     let sum = run_sum(sheet, run);
     // it has a final weight: a reading ends there
     let last = tropical_weight::from_bits(sheet.final_bits(w.at.node).unwrap_or(0));
-    tropical_weight::cost(tropical_weight::times(sum, last))
+    tropical_weight::cost(sheet.unit(), tropical_weight::times(sum, last))
 }

@@ -47,8 +47,8 @@ fn held(machine: &Machine, list: &HeldList, k: u32, run: &mut [u32]) -> Result<T
 }
 
 // Reading k, from 0, of the list for n of a sheet, in a result whose machine has so many nodes and links;
-// its links go to the front of the run's area. 1 to 7, then 30, 31 where there is no reading k, 30 where
-// its way is no reading of the sheet, and 21 where it has more links than the area has words. All comes
+// its links go to the front of the run's area. 1, 14 and 2 to 7, then 30, 31 where there is no reading k, 30
+// where its way is no reading of the sheet, and 21 where it has more links than the area has words. All comes
 // loose, as callers from C hold it.
 pub fn reading(
     sheet: &[u8],
@@ -65,7 +65,7 @@ pub fn reading(
     ensures tells_true { TellsTrue (machine_for sheet.now) result run.new }
 {
     let machine = Machine::new(sheet)?;
-    let list = HeldList::new(res, n, nodes, links)?;
+    let list = HeldList::new(res, n, nodes, links, machine.sheet.form)?;
     if list.count() <= k {
         return Err(Refusal::Absent);
     }

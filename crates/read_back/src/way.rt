@@ -4,9 +4,10 @@ ghost use Rattle.std.proofs.lemmas.List.Edits.{sets};
 ghost use Rattle.read_back.specs.Way.{answer_bytes, links_before, told_by};
 
 use crate::walk::Walk;
+use sheet::form::Form;
 use sheet::refusal::Refusal;
-use sheet::tr::TRAILER;
-use sheet::words::word;
+use sheet::tr::{LINK, NODE};
+use sheet::words::{WORD, word};
 use slots::number_in;
 use tropical_weight::LIST_LIMIT;
 
@@ -19,8 +20,9 @@ pub struct HeldList<'a> {
     pub n: u32,
     pub nodes: u32,
     pub links: u32,
+    pub form: Form,
     pub before: u32,
-    pub ghost long: { answer_bytes res.now nodes links ≤ length res.now },
+    pub ghost long: { answer_bytes form res.now nodes links ≤ length res.now },
     pub ghost before_is: { before ≡ links_before res.now nodes links n },
 }
 
@@ -34,23 +36,30 @@ impl<'a> HeldList<'a> {
     ghost use Rattle.read_back.specs.Walks.{outcome, BeginsBy, Comes, FallsBy, way_to};
 
     // 7, then 30 where there are too few bytes, or more readings than were asked for.
-    pub fn new(res: &'a [u8], n: u32, nodes: u32, links: u32) -> Result<HeldList<'a>, Refusal>
-        ensures number { number_in result ≡ count_number res.now n nodes links }
-        ensures same { IfOk result (λ l. (l.res ≡ res.entry) × (l.n ≡ n) × (l.nodes ≡ nodes) × (l.links ≡ links)) }
+    pub fn new(
+        res: &'a [u8],
+        n: u32,
+        nodes: u32,
+        links: u32,
+        form: Form,
+    ) -> Result<HeldList<'a>, Refusal>
+        ensures number { number_in result ≡ count_number form res.now n nodes links }
+        ensures same { IfOk result (λ l. (l.res ≡ res.entry) × (l.n ≡ n) × (l.nodes ≡ nodes) × (l.links ≡ links) × (l.form ≡ form)) }
     {
         if LIST_LIMIT < n {
             return Err(Refusal::Count);
         }
         let count = links as usize;
-        if res.len() < 16 * count + 12 * (nodes as usize) + TRAILER + 4 * count {
+        if res.len() < LINK * count + NODE * (nodes as usize) + form.trailer() + WORD * count {
             return Err(Refusal::NoAnswer);
         }
-        let before = if n == 1 { 0 } else { word(res, 16 * count) };
+        let before = if n == 1 { 0 } else { word(res, LINK * count) };
         let list = HeldList {
             res,
             n,
             nodes,
             links,
+            form,
             before,
         };
         if n < list.count() {
@@ -86,7 +95,7 @@ impl<'a> HeldList<'a> {
         if self.n == 1 {
             let start = word(
                 self.res,
-                16 * (self.links as usize) + 12 * (self.nodes as usize) + 16,
+                LINK * (self.links as usize) + NODE * (self.nodes as usize) + 4 * WORD,
             );
             return Some(start);
         }
@@ -101,18 +110,16 @@ impl<'a> HeldList<'a> {
         requires { l < self.now.links }
         ensures { result ≡ next_at self.now.res.now l }
     {
-        word(self.res, 16 * l + 12)
+        word(self.res, LINK * l + 3 * WORD)
     }
 
     // The number of the input link that link l repeats, where it repeats one.
     fn number(&self, l: usize) -> Option<u32>
         requires { l < self.now.links }
-        ensures { result ≡ number_told (number_at self.now.res.now self.now.nodes self.now.links l) }
+        ensures { result ≡ number_told (number_at self.now.form self.now.res.now self.now.nodes self.now.links l) }
     {
-        number_in(word(
-            self.res,
-            16 * (self.links as usize) + 12 * (self.nodes as usize) + TRAILER + 4 * l,
-        ))
+        let machine = LINK * (self.links as usize) + NODE * (self.nodes as usize);
+        number_in(word(self.res, machine + self.form.trailer() + WORD * l))
     }
 
     // The only link of a state above the last.

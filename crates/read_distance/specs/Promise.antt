@@ -1,8 +1,9 @@
--- Of a result that begins with the distances of an accepted sheet, each node's own distance is told. Definitions only.
+-- Of a result that begins with the distances of an accepted sheet, each node's own distance is told in the unit of the sheet. Definitions only.
 use Rattle.std.specs.Prelude.{◌≡◌, Some, None, Ok, List, ℕ, ◌*◌, ◌<◌, length, take}
-use Rattle.sheet.specs.Machine.{machine}
+use Rattle.sheet.specs.Machine.{unit_in, machine}
 use Rattle.machine.specs.Distance.{Distance, reached, unreached, distance, distances}
 use Rattle.machine.specs.Input.{input_number}
+use Rattle.distance.specs.Written.{written_length}
 use Rattle.shortest_distance.specs.Outcome.{answer_of}
 use Rattle.read_distance.specs.Told.{Told}
 
@@ -15,8 +16,8 @@ as_told unreached = Ok None
 pub record Holds (sheet : List ℕ) (values : ℕ) (result : List ℕ) : Type 0 where
   pub accepted : input_number sheet ≡ 0
   pub count : values ≡ length (distances (machine sheet))
-  pub begins : take (8 * values) result ≡ answer_of sheet
+  pub begins : take (written_length * values) result ≡ answer_of sheet
 
--- of a node below the count nothing is refused: what is told is its distance
-abbrev pub ReadBack : List ℕ → ℕ → ℕ → Told → Type 0
-ReadBack result values node r = (sheet : List ℕ) → Holds sheet values result → node < values → r ≡ as_told (distance (machine sheet) node)
+-- of a node below the count nothing is refused where it is told in the unit of the sheet: what is told is its distance
+abbrev pub ReadBack : ℕ → List ℕ → ℕ → ℕ → Told → Type 0
+ReadBack j result values node r = (sheet : List ℕ) → Holds sheet values result → j ≡ unit_in (machine sheet) → node < values → r ≡ as_told (distance (machine sheet) node)

@@ -7,10 +7,13 @@
 
 ghost use Rattle.std.specs.Prelude.{◌≡◌, ◌*◌, true, IfOk, IfErr};
 ghost use Rattle.sheet.specs.Refusals.{number_in};
+ghost use Rattle.distance.specs.Written.{written_length};
 
 use distance::WRITTEN;
 use sheet::refusal::Refusal;
+use sheet::tr::LINK;
 use shortest_distance::shortest_distance;
+use slots::SLOT;
 use std::io;
 use stored_cases::areas::{RESULT_MARK, WORK_MARK, result_left, work_left};
 use stored_cases::lines::Line;
@@ -18,16 +21,16 @@ use stored_cases::replay::replay;
 use tropical_weight::{LINK_LIMIT, NODE_LIMIT};
 
 // Words of the work area and bytes of the result area: for two nodes more than there may be.
-const CELLS: usize = 8 * (NODE_LIMIT + 2);
+const CELLS: usize = SLOT * (NODE_LIMIT + 2);
 
-// Bytes of a sheet: for a few links more than there may be, and two nodes.
-const SHEET: usize = 16 * (LINK_LIMIT + 4);
+// Bytes of a sheet: for a few links more than there may be, two nodes, and the longer trailer.
+const SHEET: usize = LINK * (LINK_LIMIT + 8);
 
 // Whether the call answered this number, and where it is 0 so many bytes of distances.
 // Apart in each program: crate stored_cases knows no refusals.
 fn answered(answer: Result<u32, Refusal>, said: usize, bytes: usize) -> bool
     ensures number { result ≡ true → number_in answer ≡ said }
-    ensures long { result ≡ true → IfOk answer (λ n. bytes ≡ 8 * n) × IfErr answer (λ e. bytes ≡ 0) }
+    ensures long { result ≡ true → IfOk answer (λ n. bytes ≡ written_length * n) × IfErr answer (λ e. bytes ≡ 0) }
 {
     match answer {
         Ok(n) => said == 0 && bytes == WRITTEN * (n as usize),

@@ -9,11 +9,17 @@
 ghost use Rattle.std.specs.Prelude.{◌≡◌, ◌+◌, ◌*◌, ◌==◌, true};
 ghost use Rattle.stored_cases.specs.Digits.{number_on};
 ghost use Rattle.stored_cases.specs.Fields.{field_of};
+ghost use Rattle.sheet.specs.Words.{word_length};
+ghost use Rattle.sheet.specs.Sheet.{link_length, node_length, trailer_length};
 ghost use Rattle.replay_lists.specs.Told.{Told};
 
 use list_answer::Listed;
+use sheet::form::{Form, form_of};
 use sheet::refusal::Refusal;
+use sheet::tr::{LINK, NODE};
+use sheet::words::WORD;
 use shortest_path::shortest_path;
+use slots::SLOT;
 use std::io;
 use stored_cases::areas::{RESULT_MARK, WORK_MARK, result_left, work_left};
 use stored_cases::lines::Line;
@@ -21,13 +27,13 @@ use stored_cases::replay::replay;
 use tropical_weight::{LINK_LIMIT, NODE_LIMIT};
 
 // Words of the work area: for two nodes with as many links as there may be, n = 2.
-const WORK: usize = 8 * (3 * LINK_LIMIT + 12);
+const WORK: usize = SLOT * (3 * LINK_LIMIT + 12);
 
 // Bytes of the result area: for the longest chain, n = 2.
-const RESULT: usize = 32 * (NODE_LIMIT + 4);
+const RESULT: usize = (LINK + NODE + WORD) * (NODE_LIMIT + 4);
 
 // Bytes of a sheet: for a few links more than there may be, and two nodes.
-const SHEET: usize = 16 * (LINK_LIMIT + 4);
+const SHEET: usize = LINK * (LINK_LIMIT + 4);
 
 // Whether the field behind so many spaces has this number.
 fn says(line: Line<'_>, spaces: usize, n: u32) -> bool
@@ -36,19 +42,19 @@ fn says(line: Line<'_>, spaces: usize, n: u32) -> bool
     line.number(spaces) == (n as usize)
 }
 
-// The bytes of an answer: a sheet of so many nodes and links, and a word per link.
-fn length_of(nodes: u32, links: u32) -> usize
-    ensures { result ≡ 20 * links + 12 * nodes + 20 }
+// The bytes of an answer: a sheet of that form, of so many nodes and links, and a word per link.
+fn length_of(nodes: u32, links: u32, form: Form) -> usize
+    ensures { result ≡ (link_length + word_length) * links + node_length * nodes + trailer_length form }
 {
-    20 * (links as usize) + 12 * (nodes as usize) + 20
+    (LINK + WORD) * (links as usize) + NODE * (nodes as usize) + form.trailer()
 }
 
-// Whether the call answered what the line says: 0 with the counts, or its number alone, and so many
-// bytes.
+// Whether the call on a sheet of that form answered what the line says: 0 with the counts, or its number
+// alone, and so many bytes.
 // Apart in each program: crate stored_cases knows no refusals. By number: a case may tell one that no
 // refusal has.
-fn answered(answer: Result<Listed, Refusal>, line: Line<'_>, bytes: usize) -> bool
-    ensures { result ≡ true → Told answer line.entry.text.now bytes }
+fn answered(answer: Result<Listed, Refusal>, line: Line<'_>, form: Form, bytes: usize) -> bool
+    ensures { result ≡ true → Told answer line.entry.text.now form bytes }
 {
     match answer {
         Ok(list) => {
@@ -56,7 +62,7 @@ fn answered(answer: Result<Listed, Refusal>, line: Line<'_>, bytes: usize) -> bo
                 && says(line, 5, list.nodes)
                 && says(line, 6, list.links)
                 && says(line, 7, list.taken)
-                && bytes == length_of(list.nodes, list.links)
+                && bytes == length_of(list.nodes, list.links, form)
         }
         Err(refusal) => says(line, 0, u32::from(refusal)) && bytes == 0,
     }
@@ -86,7 +92,7 @@ fn does(line: Line<'_>, sheet: &[u8]) -> bool {
     let Some(answer) = call(line, sheet, &mut work, &mut result) else {
         return false;
     };
-    answered(answer, line, bytes.len())
+    answered(answer, line, form_of(sheet), bytes.len())
         && result_left(&result, bytes)
         && work_left(&work, line.number(4))
 }

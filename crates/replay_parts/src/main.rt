@@ -10,8 +10,10 @@ ghost use Rattle.sheet.specs.Refusals.{number_in};
 
 use preheat_bake::counts::Counts;
 use preheat_bake::split;
+use sheet::form::LONG_TRAILER;
 use sheet::refusal::Refusal;
-use sheet::tr::{LINK, NODE, TRAILER};
+use sheet::tr::{LINK, NODE};
+use sheet::words::WORD;
 use std::io;
 use stored_cases::areas::{RESULT_MARK, result_left};
 use stored_cases::lines::Line;
@@ -19,10 +21,10 @@ use stored_cases::replay::replay;
 use tropical_weight::{LINK_LIMIT, NODE_LIMIT};
 
 // Bytes of the result area: for three nodes more than the longest answer has.
-const RESULT: usize = (LINK + 4) * LINK_LIMIT + NODE * (NODE_LIMIT + 4) + 2 * TRAILER;
+const RESULT: usize = (LINK + WORD) * LINK_LIMIT + NODE * (NODE_LIMIT + 4) + 2 * LONG_TRAILER;
 
 // Bytes of a sheet: for a link and a node more than there may be.
-const SHEET: usize = LINK * (LINK_LIMIT + 1) + NODE * (NODE_LIMIT + 1) + TRAILER;
+const SHEET: usize = LINK * (LINK_LIMIT + 1) + NODE * (NODE_LIMIT + 1) + LONG_TRAILER;
 
 // Whether the call answered this number, and where it is 0 so many links of each part.
 // Apart in each program: crate stored_cases knows no refusals.

@@ -8,8 +8,9 @@
 ghost use Rattle.std.specs.Prelude.{◌≡◌, true, IfOk, IfErr};
 ghost use Rattle.sheet.specs.Refusals.{number_in};
 
+use sheet::form::LONG_TRAILER;
 use sheet::refusal::Refusal;
-use sheet::tr::{LINK, NODE, TRAILER};
+use sheet::tr::{LINK, NODE};
 use std::io;
 use stored_cases::areas::{RESULT_MARK, result_left};
 use stored_cases::lines::Line;
@@ -17,11 +18,11 @@ use stored_cases::replay::replay;
 use tropical_weight::{LINK_LIMIT, NODE_LIMIT};
 use two_probes::two_probes;
 
-// Bytes of the result area: for a link more than the longest answer has.
-const RESULT: usize = LINK * (LINK_LIMIT + 1) + NODE * NODE_LIMIT + TRAILER;
+// Bytes of the result area: for a link more than the longest answer has, with the longer trailer.
+const RESULT: usize = LINK * (LINK_LIMIT + 1) + NODE * NODE_LIMIT + LONG_TRAILER;
 
-// Bytes of a sheet: for a few links more than there may be, and two nodes.
-const SHEET: usize = LINK * (LINK_LIMIT + 4);
+// Bytes of a sheet: for a link more than there may be, two nodes, and the longer trailer.
+const SHEET: usize = LINK * (LINK_LIMIT + 1) + NODE * 2 + LONG_TRAILER;
 
 // Whether the call answered this number, and where it is 0 so many bytes.
 // Apart in each program: crate stored_cases knows no refusals.

@@ -65,5 +65,5 @@ fn holds(line: Line<'_>) -> bool {
 }
 
 fn main(rt: HostRuntime) -> io::Result<()> {
-    replay::<262144, _, _, _>(&rt, &mut rt.stdin(), holds)
+    replay::<524288, _, _, _>(&rt, &mut rt.stdin(), holds)
 }

@@ -3,7 +3,8 @@ use Rattle.std.specs.Prelude.{◌≡◌, List, ℕ, ◌+◌, ◌*◌, ◌≤◌,
 use Rattle.std.specs.Float.{binary32}
 use Rattle.std.specs.Float.Ieee.{to_bits}
 use Rattle.sheet.specs.declared.tr.Link.{Link}
-use Rattle.sheet.specs.Words.{word}
+use Rattle.sheet.specs.Words.{word_length, word}
+use Rattle.sheet.specs.Sheet.{link_length}
 use Rattle.sheet.specs.Reading.{next_link, place_at}
 use Rattle.sheet.specs.Refusals.{number_in}
 use Rattle.sheet.specs.Answers.{tested}
@@ -13,16 +14,16 @@ use Rattle.stored_cases.specs.Parts.{bytes_told}
 
 -- a link with the four fields that stand at an index
 abbrev pub SameFields : Link → List ℕ → ℕ → Type 0
-SameFields k links at = (k.ilabel ≡ word links at) × (k.olabel ≡ word links (at + 4)) × (to_bits binary32 k.weight ≡ word links (at + 8)) × (k.nextstate ≡ word links (at + 12))
+SameFields k links at = (k.ilabel ≡ word links at) × (k.olabel ≡ word links (at + word_length)) × (to_bits binary32 k.weight ≡ word links (at + 2 * word_length)) × (k.nextstate ≡ word links (at + 3 * word_length))
 
 -- the link whose fields stand at an index, or none where the links end there
 abbrev pub Given : Option Link → List ℕ → ℕ → Type 0
-Given (Some k) links at = (at + 16 ≤ length links) × SameFields k links at
+Given (Some k) links at = (at + link_length ≤ length links) × SameFields k links at
 Given None links at = length links ≡ at
 
 -- one by one, from the first link to the end: what a reader gives that went on k times
 abbrev pub Reads : List ℕ → List ℕ → Type 0
-Reads sheet links = (k : ℕ) → 16 * k ≤ length links → Given (next_link sheet (place_at sheet k)) links (16 * k)
+Reads sheet links = (k : ℕ) → link_length * k ≤ length links → Given (next_link sheet (place_at sheet k)) links (link_length * k)
 
 -- the case of a line: reading the sheet in field 1 answers the number in field 0, and a link reader gives the links in field 2
 abbrev pub Holds : List ℕ → Type 0

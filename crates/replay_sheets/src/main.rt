@@ -5,13 +5,14 @@
 #![tactic(auto)]
 
 ghost use Rattle.std.specs.Prelude.{◌≡◌, true, ◌+◌, ◌≤◌, length};
+ghost use Rattle.sheet.specs.Sheet.{link_length};
 ghost use Rattle.sheet.specs.Refusals.{number_in};
 ghost use Rattle.sheet.specs.Answers.{tested};
 ghost use Rattle.replay_sheets.specs.Given.{SameFields, Given, Reads, Holds};
 
 use sheet::reader::Reader;
-use sheet::tr::Link;
-use sheet::words::word;
+use sheet::tr::{LINK, Link};
+use sheet::words::{WORD, word};
 use std::io;
 use stored_cases::lines::Line;
 use stored_cases::replay::replay;
@@ -28,13 +29,13 @@ fn answer(sheet: &[u8]) -> u32
 
 // Whether a link has the four fields that stand at an index. By bits and not by ==: a NaN weight equals nothing.
 fn same_fields(link: Link, links: &[u8], at: usize) -> bool
-    requires { at + 16 ≤ length links.now }
+    requires { at + link_length ≤ length links.now }
     ensures { result ≡ true → SameFields link links.now at }
 {
     link.ilabel == word(links, at)
-        && link.olabel == word(links, at + 4)
-        && tropical_weight::to_bits(link.weight) == word(links, at + 8)
-        && link.nextstate == word(links, at + 12)
+        && link.olabel == word(links, at + WORD)
+        && tropical_weight::to_bits(link.weight) == word(links, at + 2 * WORD)
+        && link.nextstate == word(links, at + 3 * WORD)
 }
 
 // Whether a reader gave the link whose fields stand at an index, or none where the links end there.
@@ -43,27 +44,27 @@ fn given(link: Option<Link>, links: &[u8], at: usize) -> bool
     ensures { result ≡ true → Given link links.now at }
 {
     match link {
-        Some(link) => 16 <= links.len() - at && same_fields(link, links, at),
+        Some(link) => LINK <= links.len() - at && same_fields(link, links, at),
         None => links.len() == at,
     }
 }
 
 // Whether a link reader gives these links, and then none for good. By number and not by chunks: the
-// claim is of link k and the bytes from 16 k on, and the end must come at such a place too.
+// claim is of link k and the bytes from LINK * k on, and the end must come at such a place too.
 fn reads(sheet: &[u8], links: &[u8]) -> bool
     ensures { result ≡ true → Reads sheet.now links.now }
 {
     let mut reader = Reader::new(sheet);
-    let count = links.len() / 16;
+    let count = links.len() / LINK;
     for k in 0..count {
         let link = reader.next();
-        if !given(link, links, 16 * k) {
+        if !given(link, links, LINK * k) {
             return false;
         }
     }
     let end = reader.next;
     let none = reader.next();
-    given(none, links, 16 * count) && reader.next == end
+    given(none, links, LINK * count) && reader.next == end
 }
 
 // Whether the bytes of a line are read as it says.

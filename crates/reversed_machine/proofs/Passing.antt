@@ -14,7 +14,7 @@ use Rattle.tropical_weight.specs.Single.{lesser}
 use Rattle.sheet.specs.Below.{sum_below}
 use Rattle.sheet.specs.Words.{word}
 use Rattle.sheet.specs.Records.{count_at, first_link, mark_at, final_at}
-use Rattle.slots.specs.Slots.{nothing}
+use Rattle.slots.specs.Slots.{slot_length, nothing}
 use Rattle.distance.specs.Held.{Distance}
 use Rattle.distance.specs.Held.{total_in, distance_in, with_distance}
 use Rattle.machine.specs.Finals.{final_count}
@@ -23,9 +23,10 @@ use Rattle.sheet.specs.Accepted.{trailer_in, ending_at}
 use Rattle.sheet.specs.Machine.{machine}
 use Rattle.machine.specs.declared.climbing.Machine.{Machine}
 use Rattle.machine.proofs.SheetFields.{SheetFields, fields-for}
+use Rattle.sheet.specs.Sheet.{link_length}
 
 -- ---- heads
-pub cleared-next : (nodes q : ℕ) (part : List ℕ) → heads_cleared nodes (q + 1) part ≡ set (set (heads_cleared nodes q part) (nodes + 8 * q + 2) nothing) (nodes + 8 * q + 3) 0
+pub cleared-next : (nodes q : ℕ) (part : List ℕ) → heads_cleared nodes (q + 1) part ≡ set (set (heads_cleared nodes q part) (nodes + slot_length * q + 2) nothing) (nodes + slot_length * q + 3) 0
 unfolding heads_cleared
 cleared-next nodes q part = ap (λ (k : ℕ). heads_cleared nodes k part) (add-one q)
 
@@ -52,14 +53,14 @@ module _ (bytes : List ℕ) (T v : ℕ) where
 
 module _ (bytes : List ℕ) (nodes links : ℕ) (part new whole : List ℕ) where
   -- a link of node v, by what the calls answer
-  pub links-again : (v first i next bits : ℕ) → 0 < i → next ≡ word bytes (16 * (first + (i - 1)) + 12) → bits ≡ word bytes (16 * (first + (i - 1)) + 8)
-      → new ≡ chained (nodes + 8 * (next + 1) + 2) (links + 8 * (first + (i - 1))) (first + (i - 1)) (v + 1) bits part
+  pub links-again : (v first i next bits : ℕ) → 0 < i → next ≡ word bytes (link_length * (first + (i - 1)) + 12) → bits ≡ word bytes (link_length * (first + (i - 1)) + 8)
+      → new ≡ chained (nodes + slot_length * (next + 1) + 2) (links + slot_length * (first + (i - 1))) (first + (i - 1)) (v + 1) bits part
       → links_put bytes nodes links v first i part ≡ whole → links_put bytes nodes links v first (i - 1) new ≡ whole
   unfolding links_put
   links-again v first i next bits h n b e w =
       let l = first + (i - 1) in
       let top : suc (i - 1) ≡ i = omega arith in
-      ap (links_put bytes nodes links v first (i - 1)) (e ∙ λ j. chained (nodes + 8 * (n j + 1) + 2) (links + 8 * l) l (v + 1) (b j) part)
+      ap (links_put bytes nodes links v first (i - 1)) (e ∙ λ j. chained (nodes + slot_length * (n j + 1) + 2) (links + slot_length * l) l (v + 1) (b j) part)
       ∙ ap (λ (k : ℕ). links_put bytes nodes links v first k part) top ∙ w
 
   -- a node of a sheet with T links
@@ -73,33 +74,33 @@ module _ (bytes : List ℕ) (nodes links : ℕ) (part new whole : List ℕ) wher
   module _ (T v : ℕ) (h : 0 < v) (w : finals_reversed bytes nodes links T v part ≡ whole) where
     -- the pass over the node before, with its mark tested
     finals-down : (b : Bool) → eqb (mark_at bytes T (v - 1)) 0 ≡ b
-        → let k = T + final_count bytes T (v - 1) in finals_reversed bytes nodes links T (v - 1) (cond b part (chained (nodes + 2) (links + 8 * k) k (v - 1 + 1) (final_at bytes T (v - 1)) part)) ≡ whole
+        → let k = T + final_count bytes T (v - 1) in finals_reversed bytes nodes links T (v - 1) (cond b part (chained (nodes + 2) (links + slot_length * k) k (v - 1 + 1) (final_at bytes T (v - 1)) part)) ≡ whole
     unfolding finals_reversed
     finals-down b e =
         let k = T + final_count bytes T (v - 1) in
-        ap (λ (t : Bool). finals_reversed bytes nodes links T (v - 1) (cond t part (chained (nodes + 2) (links + 8 * k) k (v - 1 + 1) (final_at bytes T (v - 1)) part))) (sym e)
+        ap (λ (t : Bool). finals_reversed bytes nodes links T (v - 1) (cond t part (chained (nodes + 2) (links + slot_length * k) k (v - 1 + 1) (final_at bytes T (v - 1)) part))) (sym e)
         ∙ ap (λ (n : ℕ). finals_reversed bytes nodes links T n part) (let z : suc (v - 1) ≡ v = omega arith in z) ∙ w
 
     pub finals-plain : mark_at bytes T (v - 1) ≡ 0 → finals_reversed bytes nodes links T (v - 1) part ≡ whole
     finals-plain e = finals-down true (eq-eqb (mark_at bytes T (v - 1)) 0 e)
 
     pub finals-again : (k bits : ℕ) → (mark_at bytes T (v - 1) ≡ 0 → ⊥) → k ≡ T + final_count bytes T (v - 1) → bits ≡ final_at bytes T (v - 1)
-        → new ≡ chained (nodes + 2) (links + 8 * k) k (v - 1 + 1) bits part → finals_reversed bytes nodes links T (v - 1) new ≡ whole
-    finals-again k bits n a b e = ap (finals_reversed bytes nodes links T (v - 1)) (e ∙ λ j. chained (nodes + 2) (links + 8 * a j) (a j) (v - 1 + 1) (b j) part) ∙ finals-down false (ne_eqb (mark_at bytes T (v - 1)) 0 n)
+        → new ≡ chained (nodes + 2) (links + slot_length * k) k (v - 1 + 1) bits part → finals_reversed bytes nodes links T (v - 1) new ≡ whole
+    finals-again k bits n a b e = ap (finals_reversed bytes nodes links T (v - 1)) (e ∙ λ j. chained (nodes + 2) (links + slot_length * a j) (a j) (v - 1 + 1) (b j) part) ∙ finals-down false (ne_eqb (mark_at bytes T (v - 1)) 0 n)
 
 -- ---- the least total, one node more
 module _ (bytes : List ℕ) (nodes T v : ℕ) (part : List ℕ) where
   total-next : (b : Bool) → eqb (mark_at bytes T v) 0 ≡ b
-      → least_total bytes nodes T (v + 1) part ≡ cond b (least_total bytes nodes T v part) (lesser (least_total bytes nodes T v part) (total_in (distance_in part (nodes + 8 * (v + 1))) (final_at bytes T v)))
+      → least_total bytes nodes T (v + 1) part ≡ cond b (least_total bytes nodes T v part) (lesser (least_total bytes nodes T v part) (total_in (distance_in part (nodes + slot_length * (v + 1))) (final_at bytes T v)))
   unfolding least_total
   total-next b e =
       ap (λ (k : ℕ). least_total bytes nodes T k part) (add-one v)
-      ∙ ap (λ (t : Bool). cond t (least_total bytes nodes T v part) (lesser (least_total bytes nodes T v part) (total_in (distance_in part (nodes + 8 * (v + 1))) (final_at bytes T v)))) e
+      ∙ ap (λ (t : Bool). cond t (least_total bytes nodes T v part) (lesser (least_total bytes nodes T v part) (total_in (distance_in part (nodes + slot_length * (v + 1))) (final_at bytes T v)))) e
 
   pub total-plain : (least : Float) → least ≡ least_total bytes nodes T v part → ending_at bytes T v ≡ None → least ≡ least_total bytes nodes T (v + 1) part
   total-plain least h e = h ∙ sym (total-next true (eq-eqb (mark_at bytes T v) 0 (final-absent bytes T v e)))
 
-  pub total-final : (least s r : Float) (d : Distance) (bits : ℕ) → least ≡ least_total bytes nodes T v part → ending_at bytes T v ≡ Some bits → d ≡ distance_in part (nodes + 8 * (v + 1))
+  pub total-final : (least s r : Float) (d : Distance) (bits : ℕ) → least ≡ least_total bytes nodes T v part → ending_at bytes T v ≡ Some bits → d ≡ distance_in part (nodes + slot_length * (v + 1))
       → s ≡ total_in d bits → r ≡ lesser least s → r ≡ least_total bytes nodes T (v + 1) part
   total-final least s r d bits h n a e f =
       let given = final-given bytes T v bits n in
@@ -115,4 +116,4 @@ passes-made bytes nodes links N T part a b d new least ea eb ed el ew =
 
 -- ---- what a machine's value gives
 pub machine-fields : (m : Machine) → SheetFields m.sheet.bytes.now m.sheet.links m.sheet.nodes (machine m.sheet.bytes.now)
-machine-fields m = let s = m.sheet in fields-for s.bytes.now m.climbs (trailer_in s.links s.nodes s.start) s.stated
+machine-fields m = let s = m.sheet in fields-for s.bytes.now m.climbs (trailer_in s.links s.nodes s.start s.form) s.stated

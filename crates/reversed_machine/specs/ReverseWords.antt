@@ -7,13 +7,13 @@ use Rattle.std.specs.Float.Ieee as Ieee
 use Rattle.std.specs.Float.{binary32}
 use Rattle.std.specs.Float.Ieee.{add, of_bits}
 use Rattle.tropical_weight.specs.Single.{lesser}
-use Rattle.sheet.specs.Words.{word}
+use Rattle.sheet.specs.Words.{word_length, word}
+use Rattle.sheet.specs.Sheet.{link_length}
 use Rattle.sheet.specs.Records.{count_at, first_link, mark_at, final_at}
 use Rattle.sheet.specs.Machine.{weight_of}
 use Rattle.search.specs.Reversed.{Back}
-use Rattle.machine.specs.Readings.{marked}
-use Rattle.machine.specs.Finals.{finals_at, final_count}
-use Rattle.slots.specs.Slots.{nothing}
+use Rattle.machine.specs.Finals.{final_count}
+use Rattle.slots.specs.Slots.{slot_length, nothing}
 use Rattle.distance.specs.Held.{Distance, weight_in, distance_from, distance_in, with_distance}
 use Rattle.search_slots.specs.Slots.{next_word, weight_word, chain_word}
 
@@ -21,7 +21,7 @@ use Rattle.search_slots.specs.Slots.{next_word, weight_word, chain_word}
 -- the chains of the first n nodes empty, and none of these taken
 unfoldable pub heads_cleared : ℕ → ℕ → List ℕ → List ℕ
 heads_cleared nodes zero part = part
-heads_cleared nodes (suc q) part = set (set (heads_cleared nodes q part) (nodes + 8 * q + 2) nothing) (nodes + 8 * q + 3) 0
+heads_cleared nodes (suc q) part = set (set (heads_cleared nodes q part) (nodes + slot_length * q + 2) nothing) (nodes + slot_length * q + 3) 0
 
 -- link k, whose slot is at word `at`, leads to `next` with these weight bits: it is put in front of the chain whose head is word `head`
 abbrev pub chained : ℕ → ℕ → ℕ → ℕ → ℕ → List ℕ → List ℕ
@@ -31,7 +31,7 @@ module _ (bytes : List ℕ) (nodes links : ℕ) where
   -- ---- links
   -- link l, out of old node v
   abbrev pub link_put : ℕ → ℕ → List ℕ → List ℕ
-  link_put v l part = chained (nodes + 8 * (word bytes (16 * l + 12) + 1) + 2) (links + 8 * l) l (v + 1) (word bytes (16 * l + 8)) part
+  link_put v l part = chained (nodes + slot_length * (word bytes (link_length * l + 3 * word_length) + 1) + 2) (links + slot_length * l) l (v + 1) (word bytes (link_length * l + 2 * word_length)) part
 
   -- the n links of v from a number on, the last of them first
   unfoldable pub links_put : ℕ → ℕ → ℕ → List ℕ → List ℕ
@@ -49,11 +49,10 @@ module _ (bytes : List ℕ) (nodes links : ℕ) where
   abbrev pub final_put : ℕ → ℕ → List ℕ → List ℕ
   final_put T v part =
       let k = T + final_count bytes T v in
-      cond (eqb (mark_at bytes T v) 0) part (chained (nodes + 2) (links + 8 * k) k (v + 1) (final_at bytes T v) part)
+      cond (eqb (mark_at bytes T v) 0) part (chained (nodes + 2) (links + slot_length * k) k (v + 1) (final_at bytes T v) part)
 
   -- of the first n nodes, the last one first
   unfoldable pub finals_reversed : ℕ → ℕ → List ℕ → List ℕ
-  unfolding finals_at marked
   finals_reversed T zero part = part
   finals_reversed T (suc v) part = finals_reversed T v (final_put T v part)
 
@@ -61,7 +60,7 @@ module _ (bytes : List ℕ) (nodes links : ℕ) where
 -- offered a final node's total
 abbrev pub total_with : List ℕ → ℕ → ℕ → ℕ → List ℕ → Float → Float
 total_with bytes nodes T v part least =
-    cond (eqb (mark_at bytes T v) 0) least (lesser least (add binary32 (weight_in (distance_in part (nodes + 8 * (v + 1)))) (of_bits binary32 (final_at bytes T v))))
+    cond (eqb (mark_at bytes T v) 0) least (lesser least (add binary32 (weight_in (distance_in part (nodes + slot_length * (v + 1)))) (of_bits binary32 (final_at bytes T v))))
 
 -- over the first n nodes
 unfoldable pub least_total : List ℕ → ℕ → ℕ → ℕ → List ℕ → Float
@@ -90,6 +89,6 @@ unfoldable pub chain_of : List ℕ → ℕ → ℕ → ℕ → List ℕ
 chain_of part links k zero = []
 chain_of part links k (suc n) = cond (eqb k nothing) [] (k ∷ chain_of part links (chain_word part links k) n)
 
--- link k of the reversed machine of one with T links
-abbrev pub back_of : List ℕ → ℕ → ℕ → ℕ → Back
-back_of part links T k = record { input = cond (ltb k T) (some k) none; weight = weight_of (weight_word part links k); next = next_word part links k }
+-- link k of the reversed machine of one with T links, in units of 1 / 2 ^ j
+abbrev pub back_of : ℕ → List ℕ → ℕ → ℕ → ℕ → Back
+back_of j part links T k = record { input = cond (ltb k T) (some k) none; weight = weight_of j (weight_word part links k); next = next_word part links k }

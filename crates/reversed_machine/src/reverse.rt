@@ -2,6 +2,7 @@
 // i + 1, and node 0 leads to the final ones. The links out of a node are a chain.
 ghost use Rattle.std.specs.Prelude.{◌≡◌, ◌+◌, ◌*◌, ◌≤◌, ◌<◌, length};
 ghost use Rattle.sheet.specs.Records.{count_at};
+ghost use Rattle.slots.specs.Slots.{slot_length};
 ghost use Rattle.reversed_machine.specs.Laid.{MeasuredIn};
 ghost use Rattle.reversed_machine.specs.ReverseWords.{heads_cleared, chained, links_put, links_reversed, finals_reversed, least_distance, reversed_words};
 
@@ -19,7 +20,7 @@ struct Layout<'a> {
     counted: Counted<'a>,
     heads: usize,
     chains: usize,
-    ghost apart: { heads + 8 * (counted.machine.sheet.nodes + 1) ≤ chains },
+    ghost apart: { heads + slot_length * (counted.machine.sheet.nodes + 1) ≤ chains },
 }
 
 impl<'a> Layout<'a> {
@@ -27,8 +28,8 @@ impl<'a> Layout<'a> {
 
     // Puts link k, to a node at a weight, in front of the chain whose head is at a word.
     fn put_in_front(&self, part: &mut [u32], head: usize, k: u32, next: u32, weight: u32)
-        requires { (head < length part.old) × (self.now.chains + 8 * k + 8 ≤ length part.old) }
-        ensures { part.new ≡ chained head (self.now.chains + 8 * k) k next weight part.old }
+        requires { (head < length part.old) × (self.now.chains + slot_length * k + slot_length ≤ length part.old) }
+        ensures { part.new ≡ chained head (self.now.chains + slot_length * k) k next weight part.old }
     {
         let at = self.chains + SLOT * (k as usize);
         let first = part[head];
@@ -115,7 +116,7 @@ impl<'a> Layout<'a> {
 // Makes the distances of a machine in the slots of its nodes, which follow that of node 0. Parents come
 // with them, in the words of heads and visits, which a list sets anew.
 pub fn measure(machine: &Machine, part: &mut [u32], heads: usize)
-    requires { heads + 8 * (machine.now.sheet.nodes + 1) ≤ length part.old }
+    requires { heads + slot_length * (machine.now.sheet.nodes + 1) ≤ length part.old }
     ensures { MeasuredIn machine.now.sheet.bytes.now heads part.old part.new }
 {
     let from = heads + SLOT;
@@ -125,7 +126,7 @@ pub fn measure(machine: &Machine, part: &mut [u32], heads: usize)
 // Reverses a machine, whose nodes' slots hold their distances: heads and chains of its links and its
 // final nodes, no node taken, and the least total at node 0.
 pub fn reverse(counted: &Counted, part: &mut [u32], heads: usize, chains: usize)
-    requires { (heads + 8 * (counted.now.machine.sheet.nodes + 1) ≤ chains) × (chains + 8 * (counted.now.machine.sheet.links + counted.now.finals) ≤ length part.old) }
+    requires { (heads + slot_length * (counted.now.machine.sheet.nodes + 1) ≤ chains) × (chains + slot_length * (counted.now.machine.sheet.links + counted.now.finals) ≤ length part.old) }
     ensures { part.new ≡ reversed_words counted.now.machine.sheet.bytes.now heads chains counted.now.machine.sheet.nodes counted.now.machine.sheet.links part.old }
 {
     let layout = Layout {

@@ -1,4 +1,4 @@
--- Of an accepted sheet: what its counts and its start are of its parts, the numbers of each node's links, its marks, and that its weights pass test 4. Assumes nothing.
+-- Of an accepted sheet: what its counts, its start and its form are of its parts, the numbers of each node's links, its marks, and that its weights pass test 4, in 64ths where it is short. Assumes nothing.
 use mathlib.Core.Path.{◌≡◌, refl, sym, ap, ◌∙◌, subst}
 use mathlib.Core.Bool.{Bool, true, false, ◌&&◌, ◌||◌, cond, false≢true, true≢false}
 use Rattle.std.proofs.Common.{Option, None, Some, is_some, unwrap_or}
@@ -7,20 +7,23 @@ use native.Mathlib.Omega.{arith}
 use lib.Dec.{eqb, ltb}
 use lib.ListN.{get_or}
 use borrow.Author.Tests.{eqb-true, ltb-false}
+use Rattle.tropical_weight.specs.Limits.{unit}
+use Rattle.sheet.specs.declared.form.Form.{Form}
 use Rattle.sheet.specs.declared.accepted.Sheet.{Sheet}
 use Rattle.sheet.specs.declared.source.Source.{Source}
 use Rattle.sheet.specs.declared.tr.Trailer.{Trailer}
 use Rattle.sheet.specs.Below.{all_below, sum_below}
 use Rattle.sheet.specs.Words.{word}
 use Rattle.sheet.specs.Records.{count_at, first_link}
-use Rattle.sheet.specs.Sheet.{Parts, link_count, node_count, ilabel, olabel, link_bits, next, count, mark, final_bits, well_marked, weight_fits, weights_fit, parts_of, read_number, sizes_fit, nodes_fit, stated_links}
+use Rattle.sheet.specs.Sheet.{link_length, Parts, link_count, node_count, ilabel, olabel, link_bits, next, count, mark, final_bits, well_marked, weight_fits, weights_fit, parts_of, read_number, sizes_fit, nodes_fit, stated_links}
 use Rattle.sheet.specs.Accepted.{start_in, ending}
 use Rattle.sheet.proofs.Apart.{both}
 use Rattle.sheet.proofs.Below.{all_below-at, sum_below-same}
 use Rattle.sheet.proofs.Fields.{get_d_words}
 use Rattle.sheet.proofs.AcceptedSheet as Of
-use Rattle.text_rows.specs.Written.{first_of}
+use Rattle.text_rows.specs.Written.{first_of, has_rows}
 use Rattle.text_rows.proofs.Fitting as Fitting
+use Rattle.text_rows.proofs.HasRows.{form-short}
 use Rattle.text_rows.proofs.RowsBack.{accepted}
 
 -- where there is no start, its field is no node
@@ -45,17 +48,21 @@ module _ (s : Sheet) where
 
   -- ---- the trailer
   pub links-are : s.links ≡ link_count p
-  links-are = sym (Of.link-count-is s.bytes.now s.links s.nodes s.start s.accepted s.stated)
+  links-are = sym (Of.link-count-is s.bytes.now s.links s.nodes s.start s.form s.accepted s.stated)
 
   pub nodes-are : s.nodes ≡ node_count p
-  nodes-are = sym (Of.node-count-is s.bytes.now s.links s.nodes s.start s.accepted s.stated)
+  nodes-are = sym (Of.node-count-is s.bytes.now s.links s.nodes s.start s.form s.accepted s.stated)
 
   pub start_is : s.start ≡ p.start
-  start_is = Of.start-is s.bytes.now s.links s.nodes s.start s.accepted s.stated
+  start_is = Of.start-is s.bytes.now s.links s.nodes s.start s.form s.accepted s.stated
+
+  pub form-is : s.form ≡ p.form
+  unfolding parts_of
+  form-is = Of.form-is s.bytes.now s.links s.nodes s.start s.form s.accepted s.stated
 
   -- ---- links by node
   pub count-is : (v : ℕ) → v < s.nodes → count_at s.bytes.now s.links v ≡ count p v
-  count-is = Of.count-is s.bytes.now s.links s.nodes s.start s.accepted s.stated
+  count-is = Of.count-is s.bytes.now s.links s.nodes s.start s.form s.accepted s.stated
 
   first-is : (v : ℕ) → v ≤ s.nodes → first_link s.bytes.now s.links v ≡ first_of p v
   first-is v h = sum_below-same v (count_at s.bytes.now s.links) (count p) (λ u b. count-is u (omega arith))
@@ -80,8 +87,8 @@ module _ (s : Sheet) where
 
   -- ---- a link's next node and labels
   module _ (l : ℕ) (h : l < s.links) where
-    pub next_at : word s.bytes.now (16 * l + 12) ≡ next p l
-    next_at = Of.next-is s.bytes.now s.links s.nodes s.start s.accepted s.stated l h
+    pub next_at : word s.bytes.now (link_length * l + 12) ≡ next p l
+    next_at = Of.next-is s.bytes.now s.links s.nodes s.start s.form s.accepted s.stated l h
 
     l-in : l < stated_links s.bytes.now
     l-in = subst (λ (n : ℕ). l < n) (ap (λ (t : Trailer). t.links) s.stated) h
@@ -90,24 +97,28 @@ module _ (s : Sheet) where
     unfolding parts_of
     among i at b e = sym (get_d_words s.bytes.now 0 (4 * stated_links s.bytes.now) i b ∙ ap (word s.bytes.now) (let z : 0 + 4 * i ≡ at = omega arith in z))
 
-    pub ilabel-at : word s.bytes.now (16 * l) ≡ ilabel p l
-    ilabel-at = among (4 * l) (16 * l) (omega (arith, l-in)) (omega arith)
+    pub ilabel-at : word s.bytes.now (link_length * l) ≡ ilabel p l
+    ilabel-at = among (4 * l) (link_length * l) (omega (arith, l-in)) (omega arith)
 
-    pub olabel-at : word s.bytes.now (16 * l + 4) ≡ olabel p l
-    olabel-at = among (4 * l + 1) (16 * l + 4) (omega (arith, l-in)) (omega arith)
+    pub olabel-at : word s.bytes.now (link_length * l + 4) ≡ olabel p l
+    olabel-at = among (4 * l + 1) (link_length * l + 4) (omega (arith, l-in)) (omega arith)
 
   -- ---- weights
   weights-fit : weights_fit p ≡ true
   unfolding read_number
   weights-fit = (accepted (sizes_fit s.bytes.now) p s.accepted).2
 
-  pub link_on : (l : ℕ) → l < s.links → weight_fits (link_bits p l) ≡ true
-  link_on l h = Fitting.link_on p weights-fit l (subst (λ (n : ℕ). l < n) links-are h)
+  pub link_on : s.form ≡ Form.Short → (l : ℕ) → l < s.links → weight_fits unit (link_bits p l) ≡ true
+  link_on short l h = Fitting.link_on p (sym form-is ∙ short) weights-fit l (subst (λ (n : ℕ). l < n) links-are h)
 
-  pub final-on : (v bits : ℕ) → v < s.nodes → ending p v ≡ Some bits → weight_fits bits ≡ true
-  final-on v bits h e =
+  pub final-on : s.form ≡ Form.Short → (v bits : ℕ) → v < s.nodes → ending p v ≡ Some bits → weight_fits unit bits ≡ true
+  final-on short v bits h e =
       let held = ended p v bits e in
-      ap weight_fits held.1 ∙ ap (λ (b : Bool). b || weight_fits (final_bits p v)) (sym held.0) ∙ Fitting.final-on p weights-fit v (omega (arith, nodes-are))
+      ap (weight_fits unit) held.1 ∙ ap (λ (b : Bool). b || weight_fits unit (final_bits p v)) (sym held.0) ∙ Fitting.final-on p (sym form-is ∙ short) weights-fit v (omega (arith, nodes-are))
+
+-- one that has rows ends in the shorter trailer, and so does that of each of its sources
+pub short-of : (s t : Sheet) → has_rows (parts_of s.bytes.now) ≡ true → t ≡ s → t.form ≡ Form.Short
+short-of s t rows same = ap (λ (x : Sheet). x.form) same ∙ form-is s ∙ form-short (parts_of s.bytes.now) rows
 
 -- a source's first link, by the parts
 pub source-first : (r : Source) → r.first ≡ first_of (parts_of r.sheet.bytes.now) r.node

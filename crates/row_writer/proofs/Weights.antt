@@ -28,15 +28,15 @@ weight-signed (pos n) = refl
 weight-signed (negsuc n) = refl
 
 -- a field that passes and does not bar is on the grid
-pub on-grid : (bits : ℕ) → weight_fits bits ≡ true → (bits ≡ barred_bits → ⊥) → on_grid_bits bits ≡ true
-on-grid bits e n = sym (ap (λ (b : Bool). b || on_grid_bits bits) (ne_eqb bits barred_bits n)) ∙ e
+pub on-grid : (bits : ℕ) → weight_fits unit bits ≡ true → (bits ≡ barred_bits → ⊥) → on_grid_bits unit bits ≡ true
+on-grid bits e n = sym (ap (λ (b : Bool). b || on_grid_bits unit bits) (ne_eqb bits barred_bits n)) ∙ e
 
 -- what `cost` answers at the value of a field on the grid, as an i32 has it
 fits-units : (z : ℤ) → nat_abs z ≤ weight_limit → SFits w32 z
 fits-units (pos n) h = record { sfits = omega arith }
 fits-units (negsuc n) h = record { sfits = omega arith }
 
-pub units-held : (bits : ℕ) → on_grid_bits bits ≡ true → (weight : Float) (units : ℤ) → weight ≡ of_bits binary32 bits → Costs unit weight units
+pub units-held : (bits : ℕ) → on_grid_bits unit bits ≡ true → (weight : Float) (units : ℤ) → weight ≡ of_bits binary32 bits → Costs unit weight units
     → (to_z w32 (of_z w32 units) ≡ Grid.units_of unit (of_bits binary32 bits)) × (nat_abs (to_z w32 (of_z w32 units)) ≤ weight_limit)
 unfolding grid_bits
 units-held bits e weight units w c =

@@ -1,9 +1,10 @@
-// Which sheets have rows: the start is named first, and the last node is named somewhere.
+// Which sheets have rows: those of the shorter trailer whose start is named first, and whose last node is named somewhere.
 ghost use Rattle.std.specs.Prelude.{◌≡◌, ◌<◌};
 ghost use Rattle.sheet.specs.Sheet.{parts_of};
 ghost use Rattle.text_rows.specs.Written.{has_own, is_led, has_rows};
 
 use sheet::accepted::Sheet;
+use sheet::form::Form;
 
 // A link or a mark.
 fn has_own(sheet: &Sheet, v: u32) -> bool
@@ -25,10 +26,13 @@ fn is_led(sheet: &Sheet, v: u32) -> bool
     false
 }
 
-// Whether the text of a sheet can name its start first, and all its nodes.
+// Whether a sheet ends in the trailer that rows serve, and its text can name its start first, and all its nodes.
 pub fn has_rows(sheet: &Sheet) -> bool
     ensures { result ≡ has_rows (parts_of sheet.now.bytes.now) }
 {
+    let Form::Short = sheet.form else {
+        return false;
+    };
     let Some(start) = sheet.start() else {
         return false;
     };

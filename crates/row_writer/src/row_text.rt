@@ -1,8 +1,9 @@
 // The text of one row, part by part behind what a row holds already. By hand and not by Display: the clauses say the bytes,
 // and no heap is used.
 ghost use Rattle.std.specs.Prelude.{◌≡◌, true, ◌+◌, ◌≤◌, ◌<◌, ◌++◌, nat_abs, length};
-ghost use Rattle.tropical_weight.specs.Limits.{weight_limit};
+ghost use Rattle.tropical_weight.specs.Limits.{unit, weight_limit};
 ghost use Rattle.sheet.specs.Sheet.{parts_of, weight_fits};
+ghost use Rattle.sheet.specs.declared.form.Form.{Form};
 ghost use Rattle.text_rows.specs.Fields.{million};
 ghost use Rattle.row_writer.specs.Room.{part_most, magnitude_most, units_most, weight_most, field_most, row_most, room};
 ghost use Rattle.text_rows.specs.Written.{part_text, magnitude_text, weight_text, field_text, and_number, and_weight, link_row, final_row};
@@ -11,12 +12,13 @@ use decimals::text::Text;
 use sheet::accepted::Sheet;
 use sheet::tr::BARRED;
 use tropical_weight::UNITS;
+use tropical_weight::unit::Unit;
 
 // `as` narrows what the clauses bound.
 // A row as it is made. Its area has room for any: at least `row_most`.
 pub type Row = Text<64>;
 
-// How many millionths are a unit.
+// How many millionths are a 64th.
 const IN_UNIT: u32 = 1_000_000 / UNITS;
 
 // How many millionths a first digit behind the point counts.
@@ -65,7 +67,7 @@ fn put_units(row: &mut Row, units: i32)
 
 // A weight, by its field.
 fn put_field(row: &mut Row, bits: u32)
-    requires bits_value { weight_fits bits ≡ true }
+    requires bits_value { weight_fits unit bits ≡ true }
     requires units_most_fits { length row.old + units_most ≤ room }
     ensures text { row.new ≡ row.old ++ field_text bits }
     ensures upper_bound { length row.new ≤ length row.old + units_most }
@@ -74,12 +76,15 @@ fn put_field(row: &mut Row, bits: u32)
         row.put_text(b"Infinity");
         return;
     }
-    put_units(row, tropical_weight::cost(tropical_weight::from_bits(bits)));
+    put_units(
+        row,
+        tropical_weight::cost(Unit::Of64, tropical_weight::from_bits(bits)),
+    );
 }
 
 // A tab and a weight, by its field; nothing for a weight of 0.
 fn put_weight(row: &mut Row, bits: u32)
-    requires bits_value { weight_fits bits ≡ true }
+    requires bits_value { weight_fits unit bits ≡ true }
     requires weight_most_fits { length row.old + weight_most ≤ room }
     ensures text { row.new ≡ row.old ++ and_weight bits }
     ensures upper_bound { length row.new ≤ length row.old + weight_most }
@@ -103,7 +108,8 @@ fn put_number(row: &mut Row, x: u32)
 
 // Link l of node v. Its weight goes by its bits, since a weight of 0 is told by them.
 pub fn link_row(sheet: &Sheet, v: u32, l: u32) -> Row
-    requires { l < sheet.now.links }
+    requires within { l < sheet.now.links }
+    requires short { sheet.now.form ≡ Form.Short }
     ensures text { result ≡ link_row (parts_of sheet.now.bytes.now) v l }
     ensures upper_bound { length result ≤ row_most }
 {
@@ -120,7 +126,8 @@ pub fn link_row(sheet: &Sheet, v: u32, l: u32) -> Row
 
 // The final row of node v; nothing where it has no mark.
 pub fn final_row(sheet: &Sheet, v: u32) -> Row
-    requires { v < sheet.now.nodes }
+    requires within { v < sheet.now.nodes }
+    requires short { sheet.now.form ≡ Form.Short }
     ensures text { result ≡ final_row (parts_of sheet.now.bytes.now) v }
     ensures upper_bound { length result ≤ row_most }
 {

@@ -3,6 +3,7 @@
 ghost use Rattle.std.specs.Prelude.{◌≡◌, true, ◌+◌, ◌*◌, ◌≤◌, length, None, IfSome};
 ghost use Rattle.std.proofs.lemmas.List.Edits.{sets};
 ghost use Rattle.sheet.specs.Sheet.{parts_of};
+ghost use Rattle.sheet.specs.declared.form.Form.{Form};
 ghost use Rattle.sheet.specs.Records.{count_at};
 ghost use Rattle.decimals.specs.Stored.{Puts};
 ghost use Rattle.text_rows.specs.Written.{node_rows, text_of, has_rows};
@@ -15,6 +16,7 @@ use sheet::source::{Source, Sources};
 
 // How long the rows of a node are.
 fn length_of(source: &Source) -> usize
+    requires { source.now.sheet.form ≡ Form.Short }
     ensures value { result ≡ length (node_rows (parts_of source.now.sheet.bytes.now) source.now.node) }
     ensures upper_bound { result ≤ row_most * count_at source.now.sheet.bytes.now source.now.sheet.links source.now.node + row_most }
 {
@@ -28,7 +30,8 @@ fn length_of(source: &Source) -> usize
 // Stores the rows of a node: its links in their order, then its final row.
 // The area is the caller's, and the text has to lie in it: that is why a place goes along with it here.
 fn put(source: &Source, res: &mut [u8], at: usize) -> usize
-    requires { at + length (node_rows (parts_of source.now.sheet.bytes.now) source.now.node) ≤ length res.old }
+    requires short { source.now.sheet.form ≡ Form.Short }
+    requires text_in_bounds { at + length (node_rows (parts_of source.now.sheet.bytes.now) source.now.node) ≤ length res.old }
     ensures { Puts res.old at (node_rows (parts_of source.now.sheet.bytes.now) source.now.node) res.new result }
 {
     let mut next = at;

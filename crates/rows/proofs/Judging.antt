@@ -23,6 +23,7 @@ use Rattle.row_reader.specs.Surveying.{survey_in, survey_rows, surveyed}
 use Rattle.rows.specs.Judging.{judged_by, judged}
 use Rattle.row_reader.specs.declared.survey.Survey.{Survey}
 use Rattle.row_reader.proofs.Places.{rows-begin}
+use Rattle.sheet.specs.Sheet.{short_trailer, link_length, node_length}
 
 -- ---- the rows of a text that the survey has read
 -- and the final rows: some rows, or none
@@ -84,19 +85,19 @@ module _ (text : List ℕ) (s : Survey) (r : Readable text s) where
   by-fields b e = judged-is ∙ ap (λ (c : Bool). cond (not c) (Err Refusal.Layout) (cond (not (weights_pass rs)) (Err Refusal.Weight) (Ok (survey_in rs)))) e
 
   pub judged-high : s.highest ≡ 0xffff_ffff → Err Refusal.Layout ≡ judged text
-  judged-high e = sym (by-fields false (ap (λ (b : Bool). b && ltb (16 * links_in rs) (2 ^ 32)) (le-ltb (nodes_in rs) (2 ^ 32) (omega (arith, ap (λ (x : Survey). x.highest) r.is)))))
+  judged-high e = sym (by-fields false (ap (λ (b : Bool). b && ltb (link_length * links_in rs) (2 ^ 32)) (le-ltb (nodes_in rs) (2 ^ 32) (omega (arith, ap (λ (x : Survey). x.highest) r.is)))))
 
   pub judged-many : 0x1000_0000 ≤ s.links → Err Refusal.Layout ≡ judged text
   judged-many h = sym (by-fields false (off (ltb (nodes_in rs) (2 ^ 32)) ∙ refl))
     where
-      off : (b : Bool) → b && ltb (16 * links_in rs) (2 ^ 32) ≡ false
-      off true = le-ltb (16 * links_in rs) (2 ^ 32) (omega (arith, ap (λ (x : Survey). x.links) r.is))
+      off : (b : Bool) → b && ltb (link_length * links_in rs) (2 ^ 32) ≡ false
+      off true = le-ltb (link_length * links_in rs) (2 ^ 32) (omega (arith, ap (λ (x : Survey). x.links) r.is))
       off false = refl
 
   module _ (low : s.highest < 0xffff_ffff) (few : s.links < 0x1000_0000) where
     holds : fields_hold rs ≡ true
     holds =
-        λ i. lt-ltb (nodes_in rs) (2 ^ 32) (omega (arith, ap (λ (x : Survey). x.highest) r.is)) i && lt-ltb (16 * links_in rs) (2 ^ 32) (omega (arith, ap (λ (x : Survey). x.links) r.is)) i
+        λ i. lt-ltb (nodes_in rs) (2 ^ 32) (omega (arith, ap (λ (x : Survey). x.highest) r.is)) i && lt-ltb (link_length * links_in rs) (2 ^ 32) (omega (arith, ap (λ (x : Survey). x.links) r.is)) i
 
     by_weights : (b : Bool) → s.passing ≡ b → judged text ≡ cond (not b) (Err Refusal.Weight) (Ok (survey_in rs))
     by_weights b e = by-fields true holds ∙ ap (λ (c : Bool). cond (not c) (Err Refusal.Weight) (Ok (survey_in rs))) (sym (ap (λ (x : Survey). x.passing) r.is) ∙ e)
@@ -128,8 +129,8 @@ passed text s e = go (read_rows text) refl e
         by true x true y e = record { rows = rs; read = q; holds = x; weighs = y; is = cc }
 
 -- the length that the code works out
-pub size_is : (text : List ℕ) (s : Survey) (g : Passed text s) → 16 * s.links + 12 * (s.highest + 1) + 20 ≡ length_of g.rows
-size_is text s g = ap (λ (x : Survey). 16 * x.links + 12 * (x.highest + 1) + 20) g.is
+pub size_is : (text : List ℕ) (s : Survey) (g : Passed text s) → link_length * s.links + node_length * (s.highest + 1) + short_trailer ≡ length_of g.rows
+size_is text s g = ap (λ (x : Survey). link_length * x.links + node_length * (x.highest + 1) + short_trailer) g.is
 
 -- ---- what the calls answer
 module _ (room : ℕ) where

@@ -9,11 +9,12 @@ use lib.Dec.{ltb}
 use lib.ListN.{length, take, drop}
 use lib.Seq.{sets, take_at}
 use borrow.Author.Tests.{ltb-true}
-use Rattle.sheet.specs.Sheet.{Parts, records_fit, verdict, parts_of, read_number, sheet_of}
+use Rattle.sheet.specs.Sheet.{link_length, Parts, unit_fields, unit_fits, records_fit, verdict, parts_of, read_number, sheet_of}
 use Rattle.sheet.specs.Machine.{machine_of, machine}
 use Rattle.sheet.proofs.Apart.{both}
 use Rattle.sheet.proofs.Writing.{length-sheet}
-use Rattle.sheet.proofs.Round.{parts-back, number-back}
+use Rattle.sheet.proofs.Forms.{unit-word}
+use Rattle.sheet.proofs.Round.{Below, parts-back, number-back}
 use Rattle.decimals.proofs.Storing.{sets-front}
 use Rattle.text_rows.specs.Rows.{Row, read_rows, weights_pass}
 use Rattle.text_rows.specs.Convert.{links_in, nodes_in, length_of, fields_hold, number_by, rows_number, parts_of_rows, rows_in, sheet_of_rows, sheet_over}
@@ -25,7 +26,7 @@ use Rattle.std.specs.Prelude.{Result, Ok}
 use Rattle.sheet.specs.declared.refusal.Refusal.{Refusal}
 use Rattle.row_reader.specs.declared.survey.Survey.{Survey}
 use Rattle.text_rows.proofs.Filled.{named}
-use Rattle.text_rows.proofs.Judged.{first-named, start_is, records-hold, length-is, verdict-is}
+use Rattle.text_rows.proofs.Judged.{first-named, start_is, form-is, records-hold, length-is, verdict-is}
 use Rattle.text_rows.proofs.HasRows.{text-has-rows}
 use Rattle.text_rows.proofs.RowFits.{read-fit, links-below, nodes-below}
 use Rattle.text_rows.proofs.RowMachines.{rows-machine}
@@ -39,14 +40,17 @@ module _ (text : List ℕ) (s : Survey) (g : Passed text s) where
   p = parts_of_rows rs
 
   -- counts and offsets that fields hold
-  pub few : (nodes_in rs < 4294967296) × (16 * links_in rs < 4294967296)
-  few = let h = both (ltb (nodes_in rs) (2 ^ 32)) (ltb (16 * links_in rs) (2 ^ 32)) g.holds in (ltb-true (nodes_in rs) (2 ^ 32) h.0, ltb-true (16 * links_in rs) (2 ^ 32) h.1)
+  pub few : (nodes_in rs < 4294967296) × (link_length * links_in rs < 4294967296)
+  few = let h = both (ltb (nodes_in rs) (2 ^ 32)) (ltb (link_length * links_in rs) (2 ^ 32)) g.holds in (ltb-true (nodes_in rs) (2 ^ 32) h.0, ltb-true (link_length * links_in rs) (2 ^ 32) h.1)
 
   records-fit : records_fit p ≡ true
   records-fit = records-hold rs ∙ g.holds
 
   start-below : p.start < 4294967296
   start-below = omega (arith, start_is rs, first-named (nodes_in rs) rs (omega arith) (named rs), few.0)
+
+  unit-in : Below 4294967296 (unit_fields p.form)
+  unit-in = unit-word p.form (ap unit_fits (form-is rs))
 
   sheet-is : sheet_of_rows text ≡ sheet_of p
   unfolding sheet_of_rows
@@ -56,12 +60,12 @@ module _ (text : List ℕ) (s : Survey) (g : Passed text s) where
   sheet-length = ap length sheet-is ∙ length-sheet p records-fit ∙ length-is rs
 
   parts_are : parts_of (sheet_of_rows text) ≡ p
-  parts_are = ap parts_of sheet-is ∙ parts-back p records-fit (links-below rs (read-fit text rs g.read)) (nodes-below rs (omega (arith, few.1))) start-below
+  parts_are = ap parts_of sheet-is ∙ parts-back p records-fit (links-below rs (read-fit text rs g.read)) (nodes-below rs (omega (arith, few.1))) start-below unit-in
 
   accepted : read_number (sheet_of_rows text) ≡ 0
   accepted =
       ap read_number sheet-is
-      ∙ number-back p records-fit (links-below rs (read-fit text rs g.read)) (nodes-below rs (omega (arith, few.1))) start-below
+      ∙ number-back p records-fit (links-below rs (read-fit text rs g.read)) (nodes-below rs (omega (arith, few.1))) start-below unit-in
       ∙ ap (λ (b : Bool). verdict b p) records-fit ∙ verdict-is rs true g.weighs
 
   same : machine (sheet_of_rows text) ≡ machine_of_rows (rows_in text)

@@ -1,5 +1,5 @@
 -- What the calls that write a sheet's rows answer and leave, by the tests in their order. Assumes nothing.
-use mathlib.Core.Path.{◌≡◌, refl, sym, ap, ◌∙◌, subst}
+use mathlib.Core.Path.{◌≡◌, refl, sym, ap, ◌∙◌}
 use mathlib.Core.Bool.{Bool, true, false, not, ◌&&◌, cond}
 use mathlib.Core.List.{List, ◌++◌}
 use Prim.Native.Nat.{ℕ, ◌≤◌, ◌<◌}
@@ -13,7 +13,7 @@ use Rattle.sheet.specs.declared.refusal.Refusal.{Refusal}
 use Rattle.sheet.specs.declared.refusal.Refusal.TheVariants as Refusal
 use Rattle.sheet.specs.Refusals.{number_of, number_in}
 use Rattle.sheet.proofs.Refusals.{number-positive, answer-ok, answer-none}
-use Rattle.sheet.specs.Sheet.{Parts, parts_of, read_number, verdict, sizes_fit, nodes_fit, start_fits, nexts_fit, weights_fit, node_count}
+use Rattle.sheet.specs.Sheet.{Parts, parts_of, read_number, verdict, sizes_fit, nodes_fit, unit_fits, start_fits, nexts_fit, weights_fit, node_count}
 use Rattle.sheet.proofs.Round.{Below}
 use Rattle.text_rows.specs.Convert.{rows_number, sheet_of_rows}
 use Rattle.text_rows.specs.Written.{has_rows, text_of, text_number, text_over}
@@ -50,22 +50,23 @@ module _ (bytes : List ℕ) where
     number-short e h short = number-has e true h ∙ ap (λ (b : Bool). cond b 21 0) (lt-ltb room (length (text_of p)) short)
 
   -- ---- 9 is said of sheets that have no rows, and of no others
-  read-most : read_number bytes ≤ 4
+  never-nine : read_number bytes ≡ 9 → ⊥
   unfolding read_number verdict
-  read-most = go (not (sizes_fit bytes && nodes_fit p)) (not (start_fits (node_count p) p.start)) (not (nexts_fit p)) (not (weights_fit p))
+  never-nine = go (not (sizes_fit bytes && nodes_fit p)) (not (unit_fits p.form)) (not (start_fits (node_count p) p.start)) (not (nexts_fit p)) (not (weights_fit p))
     where
-      go : (a b c d : Bool) → cond a 1 (cond b 2 (cond c 3 (cond d 4 0))) ≤ 4
-      go true b c d = omega arith
-      go false true c d = omega arith
-      go false false true d = omega arith
-      go false false false true = omega arith
-      go false false false false = omega arith
+      go : (a u b c d : Bool) → ◌≡◌ {A = ℕ} (cond a 1 (cond u 14 (cond b 2 (cond c 3 (cond d 4 0))))) 9 → ⊥
+      go true u b c d e = omega (arith, e)
+      go false true b c d e = omega (arith, e)
+      go false false true c d e = omega (arith, e)
+      go false false false true d e = omega (arith, e)
+      go false false false false true e = omega (arith, e)
+      go false false false false false e = omega (arith, e)
 
   nine : (room : ℕ) → text_number bytes room ≡ 9 → has_rows p ≡ false
   nine room e = go (eqb (read_number bytes) 0) refl (has_rows p) refl (ltb room (length (text_of p))) refl
     where
       go : (a : Bool) → eqb (read_number bytes) 0 ≡ a → (b : Bool) → has_rows p ≡ b → (c : Bool) → ltb room (length (text_of p)) ≡ c → b ≡ false
-      go false q b h c s = absurd (omega (arith, read-most, sym (number_read room false q) ∙ e))
+      go false q b h c s = absurd (never-nine (sym (number_read room false q) ∙ e))
       go true q false h c s = refl
       go true q true h true s = absurd (omega (arith, sym (number-has room (eqb-true (read_number bytes) 0 q) true h ∙ ap (λ (c : Bool). cond c 21 0) s) ∙ e))
       go true q true h false s = absurd (omega (arith, sym (number-has room (eqb-true (read_number bytes) 0 q) true h ∙ ap (λ (c : Bool). cond c 21 0) s) ∙ e))

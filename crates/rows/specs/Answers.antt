@@ -17,7 +17,7 @@ sheet_answer text room = answer (length_of (rows_in text)) (rows_number text roo
 abbrev pub sheet_measured : List ℕ → Result ℕ Refusal
 sheet_measured text = sheet_answer text (length_of (rows_in text))
 
--- The first `size` bytes of the area are an accepted sheet, it has rows, and its machine is the one that the text's rows say.
+-- The first `size` bytes of the area are an accepted sheet, it has rows and so the shorter trailer, and its machine is the one that the text's rows say.
 pub record Made (text : List ℕ) (size : ℕ) (area : List ℕ) : Type 0 where
   pub accepted : read_number (take size area) ≡ 0
   pub same : machine (take size area) ≡ machine_of_rows (rows_in text)

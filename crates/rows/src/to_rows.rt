@@ -1,4 +1,4 @@
-// A sheet to rows: 1 to 4, then 9 and 21.
+// A sheet to rows: 1, 14 and 2 to 4, then 9 and 21.
 ghost use Rattle.std.specs.Prelude.{◌≡◌, ℕ, true, length, MatchResult};
 ghost use Rattle.sheet.specs.Refusals.{number_of};
 ghost use Rattle.sheet.specs.Sheet.{parts_of};
@@ -10,7 +10,7 @@ use row_writer::sheet_text::{put_rows, text_length};
 use sheet::accepted::Sheet;
 use sheet::refusal::Refusal;
 
-// A sheet that has rows: refused are 1 to 4, then 9.
+// A sheet that has rows: refused are 1, 14 and 2 to 4, then 9.
 fn with_rows<'a>(bytes: &'a [u8]) -> Result<Sheet<'a>, Refusal>
     ensures { MatchResult result (λ s. (s.bytes.now ≡ bytes.now) × (has_rows (parts_of bytes.now) ≡ true)) (λ r. (room : ℕ) → text_number bytes.now room ≡ number_of r) }
 {
@@ -21,7 +21,7 @@ fn with_rows<'a>(bytes: &'a [u8]) -> Result<Sheet<'a>, Refusal>
     Ok(sheet)
 }
 
-// How many bytes the text of a sheet has, or the refusal: 1 to 4, then 9.
+// How many bytes the text of a sheet has, or the refusal: 1, 14 and 2 to 4, then 9.
 pub fn rows_bytes(sheet: &[u8]) -> Result<usize, Refusal>
     ensures { result ≡ text_measured sheet.now }
 {

@@ -1,6 +1,6 @@
 // Rows to a sheet: 8, then 1, 4 and 21.
 ghost use Rattle.std.specs.Prelude.{◌≡◌, ℕ, ◌+◌, ◌*◌, ◌^◌, ◌<◌, length};
-ghost use Rattle.sheet.specs.Sheet.{trailer_length};
+ghost use Rattle.sheet.specs.Sheet.{link_length, node_length, short_trailer};
 ghost use Rattle.text_rows.specs.Convert.{sheet_over};
 ghost use Rattle.rows.specs.Answers.{sheet_answer, sheet_measured, Made};
 ghost use Rattle.rows.specs.Judging.{judged};
@@ -8,8 +8,9 @@ ghost use Rattle.rows.specs.Judging.{judged};
 use row_filler::fill::fill;
 use row_reader::finals::finals_once;
 use row_reader::survey::{Survey, start_of, survey_of};
+use sheet::form::SHORT_TRAILER;
 use sheet::refusal::Refusal;
-use sheet::tr::{LINKS_PAST, TRAILER};
+use sheet::tr::{LINK, LINKS_PAST, NODE};
 
 // What the rows of a text say, after the tests 8, 1 and 4, each over the whole text, in this order.
 fn judge(text: &[u8]) -> Result<Survey, Refusal>
@@ -34,12 +35,12 @@ fn judge(text: &[u8]) -> Result<Survey, Refusal>
     Ok(s)
 }
 
-// The length of a sheet with so many links and this highest node.
+// The length of a sheet with so many links, this highest node and the shorter trailer.
 fn length_of(links: usize, highest: u32) -> usize
     requires { links < 2 ^ 28 }
-    ensures { result ≡ 16 * links + 12 * (highest + 1) + trailer_length }
+    ensures { result ≡ link_length * links + node_length * (highest + 1) + short_trailer }
 {
-    16 * links + 12 * ((highest as usize) + 1) + TRAILER
+    LINK * links + NODE * ((highest as usize) + 1) + SHORT_TRAILER
 }
 
 // How many bytes the sheet of these rows has, or the refusal: 8, then 1 and 4.

@@ -9,8 +9,9 @@ use lib.ListN.{length, get_or, take, length-map, length-reverse, length-replicat
 use lib.Seq.{take-suc, take-length}
 use borrow.Author.Tests.{eq-eqb, ne_eqb}
 use Rattle.tropical_weight.specs.Tropical.{Tropical}
-use Rattle.sheet.specs.Sheet.{Parts, no_start, link_count, node_count, next, mark}
+use Rattle.sheet.specs.Sheet.{Parts, unit_fields, no_start, link_count, node_count, next, mark}
 use Rattle.sheet.specs.Machine.{Link, Machine, parts_for}
+use Rattle.sheet.proofs.Round.{Below}
 use Rattle.sheet.proofs.Encoding.{Writable, nodes-are, links-are, start_is, next-is, mark-some, mark-none, source_of}
 use Rattle.machine.specs.Readings.{Reading, link, no_link, final}
 use Rattle.machine.specs.Demand.{◌∈◌}
@@ -24,6 +25,7 @@ pub record OneFits (m : Machine) (x : Reading) : Type 0 where
   pub labels : Labels m
   pub few : length x.run < 2 ^ 28
   pub inputs : (l : ℕ) → l ∈ x.run → l < no_start
+  pub unit-word : Below 4294967296 (unit_fields m.form)
 
 -- ---- the links by number
 length_back : (m : Machine) (s : ℕ) (ls : List ℕ) → length (back_links m s ls) ≡ length ls
@@ -77,6 +79,7 @@ module _ (m : Machine) (x : Reading) (f : OneFits m x) where
       start_fits_lem = omega (arith, f.few);
       few-nodes = omega (arith, nodes-long m x, f.few);
       few-links = omega (arith, links-long m x, f.few);
+      unit-word = f.unit-word;
     };
     word_each = length-map {B = Option ℕ} (reverse x.run) some ∙ length-reverse x.run ∙ sym (links-long m x);
     inputs-fit = λ i l h e.
@@ -134,5 +137,5 @@ module _ (m : Machine) (x : Reading) (f : OneFits m x) (w : Tropical) (marked : 
       ∙ ap reverse (ap (λ (k : ℕ). take k ws) (sym (length-reverse x.run)) ∙ take-length ws) ∙ reverse-reverse x.run)
 
   -- the list read back is the one reading
-  pub best-back : (rest : List ℕ) → list_of 1 (length (best_result m x).machine.finals) (length (best_result m x).machine.links) (result_bytes (best_result m x) ++ rest) ≡ x.run ∷ []
+  pub best-back : (rest : List ℕ) → list_of m.form 1 (length (best_result m x).machine.finals) (length (best_result m x).machine.links) (result_bytes (best_result m x) ++ rest) ≡ x.run ∷ []
   best-back rest = read_result (best_result m x) (best-storable m x f) rest 1 ∙ ap (one_way (fields m x)) (words_are m x) ∙ one_way_lem

@@ -6,13 +6,14 @@ use Prim.Native.Nat.{ℕ}
 use lib.IntN.{pos}
 use lib.ListN.{length}
 use Rattle.tropical_weight.specs.Tropical.{Tropical, fin, one}
+use Rattle.sheet.specs.declared.form.Form.{Form}
 use Rattle.sheet.specs.Sheet.{parts_of}
 use Rattle.sheet.specs.Machine.{Link, Machine, machine_of}
 use Rattle.sheet.proofs.Bench.{sheet_a}
 use Rattle.machine.specs.Readings.{link, reading_of, reading_cost, run_cost, marked}
 use Rattle.machine.specs.Distance.{reached, dist, total, distances}
 use Rattle.machine.specs.Parents.{best}
-use Rattle.machine.proofs.Bench.{arc, machine_a, machine_b, machine_c}
+use Rattle.machine.proofs.Bench.{arc, machine_a, machine_fine, machine_b, machine_c}
 use Rattle.search.specs.Reversed.{out_of_zero, links_into}
 use Rattle.search.specs.Search.{search}
 use Rattle.search.specs.ListMachine.{empty, result_for, result_bytes}
@@ -28,7 +29,7 @@ record Told : Type 0 where
 abbrev told : Machine → ℕ → Told
 told m n =
     let r = result_for m n in
-    let list = list_of n (length r.machine.finals) (length r.machine.links) (result_bytes r) in
+    let list = list_of m.form n (length r.machine.finals) (length r.machine.links) (result_bytes r) in
     record { runs = list; labels = map (map (λ (l : ℕ). (link m l).ilabel)) list; costs = map (λ x. reading_cost m (reading_of m x)) list; taken = r.taken }
 
 -- the links of a result's machine: source, next, weight, and the input link that each repeats
@@ -96,6 +97,11 @@ A64 : told machine_a 64 ≡ all_a
 unfolding search marked out_of_zero links_into dist total run_cost best result_for result_bytes list_of
 A64 = refl
 
+-- in 256ths, n = 3: the same readings at four times the units, and a result of the same form
+fine3 : (told machine_fine 3 ≡ record { runs = all_a.runs; labels = all_a.labels; costs = fin (pos 448) ∷ fin (pos 448) ∷ fin (pos 576) ∷ []; taken = 11 }) × ((result_for machine_fine 3).machine.form ≡ Form.Long 256)
+unfolding search marked out_of_zero links_into dist total run_cost best result_for result_bytes list_of
+fine3 = (refl, refl)
+
 -- the parents' way, from the final node, state 0, up to the start
 way-A : (rows machine_a 1 ≡ row 1 0 16 (some 2) ∷ row 2 1 64 (some 0) ∷ []) × ((result_for machine_a 1).machine.finals ≡ some (fin (pos 32)) ∷ none ∷ none ∷ []) × ((result_for machine_a 1).machine.start ≡ some 2)
 unfolding search marked out_of_zero links_into dist total best result_for
@@ -110,9 +116,17 @@ rows-A = refl
 sheet_e : List ℕ
 sheet_e = 0 ∷ 0 ∷ 0 ∷ 0 ∷ 0 ∷ 0 ∷ 0 ∷ 0 ∷ 0 ∷ 0 ∷ 0 ∷ 0 ∷ 0 ∷ 0 ∷ 0 ∷ 0 ∷ 255 ∷ 255 ∷ 255 ∷ 255 ∷ []
 
-P5 : (n : ℕ) → result_for (machine_of (parts_of sheet_e)) n ≡ empty
+P5 : (n : ℕ) → result_for (machine_of (parts_of sheet_e)) n ≡ empty Form.Short
 unfolding sheet_e parts_of machine_of result_for
 P5 n = refl
+
+-- with the longer trailer its result is the sheet again, 24 bytes, in either unit
+sheet_e_in : ℕ → ℕ → List ℕ
+sheet_e_in low high = 0 ∷ 0 ∷ 0 ∷ 0 ∷ 0 ∷ 0 ∷ 0 ∷ 0 ∷ 0 ∷ 0 ∷ 0 ∷ 0 ∷ 0 ∷ 0 ∷ 0 ∷ 0 ∷ 255 ∷ 255 ∷ 255 ∷ 255 ∷ low ∷ high ∷ 0 ∷ 0 ∷ []
+
+long-E : (n : ℕ) → (result_bytes (result_for (machine_of (parts_of (sheet_e_in 64 0))) n) ≡ sheet_e_in 64 0) × (result_bytes (result_for (machine_of (parts_of (sheet_e_in 0 1))) n) ≡ sheet_e_in 0 1)
+unfolding sheet_e_in parts_of machine_of result_for result_bytes
+long-E n = (refl, refl)
 
 -- ---- two equal links, then three: six readings of equal cost, of which the heap picks these; the one that the parents give, 0 and 2, is not among them
 B2 : told machine_b 2 ≡ record { runs = (1 ∷ 2 ∷ []) ∷ (0 ∷ 3 ∷ []) ∷ []; labels = (1 ∷ 1 ∷ []) ∷ (1 ∷ 1 ∷ []) ∷ []; costs = one ∷ one ∷ []; taken = 11 }
@@ -121,7 +135,7 @@ B2 = refl
 
 -- ---- three readings of cost 0: half-built entries of the same rank are taken before finished ones
 machine_d : Machine
-machine_d = record { links = arc 0 1 0 1 ∷ arc 0 1 0 2 ∷ []; finals = some one ∷ some one ∷ some one ∷ []; start = some 0 }
+machine_d = record { links = arc 0 1 0 1 ∷ arc 0 1 0 2 ∷ []; finals = some one ∷ some one ∷ some one ∷ []; start = some 0; form = Form.Short }
 
 D2 : told machine_d 2 ≡ record { runs = [] ∷ (0 ∷ []) ∷ []; labels = [] ∷ (1 ∷ []) ∷ []; costs = one ∷ one ∷ []; taken = 8 }
 unfolding machine_d search marked out_of_zero links_into dist total run_cost best result_for result_bytes list_of

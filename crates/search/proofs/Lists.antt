@@ -9,8 +9,8 @@ use native.Mathlib.Omega.{arith}
 use lib.ListN.{length, length-map}
 use Rattle.tropical_weight.specs.Limits.{node_limit, link_limit, list_limit}
 use Rattle.tropical_weight.specs.Tropical.{Tropical}
-use Rattle.sheet.specs.Sheet.{parts_of}
-use Rattle.sheet.specs.Machine.{Machine, machine_of}
+use Rattle.sheet.specs.Sheet.{unit_fields, parts_of}
+use Rattle.sheet.specs.Machine.{Machine, machine_of, machine}
 use Rattle.sheet.proofs.Round.{Below}
 use Rattle.machine.specs.Readings.{Reading, IsReading, reading_of, readings, marked}
 use Rattle.machine.specs.Climbs.{Climbs}
@@ -22,6 +22,7 @@ use Rattle.machine.proofs.Runs.{run_length, run_in}
 use Rattle.machine.proofs.Readings.{final-in, reading-is, readings-are}
 use Rattle.machine.proofs.Parents.{best-is, best-some}
 use Rattle.machine.proofs.SheetFields.{fields-own, labels-below}
+use Rattle.sheet.proofs.Forms.{unit-word}
 use Rattle.machine.proofs.Demand.{demand-best, demand-none}
 use Rattle.search.specs.Search.{most_taken, search, runs, run_of}
 use Rattle.search.specs.ListMachine.{Result, best_result, trimmed, result_by, result_for, result_bytes}
@@ -35,7 +36,7 @@ use Rattle.search.proofs.BackOne.{OneFits, best-back}
 
 -- the list for n that a result's bytes hold, with any bytes after them
 abbrev pub list_in : ℕ → Result → List ℕ → List (List ℕ)
-list_in n r rest = list_of n (length r.machine.finals) (length r.machine.links) (result_bytes r ++ rest)
+list_in n r rest = list_of r.machine.form n (length r.machine.finals) (length r.machine.links) (result_bytes r ++ rest)
 
 -- what is known of the machine of an accepted sheet
 pub record Accepted (m : Machine) : Type 0 where
@@ -43,6 +44,7 @@ pub record Accepted (m : Machine) : Type 0 where
   pub labels : Labels m
   pub few-nodes : length m.finals ≤ node_limit
   pub few-links : length m.links ≤ link_limit
+  pub unit-word : Below 4294967296 (unit_fields m.form)
 
 pub marked-few : (fs : List (Option Tropical)) → marked fs ≤ length fs
 unfolding marked
@@ -62,6 +64,7 @@ module _ (m : Machine) (a : Accepted m) where
     labels = a.labels;
     few = omega (arith, put-in m a.climbs n, (holds m a.climbs n).mirrors.size, few-listed m a.climbs n, few-entries n b);
     inputs = λ i l p e. omega (arith, inputs_in m a.climbs n i p l e, a.few-links);
+    unit-word = a.unit-word;
   }
 
   -- where there is a reading one is listed
@@ -87,6 +90,7 @@ module _ (m : Machine) (a : Accepted m) where
     labels = a.labels;
     few = omega (arith, run_length m a.climbs x.run i.from x.end i.runs, final-in m x.end i.weight i.marked, a.few-nodes);
     inputs = λ l h. omega (arith, run_in m x.run i.from x.end i.runs l h, a.few-links);
+    unit-word = a.unit-word;
   }
 
   pub list-one : (x : Reading) → IsReading m x → (rest : List ℕ) → list_in 1 (best_result m x) rest ≡ x.run ∷ []
@@ -101,7 +105,7 @@ module _ (m : Machine) (a : Accepted m) where
       no-reading e y i = let x = best-some m a.climbs y i in let q = x.1 in let z : ◌≡◌ {A = ℕ} 0 1 = cc in omega arith
 
       go : (n : ℕ) → 1 ≤ n → n ≤ list_limit → (o : Option Reading) → best m ≡ o → Demand m n (map (reading_of m) (list_in n (result_by m n o) rest))
-      go n p b none e = subst (λ l. Demand m n (map (reading_of m) l)) (sym (empty_back n rest)) (demand-none m a.climbs n (no-reading e))
+      go n p b none e = subst (λ l. Demand m n (map (reading_of m) l)) (sym (empty_back m.form a.unit-word n rest)) (demand-none m a.climbs n (no-reading e))
       go zero p b (some x) e = absurd (omega arith)
       go (suc zero) p b (some x) e =
           let i = (best-is m a.climbs x e).0 in
@@ -136,6 +140,17 @@ module _ (m : Machine) (a : Accepted m) where
       go (suc zero) (some x) = omega arith
       go (suc (suc k)) (some x) = taken-bound m a.climbs (suc (suc k))
 
+-- the result's machine has the form of the machine that is read
+pub result-form : (m : Machine) (n : ℕ) → (result_for m n).machine.form ≡ m.form
+unfolding result_for trimmed
+result-form m n = go n (best m)
+  where
+    go : (n : ℕ) (o : Option Reading) → (result_by m n o).machine.form ≡ m.form
+    go n none = refl
+    go zero (some x) = refl
+    go (suc zero) (some x) = refl
+    go (suc (suc k)) (some x) = refl
+
 -- the machine of every accepted sheet is one
 pub accepted : (bytes : List ℕ) → Below 256 bytes → input_number bytes ≡ 0 → Accepted (machine_of (parts_of bytes))
-accepted bytes b e = let f = fields-own bytes e in record { climbs = f.climbs; labels = labels-below f b; few-nodes = f.few-nodes; few-links = f.few-links }
+accepted bytes b e = let f = fields-own bytes e in record { climbs = f.climbs; labels = labels-below f b; few-nodes = f.few-nodes; few-links = f.few-links; unit-word = unit-word (machine bytes).form f.unit_fits_lem }

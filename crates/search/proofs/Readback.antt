@@ -11,9 +11,10 @@ use lib.Seq.{get_or-append-add}
 use borrow.Author.Tests.{eq-eqb, ne_eqb}
 use Rattle.tropical_weight.specs.Tropical.{Tropical, one}
 use Rattle.sheet.specs.Below.{list_below}
-use Rattle.sheet.specs.Sheet.{Parts, no_start, link_count, node_count, next, mark}
+use Rattle.sheet.specs.Sheet.{Parts, unit_fields, no_start, link_count, node_count, next, mark}
 use Rattle.sheet.specs.Machine.{Link, Machine, parts_for}
 use Rattle.sheet.proofs.Below.{split_at}
+use Rattle.sheet.proofs.Round.{Below}
 use Rattle.sheet.proofs.Encoding.{LinkFits, Writable, nodes-are, links-are, start_is, next-is, mark-some, mark-none, source_of}
 use Rattle.machine.specs.Readings.{no_link}
 use Rattle.machine.specs.Demand.{◌∈◌}
@@ -35,6 +36,7 @@ pub record Fits (m : Machine) (s : Search) : Type 0 where
   pub labels : Labels m
   pub few : length s.listed + length s.entries ≤ 2 ^ 28
   pub inputs : (i l : ℕ) → i < length s.entries → input_of s i ≡ some l → l < no_start
+  pub unit-word : Below 4294967296 (unit_fields m.form)
 
 -- ---- the list machine by its numbers
 module _ (m : Machine) (s : Search) where
@@ -146,6 +148,7 @@ module _ (m : Machine) (s : Search) (w : Numbered s) (x : Fits m s) where
       start_fits_lem = omega arith;
       few-nodes = omega (arith, nodes-long m s, later-few);
       few-links = omega (arith, links-long m s, later-few);
+      unit-word = x.unit-word;
     };
     word_each = repeats-long m s;
     inputs-fit = λ l a h e. input-fits l (which m s l (omega (arith, repeats-long m s))) a e;
@@ -241,5 +244,5 @@ module _ (m : Machine) (s : Search) (w : Numbered s) (x : Fits m s) where
           ∙ way-is (node_count (fields m s)) (length s.entries) i (w.inside i listed) on (omega (arith, nodes-are (list_machine m s), nodes-long m s, state-in s i (w.inside i listed) on)) (omega (arith, w.inside i listed))
 
   -- the list read back is the list
-  pub list_back : (n : ℕ) → (n ≡ 1 → ⊥) → (rest : List ℕ) → list_of n (length (list_machine m s).finals) (length (list_machine m s).links) (result_bytes (list_result m s) ++ rest) ≡ runs s
+  pub list_back : (n : ℕ) → (n ≡ 1 → ⊥) → (rest : List ℕ) → list_of m.form n (length (list_machine m s).finals) (length (list_machine m s).links) (result_bytes (list_result m s) ++ rest) ≡ runs s
   list_back n h rest = read_result (list_result m s) (list-storable m s w x) rest n ∙ ap (λ (t : Bool). cond t (one_way (fields m s) (words_of m s)) (ways (fields m s) (words_of m s))) (ne_eqb n 1 h) ∙ ways-are

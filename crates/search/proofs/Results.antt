@@ -13,8 +13,9 @@ use lib.ListN.{length, get_or, take, length-append, length-map, get_or-eq_defaul
 use lib.Seq.{take_at}
 use borrow.Author.Tests.{eq-eqb, ne_eqb}
 use Rattle.sheet.specs.Below.{list_below}
-use Rattle.sheet.specs.Words.{words, bytes_of_all}
-use Rattle.sheet.specs.Sheet.{Parts, no_start, node_count, sheet_of, parts_of}
+use Rattle.sheet.specs.declared.form.Form.{Form}
+use Rattle.sheet.specs.Words.{word_length, words, bytes_of_all}
+use Rattle.sheet.specs.Sheet.{Parts, link_length, node_length, trailer_length, unit_fields, no_start, node_count, sheet_of, parts_of}
 use Rattle.sheet.specs.Machine.{Link, Machine, sources_below, node_fields, parts_for}
 use Rattle.sheet.proofs.Below.{split_at}
 use Rattle.sheet.proofs.Bytes.{length-bytes_of_all}
@@ -60,19 +61,19 @@ module _ (r : Result) (x : Storable r) (rest : List ℕ) where
   after = bytes_of_all (map word_for r.repeats)
 
   abbrev size : ℕ
-  size = 16 * length r.machine.links + 12 * length r.machine.finals + 20
+  size = link_length * length r.machine.links + node_length * length r.machine.finals + trailer_length r.machine.form
 
-  pub parts-read : parts_of (take (16 * length r.machine.links + 12 * length r.machine.finals + 20) (result_bytes r ++ rest)) ≡ parts_for r.machine
+  pub parts-read : parts_of (take (link_length * length r.machine.links + node_length * length r.machine.finals + trailer_length r.machine.form) (result_bytes r ++ rest)) ≡ parts_for r.machine
   unfolding result_bytes
   parts-read = ap (λ (b : List ℕ). parts_of (take size b)) (append_assoc sheet after rest) ∙ ap parts_of (take_at sheet (after ++ rest) size (sheet-length r.machine x.machine-fits)) ∙ fields_back r.machine x.machine-fits
 
-  pub words-read : words (result_bytes r ++ rest) (16 * length r.machine.links + 12 * length r.machine.finals + 20) (length r.machine.links) ≡ map word_for r.repeats
+  pub words-read : words (result_bytes r ++ rest) (link_length * length r.machine.links + node_length * length r.machine.finals + trailer_length r.machine.form) (length r.machine.links) ≡ map word_for r.repeats
   unfolding result_bytes
   words-read =
       (λ i. words (sheet ++ after ++ rest) (sym (sheet-length r.machine x.machine-fits) i) (sym (length-map r.repeats word_for ∙ x.word_each) i))
       ∙ words_of (map word_for r.repeats) sheet rest (words-below r.repeats x.inputs-fit)
 
-  pub result-long : 16 * length r.machine.links + 12 * length r.machine.finals + 20 + 4 * length r.machine.links ≤ length (result_bytes r ++ rest)
+  pub result-long : link_length * length r.machine.links + node_length * length r.machine.finals + trailer_length r.machine.form + word_length * length r.machine.links ≤ length (result_bytes r ++ rest)
   unfolding result_bytes
   result-long =
       omega (
@@ -85,7 +86,7 @@ module _ (r : Result) (x : Storable r) (rest : List ℕ) where
         x.word_each,
       )
 
-  pub read_result : (n : ℕ) → list_of n (length r.machine.finals) (length r.machine.links) (result_bytes r ++ rest) ≡ list_in n (parts_for r.machine) (map word_for r.repeats)
+  pub read_result : (n : ℕ) → list_of r.machine.form n (length r.machine.finals) (length r.machine.links) (result_bytes r ++ rest) ≡ list_in n (parts_for r.machine) (map word_for r.repeats)
   unfolding list_of
   read_result n = λ i. list_in n (parts-read i) (words-read i)
 
@@ -136,18 +137,19 @@ module _ (p : Parts) (ws : List ℕ) where
   repeated-is none l way f e = ap (λ (x : ℕ). cond (eqb x no_start) way (x ∷ way)) e
   repeated-is (some a) l way f e = ap (λ (x : ℕ). cond (eqb x no_start) way (x ∷ way)) e ∙ ap (λ (t : Bool). cond t way (a ∷ way)) (ne_eqb a no_start (λ z. omega (arith, z, f a refl)))
 
--- ---- the empty result
-pub empty-storable : Storable empty
-empty-storable = record {
-  machine-fits = record { each = λ l d h. absurd (omega arith); by-source = λ k l d a b. absurd (omega arith); start_fits_lem = omega arith; few-nodes = omega arith; few-links = omega arith };
-  word_each = refl;
-  inputs-fit = λ i l h e. absurd (omega arith);
-}
+-- ---- the empty result, where the unit is a word
+module _ (form : Form) (unit-word : Below 4294967296 (unit_fields form)) where
+  pub empty-storable : Storable (empty form)
+  empty-storable = record {
+    machine-fits = record { each = λ l d h. absurd (omega arith); by-source = λ k l d a b. absurd (omega arith); start_fits_lem = omega arith; few-nodes = omega arith; few-links = omega arith; unit-word = unit-word };
+    word_each = refl;
+    inputs-fit = λ i l h e. absurd (omega arith);
+  }
 
-pub empty_back : (n : ℕ) (rest : List ℕ) → list_of n 0 0 (result_bytes empty ++ rest) ≡ []
-unfolding parts_for flat_map node_fields out_from
-empty_back n rest = read_result empty empty-storable rest n ∙ go (eqb n 1)
-  where
-    go : (t : Bool) → cond t (one_way (parts_for empty.machine) []) (ways (parts_for empty.machine) []) ≡ []
-    go true = refl
-    go false = refl
+  pub empty_back : (n : ℕ) (rest : List ℕ) → list_of form n 0 0 (result_bytes (empty form) ++ rest) ≡ []
+  unfolding parts_for flat_map node_fields out_from
+  empty_back n rest = read_result (empty form) empty-storable rest n ∙ go (eqb n 1)
+    where
+      go : (t : Bool) → cond t (one_way (parts_for (empty form).machine) []) (ways (parts_for (empty form).machine) []) ≡ []
+      go true = refl
+      go false = refl

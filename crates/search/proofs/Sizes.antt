@@ -1,16 +1,16 @@
 -- How long a result is: by the counts of its machine, and at most by the counts of the machine that is read. Assumes nothing.
-use mathlib.Core.Path.{◌≡◌, refl, sym, ◌∙◌, subst}
+use mathlib.Core.Path.{◌≡◌, refl, sym, ap, ◌∙◌, subst}
 use mathlib.Core.Option.{Option, none, some}
-use mathlib.Core.List.{List, map}
+use mathlib.Core.List.{List, ◌++◌, map}
 use Prim.Native.Nat.{ℕ, zero, suc, ◌+◌, ◌-◌, ◌*◌, ◌≤◌}
 use native.Mathlib.Omega.{arith}
-use lib.ListN.{length, length-append, length-map}
+use lib.ListN.{length, take, length-append, length-map}
 use Rattle.tropical_weight.specs.Limits.{list_limit}
-use Rattle.sheet.specs.Words.{bytes_of_all}
-use Rattle.sheet.specs.Sheet.{sheet_of}
+use Rattle.sheet.specs.Words.{word_length, bytes_of_all}
+use Rattle.sheet.specs.Sheet.{Parts, link_length, node_length, trailer_length, form_of, parts_of, sheet_of}
 use Rattle.sheet.specs.Machine.{Machine, parts_for}
 use Rattle.sheet.proofs.Bytes.{length-bytes_of_all}
-use Rattle.sheet.proofs.Encoding.{sheet-length}
+use Rattle.sheet.proofs.Encoding.{form-is, sheet-length}
 use Rattle.machine.specs.Readings.{Reading}
 use Rattle.machine.specs.Parents.{best}
 use Rattle.machine.proofs.Runs.{run_length}
@@ -23,15 +23,15 @@ use Rattle.search.proofs.Complete.{holds, put-in, few-listed}
 use Rattle.search.proofs.Entries.{numbered}
 use Rattle.search.proofs.OnWays.{kept-le}
 use Rattle.search.proofs.Trims.{trimmed-is}
-use Rattle.search.proofs.Results.{Storable, empty-storable, read_result}
+use Rattle.search.proofs.Results.{Storable, empty-storable, parts-read, read_result}
 use Rattle.search.proofs.Readback as Readback
 use Rattle.search.proofs.Readback.{list-storable}
 use Rattle.search.proofs.BackOne as BackOne
 use Rattle.search.proofs.BackOne.{best-storable}
-use Rattle.search.proofs.Lists.{Accepted, list_in, fits, one-fits, some-listed}
+use Rattle.search.proofs.Lists.{Accepted, list_in, fits, one-fits, some-listed, result-form}
 
--- 16 bytes a link, 12 a node, the trailer, and a word a link
-pub result-length : (r : Result) → Storable r → length (result_bytes r) ≡ 20 * length r.machine.links + 12 * length r.machine.finals + 20
+-- the sheet, and a word a link
+pub result-length : (r : Result) → Storable r → length (result_bytes r) ≡ (link_length + word_length) * length r.machine.links + node_length * length r.machine.finals + trailer_length r.machine.form
 unfolding result_bytes
 result-length r x =
     omega (
@@ -50,8 +50,8 @@ pub record Holds (r : Result) (nodes links : ℕ) : Type 0 where
   pub few-links : length r.machine.links ≤ links
 
 module _ (m : Machine) (a : Accepted m) where
-  empty_holds : (nodes links : ℕ) → Holds empty nodes links
-  empty_holds nodes links = record { storable = empty-storable; few-nodes = omega arith; few-links = omega arith }
+  empty_holds : (nodes links : ℕ) → Holds (empty m.form) nodes links
+  empty_holds nodes links = record { storable = empty-storable m.form a.unit-word; few-nodes = omega arith; few-links = omega arith }
 
   -- n = 1: a run has fewer links than there are nodes
   pub one_holds : Holds (result_for m 1) (length m.finals) (length m.finals)
@@ -106,3 +106,9 @@ module _ (m : Machine) (a : Accepted m) where
   -- what follows a result does not change its list
   pub rest-same : (n : ℕ) → n ≤ list_limit → (rest other : List ℕ) → list_in n (result_for m n) rest ≡ list_in n (result_for m n) other
   rest-same n b rest other = read_result (result_for m n) (result-storable n b) rest n ∙ sym (read_result (result_for m n) (result-storable n b) other n)
+
+  -- its sheet, as its bytes are read, has the form of the machine that is answered
+  pub form-read : (n : ℕ) → n ≤ list_limit → (rest : List ℕ) → let r = result_for m n in
+      form_of (take (link_length * length r.machine.links + node_length * length r.machine.finals + trailer_length r.machine.form) (result_bytes r ++ rest)) ≡ m.form
+  unfolding parts_of
+  form-read n b rest = let r = result_for m n in ap (λ (p : Parts). p.form) (parts-read r (result-storable n b) rest) ∙ form-is r.machine ∙ result-form m n

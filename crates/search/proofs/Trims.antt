@@ -314,4 +314,4 @@ module _ (m : Machine) (s : Search) (n : Numbered s) (some-listed : 0 < length s
   trimmed-is =
       let links = of-links (λ c. c.link) in
       let repeats = of-links (λ c. c.repeats) ∙ ap (λ r. r ++ map (λ j. (get_or s.entries j first).input) (later s)) (map-same-one none s.listed) in
-      λ i. record { machine = record { links = links i; finals = finals-stay i; start = some 0 }; repeats = repeats i; taken = s.taken }
+      λ i. record { machine = record { links = links i; finals = finals-stay i; start = some 0; form = m.form }; repeats = repeats i; taken = s.taken }

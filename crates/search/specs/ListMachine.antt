@@ -4,6 +4,7 @@ use Rattle.std.proofs.Math.Bool.{cond}
 use Rattle.std.proofs.Math.Option.{Option, none, some}
 use mathlib.Core.List.{List, [], ◌∷◌, ◌++◌, map, reverse}
 use Rattle.tropical_weight.specs.Tropical.{Tropical, one}
+use Rattle.sheet.specs.declared.form.Form.{Form}
 use Rattle.sheet.specs.Below.{sum_below, list_below}
 use Rattle.sheet.specs.Words.{bytes_of_all}
 use Rattle.sheet.specs.Sheet.{no_start, sheet_of}
@@ -12,15 +13,15 @@ use Rattle.machine.specs.Readings.{Reading, IsRun, link, final, final_weight}
 use Rattle.machine.specs.Parents.{best}
 use Rattle.search.specs.Search.{Entry, half, finished, Put, first, Search, search}
 
--- A machine, for each of its links the number of the input link that it repeats, or none, and how many entries were taken.
+-- A machine, of the form of the sheet that it answers; for each of its links the number of the input link that it repeats, or none, and how many entries were taken.
 pub record Result : Type 0 where
   pub machine : Machine
   pub repeats : List (Option ℕ)
   pub taken : ℕ
 
--- no nodes
-abbrev pub empty : Result
-empty = record { machine = record { links = []; finals = []; start = none }; repeats = []; taken = 0 }
+-- no nodes, in a sheet of that form
+abbrev pub empty : Form → Result
+empty form = record { machine = record { links = []; finals = []; start = none; form = form }; repeats = []; taken = 0 }
 
 -- a link that repeats this one between two other states
 abbrev pub moved : Link → ℕ → ℕ → Link
@@ -39,7 +40,7 @@ back_links m s (l ∷ ls) = moved (link m l) s (s - 1) ∷ back_links m (suc s) 
 abbrev pub best_result : Machine → Reading → Result
 best_result m x =
     let k = length x.run in
-    let way : Machine = record { links = back_links m 1 (reverse x.run); finals = final m x.end ∷ replicate k none; start = some k } in
+    let way : Machine = record { links = back_links m 1 (reverse x.run); finals = final m x.end ∷ replicate k none; start = some k; form = m.form } in
     record { machine = way; repeats = map some (reverse x.run); taken = 0 }
 
 -- A link, and the number of the input link that it repeats, or none.
@@ -72,7 +73,7 @@ abbrev pub finals_of : Search → List (Option Tropical)
 finals_of s = none ∷ some one ∷ replicate (length s.entries - 1) none
 
 abbrev pub untrimmed : Machine → Search → Machine
-untrimmed m s = record { links = map (λ (k : Copy). k.link) (copies m s); finals = finals_of s; start = some 0 }
+untrimmed m s = record { links = map (λ (k : Copy). k.link) (copies m s); finals = finals_of s; start = some 0; form = m.form }
 
 -- ---- trimming
 -- State q of a machine is on a way from the start to a final state: a run of links leads from the one to it, and another from it to the other.
@@ -128,15 +129,15 @@ unfolding on_way copies links_stay finals_stay
 trimmed m s =
     let ks = links_stay (stays_in s) (copies m s) in
     record {
-      machine = record { links = map (λ (k : Copy). k.link) ks; finals = finals_stay (stays_in s) 0 (finals_of s); start = some 0 };
+      machine = record { links = map (λ (k : Copy). k.link) ks; finals = finals_stay (stays_in s) 0 (finals_of s); start = some 0; form = m.form };
       repeats = map (λ (k : Copy). k.repeats) ks;
       taken = s.taken;
     }
 
 -- ---- for any n
 abbrev pub result_by : Machine → ℕ → Option Reading → Result
-result_by m n none = empty
-result_by m zero (some x) = empty
+result_by m n none = empty m.form
+result_by m zero (some x) = empty m.form
 result_by m (suc zero) (some x) = best_result m x
 result_by m (suc (suc k)) (some x) = trimmed m (search m (suc (suc k)))
 

@@ -1,10 +1,11 @@
--- Which readings a list holds, told by the bytes of the result and the counts of its machine alone. Definitions only.
+-- Which readings a list holds, told by the bytes of the result and the form and the counts of its machine alone. Definitions only.
 use Rattle.std.proofs.Math.Bool.{cond}
 use mathlib.Core.List.{List, [], ◌∷◌, ◌++◌, map}
-use Prim.Native.Nat.{ℕ, zero, suc, ◌+◌, ◌*◌}
+use Prim.Native.Nat.{ℕ, zero, suc, ◌+◌}
 use Rattle.std.specs.Prelude.{eqb, get_or, take}
+use Rattle.sheet.specs.declared.form.Form.{Form}
 use Rattle.sheet.specs.Words.{words}
-use Rattle.sheet.specs.Sheet.{Parts, no_start, trailer_length, link_count, node_count, next, mark, parts_of}
+use Rattle.sheet.specs.Sheet.{sheet_size, Parts, no_start, link_count, node_count, next, mark, parts_of}
 use Rattle.sheet.specs.Machine.{sources_below}
 
 -- of a machine in the fields of a sheet, and the words of its links
@@ -41,11 +42,11 @@ module _ (p : Parts) (ws : List ℕ) where
   abbrev pub ways : List (List ℕ)
   ways = map (λ l. repeated l (way_from (node_count p) (next p l))) (links_from p.start)
 
--- The list for n that a result holds whose machine has so many nodes and links; what comes after the words is not looked at.
-unfoldable pub list_of : ℕ → ℕ → ℕ → List ℕ → List (List ℕ)
+-- The list for n that a result holds whose machine has this form, and so many nodes and links; what comes after the words is not looked at.
+unfoldable pub list_of : Form → ℕ → ℕ → ℕ → List ℕ → List (List ℕ)
 unfolding words parts_of way_from
-list_of n nodes links result =
-    let size = 16 * links + 12 * nodes + trailer_length in
+list_of form n nodes links result =
+    let size = sheet_size form links nodes in
     let p = parts_of (take size result) in
     let ws = words result size links in
     cond (eqb n 1) (one_way p ws) (ways p ws)

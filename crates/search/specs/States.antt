@@ -39,6 +39,7 @@ list_machine m s = record {
   links = map (start_link s) s.listed ++ map (entry_link m s) (later s);
   finals = none ∷ some one ∷ replicate (length (later s)) none;
   start = some 0;
+  form = m.form;
 }
 
 abbrev pub list_result : Machine → Search → Result

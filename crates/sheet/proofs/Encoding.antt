@@ -12,61 +12,62 @@ use lib.Dec.{ltb, eqb}
 use lib.IntN.{ℤ}
 use lib.ListN.{length, get_or, length-map, get_or-append}
 use lib.Seq.{get_or-append-add, ext_get_or}
-use lib.Ieee.{Float, binary32, of_bits, to_bits, round}
+use lib.Ieee.{Float, binary32, of_bits, to_bits}
 use lib.Ieee.Bits.{to_bits-lt}
 use borrow.Author.Tests.{lt-ltb, le-ltb, eq-eqb, ne_eqb}
-use Rattle.tropical_weight.specs.Limits.{unit, sum_limit}
+use Rattle.tropical_weight.specs.Limits.{finest, sum_limit}
 use Rattle.tropical_weight.specs.Tropical.{Tropical, fin, inf, one, Within}
-use Rattle.tropical_weight.specs.Grid.{of_k, of_t, units_of}
-use Rattle.tropical_weight.proofs.Exact.{of_t-fits, of_t-injective, bits_back}
+use Rattle.tropical_weight.specs.Grid.{of_t, units_of}
+use Rattle.tropical_weight.proofs.Exact.{one-of_t, of_t-fits, of_t-injective, bits_back}
 use Rattle.tropical_weight.proofs.Grid.{units_of-of_k}
 use Rattle.sheet.specs.Below.{sum_below, list_below}
-use Rattle.sheet.specs.Sheet.{barred_bits, no_start, link_count, node_count, ilabel, olabel, link_bits, next, count, mark, final_bits, records_fit, verdict, sheet_of, parts_of, read_number}
-use Rattle.sheet.specs.Machine.{Link, Machine, sources_below, weight_of, start_of, final_of, link_of, machine_of, bits_of, link_fields, leaving, final_fields, node_fields, start_field, parts_for}
+use Rattle.sheet.specs.Sheet.{link_length, node_length, trailer_length, unit_fields, barred_bits, no_start, link_count, node_count, ilabel, olabel, link_bits, next, count, mark, final_bits, records_fit, verdict, sheet_of, parts_of, read_number}
+use Rattle.sheet.specs.Machine.{Link, Machine, unit_in, sources_below, weight_of, start_of, final_of, link_of, machine_of, bits_of, link_fields, leaving, final_fields, node_fields, start_field, parts_for}
 use Rattle.sheet.proofs.Below.{split_at, sum_below-same, length-list_below, get_or-list_below}
+use Rattle.sheet.proofs.Forms.{covered}
 use Rattle.sheet.proofs.Writing.{length-sheet}
 use Rattle.sheet.proofs.Round.{Below, parts-back, number-back}
 use Rattle.sheet.proofs.Sources.{length-sources, source_is}
 
--- ---- the fields of links and nodes by number
-pub length-links : (ks : List Link) → length (flat_map link_fields ks) ≡ 4 * length ks
+-- ---- the fields of links and nodes by number, in units of 1 / 2 ^ j
+pub length-links : (j : ℕ) (ks : List Link) → length (flat_map (link_fields j) ks) ≡ 4 * length ks
 unfolding flat_map
-length-links [] = refl
-length-links (k ∷ ks) = omega (arith, length-links ks)
+length-links j [] = refl
+length-links j (k ∷ ks) = omega (arith, length-links j ks)
 
-two_fields : (f : Option Tropical) → length (final_fields f) ≡ 2
-two_fields none = refl
-two_fields (some w) = refl
+two_fields : (j : ℕ) (f : Option Tropical) → length (final_fields j f) ≡ 2
+two_fields j none = refl
+two_fields j (some w) = refl
 
-pub length-nodes : (ks : List Link) (v : ℕ) (fs : List (Option Tropical)) → length (node_fields ks v fs) ≡ 3 * length fs
+pub length-nodes : (j : ℕ) (ks : List Link) (v : ℕ) (fs : List (Option Tropical)) → length (node_fields j ks v fs) ≡ 3 * length fs
 unfolding node_fields
-length-nodes ks v [] = refl
-length-nodes ks v (none ∷ fs) = omega (arith, length-nodes ks (suc v) fs)
-length-nodes ks v (some w ∷ fs) = omega (arith, length-nodes ks (suc v) fs)
+length-nodes j ks v [] = refl
+length-nodes j ks v (none ∷ fs) = omega (arith, length-nodes j ks (suc v) fs)
+length-nodes j ks v (some w ∷ fs) = omega (arith, length-nodes j ks (suc v) fs)
 
-link-field : (ks : List Link) (l i : ℕ) (d : Link) → l < length ks → i < 4 → get_or (flat_map link_fields ks) (4 * l + i) 0 ≡ get_or (link_fields (get_or ks l d)) i 0
+link-field : (j : ℕ) (ks : List Link) (l i : ℕ) (d : Link) → l < length ks → i < 4 → get_or (flat_map (link_fields j) ks) (4 * l + i) 0 ≡ get_or (link_fields j (get_or ks l d)) i 0
 unfolding flat_map
-link-field [] l i d h b = absurd (omega arith)
-link-field (k ∷ ks) zero i d h b =
-    ap (λ (n : ℕ). get_or (link_fields k ++ flat_map link_fields ks) n 0) (let e : 4 * 0 + i ≡ i = omega arith in e) ∙ get_or-append (link_fields k) (flat_map link_fields ks) 0 i b
-link-field (k ∷ ks) (suc l) i d h b =
-    ap (λ (n : ℕ). get_or (link_fields k ++ flat_map link_fields ks) n 0) (let e : 4 * suc l + i ≡ 4 + (4 * l + i) = omega arith in e)
-    ∙ get_or-append-add (link_fields k) (flat_map link_fields ks) (4 * l + i) 0 ∙ link-field ks l i d (omega arith) b
+link-field j [] l i d h b = absurd (omega arith)
+link-field j (k ∷ ks) zero i d h b =
+    ap (λ (n : ℕ). get_or (link_fields j k ++ flat_map (link_fields j) ks) n 0) (let e : 4 * 0 + i ≡ i = omega arith in e) ∙ get_or-append (link_fields j k) (flat_map (link_fields j) ks) 0 i b
+link-field j (k ∷ ks) (suc l) i d h b =
+    ap (λ (n : ℕ). get_or (link_fields j k ++ flat_map (link_fields j) ks) n 0) (let e : 4 * suc l + i ≡ 4 + (4 * l + i) = omega arith in e)
+    ∙ get_or-append-add (link_fields j k) (flat_map (link_fields j) ks) (4 * l + i) 0 ∙ link-field j ks l i d (omega arith) b
 
-abbrev node_of : List Link → ℕ → Option Tropical → List ℕ
-node_of ks v f = leaving ks v ∷ final_fields f
+abbrev node_of : ℕ → List Link → ℕ → Option Tropical → List ℕ
+node_of j ks v f = leaving ks v ∷ final_fields j f
 
-node-field : (ks : List Link) (v : ℕ) (fs : List (Option Tropical)) (u i : ℕ) → u < length fs → i < 3 → get_or (node_fields ks v fs) (3 * u + i) 0 ≡ get_or (node_of ks (v + u) (get_or fs u none)) i 0
+node-field : (j : ℕ) (ks : List Link) (v : ℕ) (fs : List (Option Tropical)) (u i : ℕ) → u < length fs → i < 3 → get_or (node_fields j ks v fs) (3 * u + i) 0 ≡ get_or (node_of j ks (v + u) (get_or fs u none)) i 0
 unfolding node_fields
-node-field ks v [] u i h b = absurd (omega arith)
-node-field ks v (f ∷ fs) zero i h b =
-    ap (λ (n : ℕ). get_or (node_of ks v f ++ node_fields ks (suc v) fs) n 0) (let e : 3 * 0 + i ≡ i = omega arith in e)
-    ∙ get_or-append (node_of ks v f) (node_fields ks (suc v) fs) 0 i (omega (arith, two_fields f))
-    ∙ ap (λ (n : ℕ). get_or (node_of ks n f) i 0) (let e : v ≡ v + 0 = omega arith in e)
-node-field ks v (f ∷ fs) (suc u) i h b =
-    ap (λ (n : ℕ). get_or (node_of ks v f ++ node_fields ks (suc v) fs) n 0) (let e : 3 * suc u + i ≡ length (node_of ks v f) + (3 * u + i) = omega (arith, two_fields f) in e)
-    ∙ get_or-append-add (node_of ks v f) (node_fields ks (suc v) fs) (3 * u + i) 0 ∙ node-field ks (suc v) fs u i (omega arith) b
-    ∙ ap (λ (n : ℕ). get_or (node_of ks n (get_or fs u none)) i 0) (let e : suc v + u ≡ v + suc u = omega arith in e)
+node-field j ks v [] u i h b = absurd (omega arith)
+node-field j ks v (f ∷ fs) zero i h b =
+    ap (λ (n : ℕ). get_or (node_of j ks v f ++ node_fields j ks (suc v) fs) n 0) (let e : 3 * 0 + i ≡ i = omega arith in e)
+    ∙ get_or-append (node_of j ks v f) (node_fields j ks (suc v) fs) 0 i (omega (arith, two_fields j f))
+    ∙ ap (λ (n : ℕ). get_or (node_of j ks n f) i 0) (let e : v ≡ v + 0 = omega arith in e)
+node-field j ks v (f ∷ fs) (suc u) i h b =
+    ap (λ (n : ℕ). get_or (node_of j ks v f ++ node_fields j ks (suc v) fs) n 0) (let e : 3 * suc u + i ≡ length (node_of j ks v f) + (3 * u + i) = omega (arith, two_fields j f) in e)
+    ∙ get_or-append-add (node_of j ks v f) (node_fields j ks (suc v) fs) (3 * u + i) 0 ∙ node-field j ks (suc v) fs u i (omega arith) b
+    ∙ ap (λ (n : ℕ). get_or (node_of j ks n (get_or fs u none)) i 0) (let e : suc v + u ≡ v + suc u = omega arith in e)
 
 -- ---- sources that never fall
 abbrev pub sources_of : List Link → List ℕ
@@ -148,19 +149,20 @@ pub record Writable (m : Machine) : Type 0 where
   pub by-source : (k l : ℕ) (d : Link) → k ≤ l → l < length m.links → (get_or m.links k d).source ≤ (get_or m.links l d).source
   pub start_fits_lem : start_field m.start < 2 ^ 32
   pub few-nodes : length m.finals < 2 ^ 32
-  pub few-links : 16 * length m.links < 2 ^ 32
+  pub few-links : link_length * length m.links < 2 ^ 32
+  pub unit-word : Below 4294967296 (unit_fields m.form)
 
-pub bits-lt : (w : Tropical) → bits_of w < 4294967296
-bits-lt w = to_bits-lt binary32 (of_t unit w) (of_t-fits unit (omega arith) w)
+pub bits-lt : (j : ℕ) → j ≤ finest → (w : Tropical) → bits_of j w < 4294967296
+bits-lt j c w = to_bits-lt binary32 (of_t j w) (of_t-fits j c w)
 
-pub links-below : (n : ℕ) (ks : List Link) → ((l : ℕ) (d : Link) → l < length ks → LinkFits n (get_or ks l d)) → Below 4294967296 (flat_map link_fields ks)
+pub links-below : (j : ℕ) → j ≤ finest → (n : ℕ) (ks : List Link) → ((l : ℕ) (d : Link) → l < length ks → LinkFits n (get_or ks l d)) → Below 4294967296 (flat_map (link_fields j) ks)
 unfolding flat_map
-links-below n [] f i = omega arith
-links-below n (k ∷ ks) f zero = (f 0 k (omega arith)).ilabel-fits
-links-below n (k ∷ ks) f (suc zero) = (f 0 k (omega arith)).olabel-fits
-links-below n (k ∷ ks) f (suc (suc zero)) = bits-lt k.weight
-links-below n (k ∷ ks) f (suc (suc (suc zero))) = (f 0 k (omega arith)).next_fits
-links-below n (k ∷ ks) f (suc (suc (suc (suc i)))) = links-below n ks (λ l d h. f (suc l) d (omega arith)) i
+links-below j c n [] f i = omega arith
+links-below j c n (k ∷ ks) f zero = (f 0 k (omega arith)).ilabel-fits
+links-below j c n (k ∷ ks) f (suc zero) = (f 0 k (omega arith)).olabel-fits
+links-below j c n (k ∷ ks) f (suc (suc zero)) = bits-lt j c k.weight
+links-below j c n (k ∷ ks) f (suc (suc (suc zero))) = (f 0 k (omega arith)).next_fits
+links-below j c n (k ∷ ks) f (suc (suc (suc (suc i)))) = links-below j c n ks (λ l d h. f (suc l) d (omega arith)) i
 
 leaving-le : (ks : List Link) (v : ℕ) → leaving ks v ≤ length ks
 unfolding leaving
@@ -171,27 +173,31 @@ leaving-le (k ∷ ks) v = go (eqb k.source v) (leaving-le ks v)
     go true h = omega arith
     go false h = omega arith
 
-pub nodes-below : (ks : List Link) (v : ℕ) (fs : List (Option Tropical)) → length ks < 4294967296 → Below 4294967296 (node_fields ks v fs)
+pub nodes-below : (j : ℕ) → j ≤ finest → (ks : List Link) (v : ℕ) (fs : List (Option Tropical)) → length ks < 4294967296 → Below 4294967296 (node_fields j ks v fs)
 unfolding node_fields
-nodes-below ks v [] h i = omega arith
-nodes-below ks v (none ∷ fs) h zero = omega (arith, leaving-le ks v)
-nodes-below ks v (none ∷ fs) h (suc zero) = omega arith
-nodes-below ks v (none ∷ fs) h (suc (suc zero)) = omega arith
-nodes-below ks v (none ∷ fs) h (suc (suc (suc i))) = nodes-below ks (suc v) fs h i
-nodes-below ks v (some w ∷ fs) h zero = omega (arith, leaving-le ks v)
-nodes-below ks v (some w ∷ fs) h (suc zero) = omega arith
-nodes-below ks v (some w ∷ fs) h (suc (suc zero)) = bits-lt w
-nodes-below ks v (some w ∷ fs) h (suc (suc (suc i))) = nodes-below ks (suc v) fs h i
+nodes-below j c ks v [] h i = omega arith
+nodes-below j c ks v (none ∷ fs) h zero = omega (arith, leaving-le ks v)
+nodes-below j c ks v (none ∷ fs) h (suc zero) = omega arith
+nodes-below j c ks v (none ∷ fs) h (suc (suc zero)) = omega arith
+nodes-below j c ks v (none ∷ fs) h (suc (suc (suc i))) = nodes-below j c ks (suc v) fs h i
+nodes-below j c ks v (some w ∷ fs) h zero = omega (arith, leaving-le ks v)
+nodes-below j c ks v (some w ∷ fs) h (suc zero) = omega arith
+nodes-below j c ks v (some w ∷ fs) h (suc (suc zero)) = bits-lt j c w
+nodes-below j c ks v (some w ∷ fs) h (suc (suc (suc i))) = nodes-below j c ks (suc v) fs h i
 
 -- ---- the fields by number, of any machine
 module _ (m : Machine) where
   pub links-are : link_count (parts_for m) ≡ length m.links
   unfolding parts_for
-  links-are = omega (arith, length-links m.links)
+  links-are = omega (arith, length-links (unit_in m) m.links)
 
   pub nodes-are : node_count (parts_for m) ≡ length m.finals
   unfolding parts_for
-  nodes-are = omega (arith, length-nodes m.links 0 m.finals)
+  nodes-are = omega (arith, length-nodes (unit_in m) m.links 0 m.finals)
+
+  pub form-is : (parts_for m).form ≡ m.form
+  unfolding parts_for
+  form-is = refl
 
   pub start_is : (parts_for m).start ≡ start_field m.start
   unfolding parts_for
@@ -200,39 +206,39 @@ module _ (m : Machine) where
   module _ (l : ℕ) (d : Link) (h : l < length m.links) where
     pub ilabel-is : ilabel (parts_for m) l ≡ (get_or m.links l d).ilabel
     unfolding parts_for
-    ilabel-is = ap (λ (n : ℕ). get_or (flat_map link_fields m.links) n 0) (let e : 4 * l ≡ 4 * l + 0 = omega arith in e) ∙ link-field m.links l 0 d h (omega arith)
+    ilabel-is = ap (λ (n : ℕ). get_or (flat_map (link_fields (unit_in m)) m.links) n 0) (let e : 4 * l ≡ 4 * l + 0 = omega arith in e) ∙ link-field (unit_in m) m.links l 0 d h (omega arith)
 
     pub olabel-is : olabel (parts_for m) l ≡ (get_or m.links l d).olabel
     unfolding parts_for
-    olabel-is = link-field m.links l 1 d h (omega arith)
+    olabel-is = link-field (unit_in m) m.links l 1 d h (omega arith)
 
-    pub link_bits-is : link_bits (parts_for m) l ≡ bits_of (get_or m.links l d).weight
+    pub link_bits-is : link_bits (parts_for m) l ≡ bits_of (unit_in m) (get_or m.links l d).weight
     unfolding parts_for
-    link_bits-is = link-field m.links l 2 d h (omega arith)
+    link_bits-is = link-field (unit_in m) m.links l 2 d h (omega arith)
 
     pub next-is : next (parts_for m) l ≡ (get_or m.links l d).next
     unfolding parts_for
-    next-is = link-field m.links l 3 d h (omega arith)
+    next-is = link-field (unit_in m) m.links l 3 d h (omega arith)
 
   module _ (v : ℕ) (h : v < length m.finals) where
-    node-is : (i : ℕ) → i < 3 → get_or (parts_for m).nodes (3 * v + i) 0 ≡ get_or (node_of m.links v (get_or m.finals v none)) i 0
+    node-is : (i : ℕ) → i < 3 → get_or (parts_for m).nodes (3 * v + i) 0 ≡ get_or (node_of (unit_in m) m.links v (get_or m.finals v none)) i 0
     unfolding parts_for
-    node-is i b = node-field m.links 0 m.finals v i h b ∙ ap (λ (n : ℕ). get_or (node_of m.links n (get_or m.finals v none)) i 0) (let e : 0 + v ≡ v = omega arith in e)
+    node-is i b = node-field (unit_in m) m.links 0 m.finals v i h b ∙ ap (λ (n : ℕ). get_or (node_of (unit_in m) m.links n (get_or m.finals v none)) i 0) (let e : 0 + v ≡ v = omega arith in e)
 
     pub count-is : count (parts_for m) v ≡ leaving m.links v
     count-is = ap (λ (n : ℕ). get_or (parts_for m).nodes n 0) (let e : 3 * v ≡ 3 * v + 0 = omega arith in e) ∙ node-is 0 (omega arith)
 
     pub mark-some : (w : Tropical) → get_or m.finals v none ≡ some w → mark (parts_for m) v ≡ 1
-    mark-some w e = node-is 1 (omega arith) ∙ ap (λ (f : Option Tropical). get_or (final_fields f) 0 0) e
+    mark-some w e = node-is 1 (omega arith) ∙ ap (λ (f : Option Tropical). get_or (final_fields (unit_in m) f) 0 0) e
 
     pub mark-none : get_or m.finals v none ≡ none → mark (parts_for m) v ≡ 0
-    mark-none e = node-is 1 (omega arith) ∙ ap (λ (f : Option Tropical). get_or (final_fields f) 0 0) e
+    mark-none e = node-is 1 (omega arith) ∙ ap (λ (f : Option Tropical). get_or (final_fields (unit_in m) f) 0 0) e
 
-    pub final_bits-some : (w : Tropical) → get_or m.finals v none ≡ some w → final_bits (parts_for m) v ≡ bits_of w
-    final_bits-some w e = node-is 2 (omega arith) ∙ ap (λ (f : Option Tropical). get_or (final_fields f) 1 0) e
+    pub final_bits-some : (w : Tropical) → get_or m.finals v none ≡ some w → final_bits (parts_for m) v ≡ bits_of (unit_in m) w
+    final_bits-some w e = node-is 2 (omega arith) ∙ ap (λ (f : Option Tropical). get_or (final_fields (unit_in m) f) 1 0) e
 
     pub final_bits-none : get_or m.finals v none ≡ none → final_bits (parts_for m) v ≡ 0
-    final_bits-none e = node-is 2 (omega arith) ∙ ap (λ (f : Option Tropical). get_or (final_fields f) 1 0) e
+    final_bits-none e = node-is 2 (omega arith) ∙ ap (λ (f : Option Tropical). get_or (final_fields (unit_in m) f) 1 0) e
 
 -- ---- of one that a sheet can hold
 module _ (m : Machine) (w : Writable m) where
@@ -271,24 +277,25 @@ module _ (m : Machine) (w : Writable m) where
 
   pub records-fit : records_fit (parts_for m) ≡ true
   records-fit =
-      let a : length (parts_for m).links % 4 ≡ 0 = unfold parts_for in omega (arith, length-links m.links) in
-      let b : length (parts_for m).nodes % 3 ≡ 0 = unfold parts_for in omega (arith, length-nodes m.links 0 m.finals) in
+      let a : length (parts_for m).links % 4 ≡ 0 = unfold parts_for in omega (arith, length-links (unit_in m) m.links) in
+      let b : length (parts_for m).nodes % 3 ≡ 0 = unfold parts_for in omega (arith, length-nodes (unit_in m) m.links 0 m.finals) in
       let c : node_count (parts_for m) < 2 ^ 32 = omega (arith, nodes-are m, w.few-nodes) in
-      let d : 16 * link_count (parts_for m) < 2 ^ 32 = omega (arith, links-are m, w.few-links) in
+      let d : link_length * link_count (parts_for m) < 2 ^ 32 = omega (arith, links-are m, w.few-links) in
       λ i. eq-eqb _ _ a i && eq-eqb _ _ b i && lt-ltb _ _ c i && lt-ltb _ _ d i
 
   -- the bytes give the same fields back
   pub fields_back : parts_of (sheet_of (parts_for m)) ≡ parts_for m
   unfolding parts_for
-  fields_back = parts-back (parts_for m) records-fit (links-below (length m.finals) m.links w.each) (nodes-below m.links 0 m.finals (omega (arith, w.few-links))) w.start_fits_lem
+  fields_back = parts-back (parts_for m) records-fit (links-below (unit_in m) (covered m.form) (length m.finals) m.links w.each) (nodes-below (unit_in m) (covered m.form) m.links 0 m.finals (omega (arith, w.few-links))) w.start_fits_lem w.unit-word
 
   -- and the reader's verdict on them is that on the fields
   pub number_is : read_number (sheet_of (parts_for m)) ≡ verdict (records_fit (parts_for m)) (parts_for m)
   unfolding parts_for
-  number_is = number-back (parts_for m) records-fit (links-below (length m.finals) m.links w.each) (nodes-below m.links 0 m.finals (omega (arith, w.few-links))) w.start_fits_lem
+  number_is = number-back (parts_for m) records-fit (links-below (unit_in m) (covered m.form) (length m.finals) m.links w.each) (nodes-below (unit_in m) (covered m.form) m.links 0 m.finals (omega (arith, w.few-links))) w.start_fits_lem w.unit-word
 
-  pub sheet-length : length (sheet_of (parts_for m)) ≡ 16 * length m.links + 12 * length m.finals + 20
-  sheet-length = length-sheet (parts_for m) records-fit ∙ λ i. 16 * links-are m i + 12 * nodes-are m i + 20
+  pub sheet-length : length (sheet_of (parts_for m)) ≡ link_length * length m.links + node_length * length m.finals + trailer_length m.form
+  unfolding parts_for
+  sheet-length = length-sheet (parts_for m) records-fit ∙ λ i. link_length * links-are m i + node_length * nodes-are m i + trailer_length m.form
 
 -- ---- the machine itself
 -- a weight that its field gives back
@@ -302,24 +309,24 @@ pub record AllHeld (m : Machine) : Type 0 where
   pub start-told : (v : ℕ) → m.start ≡ some v → v < no_start
 
 -- the bits of the semiring's one
-pub bits-one : bits_of one ≡ 0
-bits-one = unfold of_k round to_bits in refl
+pub bits-one : (j : ℕ) → j ≤ finest → bits_of j one ≡ 0
+bits-one j c = ap (to_bits binary32) (sym (one-of_t j c)) ∙ unfold to_bits in refl
 
 -- infinity's bits, and no other weight's
-pub bits-inf : bits_of inf ≡ barred_bits
-bits-inf = unfold to_bits in refl
+pub bits-inf : (j : ℕ) → bits_of j inf ≡ barred_bits
+bits-inf j = unfold to_bits in refl
 
-pub bits-finite : (k : ℤ) → Within sum_limit (fin k) → eqb (bits_of (fin k)) barred_bits ≡ false
-bits-finite k h = ne_eqb (bits_of (fin k)) barred_bits (λ e. clash (of_t-injective unit (omega arith) (fin k) inf h tt (sym (bits_back unit (omega arith) (fin k)) ∙ ap (of_bits binary32) (e ∙ sym bits-inf) ∙ bits_back unit (omega arith) inf)))
+pub bits-finite : (j : ℕ) → j ≤ finest → (k : ℤ) → Within sum_limit (fin k) → eqb (bits_of j (fin k)) barred_bits ≡ false
+bits-finite j c k h = ne_eqb (bits_of j (fin k)) barred_bits (λ e. clash (of_t-injective j c (fin k) inf h tt (sym (bits_back j c (fin k)) ∙ ap (of_bits binary32) (e ∙ sym (bits-inf j)) ∙ bits_back j c inf)))
   where
     clash : fin k ≡ inf → ⊥
     clash e = let z : ◌≡◌ {A = ℕ} 0 1 = cc in omega arith
 
-pub weight-back : (w : Tropical) → Held w → weight_of (bits_of w) ≡ w
-weight-back (fin k) h =
-    ap (λ (t : Bool). cond t inf (fin (units_of unit (of_bits binary32 (bits_of (fin k)))))) (bits-finite k h)
-    ∙ ap (λ (x : Float). fin (units_of unit x)) (bits_back unit (omega arith) (fin k)) ∙ ap fin (units_of-of_k unit (omega arith) k h)
-weight-back inf h = ap (λ (t : Bool). cond t inf (fin (units_of unit (of_bits binary32 (bits_of inf))))) (eq-eqb (bits_of inf) barred_bits bits-inf)
+pub weight-back : (j : ℕ) → j ≤ finest → (w : Tropical) → Held w → weight_of j (bits_of j w) ≡ w
+weight-back j c (fin k) h =
+    ap (λ (t : Bool). cond t inf (fin (units_of j (of_bits binary32 (bits_of j (fin k)))))) (bits-finite j c k h)
+    ∙ ap (λ (x : Float). fin (units_of j x)) (bits_back j c (fin k)) ∙ ap fin (units_of-of_k j c k h)
+weight-back j c inf h = ap (λ (t : Bool). cond t inf (fin (units_of j (of_bits binary32 (bits_of j inf))))) (eq-eqb (bits_of j inf) barred_bits (bits-inf j))
 
 start_back : (o : Option ℕ) → ((v : ℕ) → o ≡ some v → v < no_start) → start_of (start_field o) ≡ o
 start_back none f = refl
@@ -331,27 +338,28 @@ all_back {A} {n} f l d e h = ext_get_or d (list_below n f) l (length-list_below 
 
 module _ (m : Machine) (w : Writable m) (x : AllHeld m) where
   link-back : (l : ℕ) (d : Link) → l < length m.links → link_of (parts_for m) l ≡ get_or m.links l d
+  unfolding parts_for
   link-back l d h =
-      let weight : weight_of (link_bits (parts_for m) l) ≡ (get_or m.links l d).weight = ap weight_of (link_bits-is m l d h) ∙ weight-back (get_or m.links l d).weight (x.weights l d h) in
+      let weight : weight_of (unit_in m) (link_bits (parts_for m) l) ≡ (get_or m.links l d).weight = ap (weight_of (unit_in m)) (link_bits-is m l d h) ∙ weight-back (unit_in m) (covered m.form) (get_or m.links l d).weight (x.weights l d h) in
       λ i. record { source = source_of m w l d h i; ilabel = ilabel-is m l d h i; olabel = olabel-is m l d h i; weight = weight i; next = next-is m l d h i }
 
-  final-back : (v : ℕ) → v < length m.finals → final_of (mark (parts_for m) v) (final_bits (parts_for m) v) ≡ get_or m.finals v none
+  final-back : (v : ℕ) → v < length m.finals → final_of (unit_in m) (mark (parts_for m) v) (final_bits (parts_for m) v) ≡ get_or m.finals v none
   final-back v h = go (get_or m.finals v none) refl
     where
-      go : (o : Option Tropical) → get_or m.finals v none ≡ o → final_of (mark (parts_for m) v) (final_bits (parts_for m) v) ≡ o
-      go none e = ap₂ final_of (mark-none m v h e) (final_bits-none m v h e)
-      go (some y) e = ap₂ final_of (mark-some m v h y e) (final_bits-some m v h y e) ∙ ap some (weight-back y (x.final-weights v y h e))
+      go : (o : Option Tropical) → get_or m.finals v none ≡ o → final_of (unit_in m) (mark (parts_for m) v) (final_bits (parts_for m) v) ≡ o
+      go none e = ap₂ (final_of (unit_in m)) (mark-none m v h e) (final_bits-none m v h e)
+      go (some y) e = ap₂ (final_of (unit_in m)) (mark-some m v h y e) (final_bits-some m v h y e) ∙ ap some (weight-back (unit_in m) (covered m.form) y (x.final-weights v y h e))
 
   -- the machine of its fields is the machine itself
   pub machine-is : machine_of (parts_for m) ≡ m
-  unfolding machine_of
-  machine-is = λ i. record { links = links i; finals = finals i; start = (ap start_of (start_is m) ∙ start_back m.start x.start-told) i }
+  unfolding machine_of parts_for
+  machine-is = λ i. record { links = links i; finals = finals i; start = (ap start_of (start_is m) ∙ start_back m.start x.start-told) i; form = m.form }
     where
       links : list_below (link_count (parts_for m)) (link_of (parts_for m)) ≡ m.links
       links = all_back (link_of (parts_for m)) m.links absent (links-are m) (λ l h. link-back l absent h)
 
-      finals : list_below (node_count (parts_for m)) (λ v. final_of (mark (parts_for m) v) (final_bits (parts_for m) v)) ≡ m.finals
-      finals = all_back (λ v. final_of (mark (parts_for m) v) (final_bits (parts_for m) v)) m.finals none (nodes-are m) final-back
+      finals : list_below (node_count (parts_for m)) (λ v. final_of (unit_in m) (mark (parts_for m) v) (final_bits (parts_for m) v)) ≡ m.finals
+      finals = all_back (λ v. final_of (unit_in m) (mark (parts_for m) v) (final_bits (parts_for m) v)) m.finals none (nodes-are m) final-back
 
   -- and read from its bytes it is the same
   pub machine-read : machine_of (parts_of (sheet_of (parts_for m))) ≡ m

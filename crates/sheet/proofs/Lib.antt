@@ -3,6 +3,7 @@ pub mod Refusals
 pub mod Apart
 pub mod Bytes
 pub mod Passes
+pub mod Forms
 pub mod Fields
 pub mod Writing
 pub mod Round
@@ -12,3 +13,4 @@ pub mod Reading
 pub mod AcceptedSheet
 pub mod NodeSources
 pub mod Bench
+pub mod Under

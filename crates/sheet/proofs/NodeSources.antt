@@ -7,6 +7,7 @@ use native.Mathlib.Omega.{arith}
 use lib.Dec.{eqb}
 use Rattle.std.proofs.Common.{None, Some}
 use borrow.Author.Tests.{eqb-true}
+use Rattle.sheet.specs.declared.form.Form.{Form}
 use Rattle.sheet.specs.Below.{all_below, sum_below}
 use Rattle.sheet.specs.Sheet.{link_count, node_count, count, mark, final_bits, well_marked, nodes_fit, parts_of, sizes_fit, read_number}
 use Rattle.sheet.specs.Records.{trailer_at, count_at, mark_at, final_at, first_link}
@@ -28,7 +29,7 @@ mark-says m b e z = go (eqb m 1) refl e
     go true q h = absurd (omega (arith, eqb-true m 1 q))
     go false q h = eqb-true b 0 (both (eqb m 0) (eqb b 0) h).1
 
-module _ (bytes : List ℕ) (links nodes start : ℕ) (accepted : read_number bytes ≡ 0) (stated : trailer_in links nodes start ≡ trailer_at bytes) where
+module _ (bytes : List ℕ) (links nodes start : ℕ) (form : Form) (accepted : read_number bytes ≡ 0) (stated : trailer_in links nodes start form ≡ trailer_at bytes) where
   passed : nodes_fit (parts_of bytes) ≡ true
   unfolding read_number
   passed = nodes-pass (sizes_fit bytes) (parts_of bytes) accepted
@@ -36,9 +37,9 @@ module _ (bytes : List ℕ) (links nodes start : ℕ) (accepted : read_number by
   -- all links leave a node
   pub first-total : first_link bytes links nodes ≡ links
   first-total =
-      sym (sum_below-same nodes (count (parts_of bytes)) (count_at bytes links) (λ v h. sym (count-is bytes links nodes start accepted stated v h)))
-      ∙ ap (λ (n : ℕ). sum_below n (count (parts_of bytes))) (sym (node-count-is bytes links nodes start accepted stated))
-      ∙ counts-sum (parts_of bytes) passed ∙ link-count-is bytes links nodes start accepted stated
+      sym (sum_below-same nodes (count (parts_of bytes)) (count_at bytes links) (λ v h. sym (count-is bytes links nodes start form accepted stated v h)))
+      ∙ ap (λ (n : ℕ). sum_below n (count (parts_of bytes))) (sym (node-count-is bytes links nodes start form accepted stated))
+      ∙ counts-sum (parts_of bytes) passed ∙ link-count-is bytes links nodes start form accepted stated
 
   -- the links of the nodes up to one are among its links
   pub first-within : (v : ℕ) → v < nodes → first_link bytes links v + count_at bytes links v ≤ links
@@ -50,10 +51,10 @@ module _ (bytes : List ℕ) (links nodes start : ℕ) (accepted : read_number by
   absent-zero v h e =
       let P = parts_of bytes in
       let all = (both (all_below (node_count P) (λ u. well_marked (mark P u) (final_bits P u))) (eqb (sum_below (node_count P) (count P)) (link_count P)) passed).0 in
-      let one = all_below-at (node_count P) (λ u. well_marked (mark P u) (final_bits P u)) all v (omega (arith, node-count-is bytes links nodes start accepted stated)) in
-      final-is bytes links nodes start accepted stated v h
-      ∙ mark-says (mark P v) (final_bits P v) one (sym (mark-is bytes links nodes start accepted stated v h) ∙ e)
+      let one = all_below-at (node_count P) (λ u. well_marked (mark P u) (final_bits P u)) all v (omega (arith, node-count-is bytes links nodes start form accepted stated)) in
+      final-is bytes links nodes start form accepted stated v h
+      ∙ mark-says (mark P v) (final_bits P v) one (sym (mark-is bytes links nodes start form accepted stated v h) ∙ e)
 
   -- the field of a final weight by the bytes is the one by the parts
   pub ending-is : (v : ℕ) → v < nodes → ending_at bytes links v ≡ ending (parts_of bytes) v
-  ending-is v h i = cond (eqb (mark-is bytes links nodes start accepted stated v h i) 0) None (Some (final-is bytes links nodes start accepted stated v h i))
+  ending-is v h i = cond (eqb (mark-is bytes links nodes start form accepted stated v h i) 0) None (Some (final-is bytes links nodes start form accepted stated v h i))

@@ -10,21 +10,22 @@ use lib.ListN.{length}
 use lib.Ieee.Fits.{and_l, and_r}
 use borrow.Author.Tests.{lt-ltb, le-ltb, lt-leb, le-leb, leb-true, leb-false}
 use Rattle.std.specs.Prelude.{Some, None}
-use Rattle.sheet.specs.Sheet.{read_number, stated_links, stated_nodes, trailer_length}
+use Rattle.sheet.specs.Sheet.{link_length, node_length, read_number, stated_links, stated_nodes, short_trailer, trailer_size, form_of}
 use Rattle.sheet.specs.Records.{link_at}
 use Rattle.sheet.specs.Reading.{has_link, next_by, next_link, place_by, place_after, place_at}
+use Rattle.sheet.proofs.Forms.{size-least}
 use Rattle.sheet.proofs.Fields.{length-read, read_fits}
 
 -- ---- the tests in their order
 module _ (bytes : List ℕ) (l : ℕ) where
-  pub has_short : length bytes < trailer_length → has_link bytes l ≡ false
-  has_short h = ap (λ (b : Bool). b && ltb l (stated_links bytes) && leb (16 * stated_links bytes + trailer_length) (length bytes)) (lt-leb trailer_length (length bytes) h)
+  pub has_short : length bytes < short_trailer → has_link bytes l ≡ false
+  has_short h = ap (λ (b : Bool). b && ltb l (stated_links bytes) && leb (link_length * stated_links bytes + trailer_size bytes) (length bytes)) (lt-leb short_trailer (length bytes) h)
 
-  pub has-past : trailer_length ≤ length bytes → stated_links bytes ≤ l → has_link bytes l ≡ false
-  has-past h k = λ i. le-leb trailer_length (length bytes) h i && le-ltb l (stated_links bytes) k i && leb (16 * stated_links bytes + trailer_length) (length bytes)
+  pub has-past : short_trailer ≤ length bytes → stated_links bytes ≤ l → has_link bytes l ≡ false
+  has-past h k = λ i. le-leb short_trailer (length bytes) h i && le-ltb l (stated_links bytes) k i && leb (link_length * stated_links bytes + trailer_size bytes) (length bytes)
 
-  pub has-stated : trailer_length ≤ length bytes → l < stated_links bytes → has_link bytes l ≡ leb (16 * stated_links bytes + trailer_length) (length bytes)
-  has-stated h k = λ i. le-leb trailer_length (length bytes) h i && lt-ltb l (stated_links bytes) k i && leb (16 * stated_links bytes + trailer_length) (length bytes)
+  pub has-stated : short_trailer ≤ length bytes → l < stated_links bytes → has_link bytes l ≡ leb (link_length * stated_links bytes + trailer_size bytes) (length bytes)
+  has-stated h k = λ i. le-leb short_trailer (length bytes) h i && lt-ltb l (stated_links bytes) k i && leb (link_length * stated_links bytes + trailer_size bytes) (length bytes)
 
 -- ---- a link that is there
 module _ (bytes : List ℕ) (l : ℕ) (has : has_link bytes l ≡ true) where
@@ -32,30 +33,30 @@ module _ (bytes : List ℕ) (l : ℕ) (has : has_link bytes l ≡ true) where
   there = subst Holds (sym has) tt
 
   link-stated : l < stated_links bytes
-  link-stated = ltb→lt l (stated_links bytes) (and_r (leb trailer_length (length bytes)) (ltb l (stated_links bytes)) (and_l (leb trailer_length (length bytes) && ltb l (stated_links bytes)) (leb (16 * stated_links bytes + trailer_length) (length bytes)) there))
+  link-stated = ltb→lt l (stated_links bytes) (and_r (leb short_trailer (length bytes)) (ltb l (stated_links bytes)) (and_l (leb short_trailer (length bytes) && ltb l (stated_links bytes)) (leb (link_length * stated_links bytes + trailer_size bytes) (length bytes)) there))
 
-  links-within : 16 * stated_links bytes + trailer_length ≤ length bytes
-  links-within = leb→le (16 * stated_links bytes + trailer_length) (length bytes) (and_r (leb trailer_length (length bytes) && ltb l (stated_links bytes)) (leb (16 * stated_links bytes + trailer_length) (length bytes)) there)
+  links-within : link_length * stated_links bytes + trailer_size bytes ≤ length bytes
+  links-within = leb→le (link_length * stated_links bytes + trailer_size bytes) (length bytes) (and_r (leb short_trailer (length bytes) && ltb l (stated_links bytes)) (leb (link_length * stated_links bytes + trailer_size bytes) (length bytes)) there)
 
   -- so its bytes lie in the sheet
-  pub link-within : 16 * l + 16 ≤ length bytes
-  link-within = within (stated_links bytes) link-stated links-within
+  pub link-within : link_length * l + 16 ≤ length bytes
+  link-within = within (stated_links bytes) (trailer_size bytes) link-stated links-within
     where
-      within : (t : ℕ) → l < t → 16 * t + trailer_length ≤ length bytes → 16 * l + 16 ≤ length bytes
-      within t h k = omega (arith, h, k)
+      within : (t z : ℕ) → l < t → link_length * t + z ≤ length bytes → link_length * l + 16 ≤ length bytes
+      within t z h k = omega (arith, h, k)
 
 -- ---- an accepted sheet
 module _ (bytes : List ℕ) (accepted : read_number bytes ≡ 0) where
   abbrev T : ℕ
   T = stated_links bytes
 
-  sized : length bytes ≡ 16 * T + 12 * stated_nodes bytes + trailer_length
+  sized : length bytes ≡ link_length * T + node_length * stated_nodes bytes + trailer_size bytes
   sized = length-read bytes (read_fits bytes accepted)
 
   -- there is a link l just where the trailer states it
   pub has-accepted : (l : ℕ) → has_link bytes l ≡ ltb l T
   has-accepted l =
-      (λ i. le-leb trailer_length (length bytes) (omega (arith, sized)) i && ltb l T && le-leb (16 * T + trailer_length) (length bytes) (omega (arith, sized)) i)
+      (λ i. le-leb short_trailer (length bytes) (omega (arith, sized, size-least (form_of bytes))) i && ltb l T && le-leb (link_length * T + trailer_size bytes) (length bytes) (omega (arith, sized)) i)
       ∙ and-true (ltb l T)
 
   pub gives-link : (l : ℕ) → l < T → next_link bytes l ≡ Some (link_at bytes l)

@@ -7,21 +7,22 @@ use Prim.Native.Nat.{ℕ, zero, suc, ◌+◌, ◌-◌, ◌*◌, ◌/◌, ◌%◌
 use native.Mathlib.Nat.{add-zero, mod-eq_of_lt, div-div-eq-div-mul}
 use native.Mathlib.Numerals.{add-one}
 use native.Mathlib.Omega.{arith}
-use lib.Dec.{T, leb, ltb, eqb, eqb→eq}
+use lib.Dec.{ltb, eqb}
 use lib.ListN.{length, take, drop, get_or, length-append}
 use lib.Seq.{sets, sets-eq, take_at, drop-cons, drop-drop, take-add, drop_at, take-length, get_or-drop}
-use lib.Ieee.Fits.{and_l, and_r}
 use borrow.Author.Tests.{eq-eqb, le-leb, lt-ltb, le-ltb}
 use Rattle.std.specs.Prelude.{Result, Ok}
+use Rattle.sheet.specs.declared.form.Form.{Form}
 use Rattle.sheet.specs.declared.refusal.Refusal.{Refusal}
 use Rattle.sheet.specs.Words.{word, words, bytes_of, bytes_of_all}
-use Rattle.sheet.specs.Sheet.{Parts, link_count, node_count, records_fit, verdict, sheet_of, sheet_length, trailer_of, trailer_length, trailer_field, stated_links, stated_nodes, parts_of, sizes_fit, read_number, write_number}
+use Rattle.sheet.specs.Sheet.{link_length, node_length, Parts, link_count, node_count, records_fit, verdict, sheet_of, sheet_length, trailer_of, trailer_length, trailer_size, long_trailer, unit_fields, field_back, laid_out, form_of, trailer_field, stated_links, stated_nodes, parts_of, sizes_fit, read_number, write_number}
 use Rattle.sheet.specs.Answers.{written, written_over, ReadBack}
 use Rattle.sheet.specs.Machine.{machine_of, machine}
 use Rattle.sheet.proofs.Bytes.{bytes_of_all-append, length-bytes_of_all}
 use Rattle.sheet.proofs.Fields.{length-words, get_d_words, read-unfit, read-fields, length-read}
 use Rattle.sheet.proofs.Refusals.{first-zero}
-use Rattle.sheet.proofs.Writing.{records, length-sheet, stored}
+use Rattle.sheet.proofs.Forms.{LaidOut, laid-out, form-long, form-short}
+use Rattle.sheet.proofs.Writing.{records, trailer-size, length-sheet, stored}
 
 -- each element is below a bound: a byte below 256, a word below 2 ^ 32
 abbrev pub Below : ℕ → List ℕ → Type 0
@@ -116,15 +117,15 @@ bytes_of_all-words (suc n) bytes at b h =
     ∙ sym (ap (λ (x : ℕ). take x (drop at bytes)) k ∙ take-add 4 (4 * n) (drop at bytes))
 
 -- ---- what is written is read back
-at-trailer : (p : Parts) → records_fit p ≡ true → p.start < 4294967296 → Below 4294967296 (trailer_of p)
-at-trailer p e s zero = omega arith
-at-trailer p e s (suc zero) = (records p e).3
-at-trailer p e s (suc (suc zero)) = (records p e).2
-at-trailer p e s (suc (suc (suc zero))) = omega (arith, (records p e).3)
-at-trailer p e s (suc (suc (suc (suc zero)))) = s
-at-trailer p e s (suc (suc (suc (suc (suc i))))) = omega arith
+at-trailer : (p : Parts) → records_fit p ≡ true → p.start < 4294967296 → Below 4294967296 (unit_fields p.form) → Below 4294967296 (trailer_of p)
+at-trailer p e s u zero = omega arith
+at-trailer p e s u (suc zero) = (records p e).3
+at-trailer p e s u (suc (suc zero)) = (records p e).2
+at-trailer p e s u (suc (suc (suc zero))) = omega (arith, (records p e).3)
+at-trailer p e s u (suc (suc (suc (suc zero)))) = s
+at-trailer p e s u (suc (suc (suc (suc (suc i))))) = u i
 
-module _ (p : Parts) (e : records_fit p ≡ true) (links-below : Below 4294967296 p.links) (nodes-below : Below 4294967296 p.nodes) (start-below : p.start < 4294967296) where
+module _ (p : Parts) (e : records_fit p ≡ true) (links-below : Below 4294967296 p.links) (nodes-below : Below 4294967296 p.nodes) (start-below : p.start < 4294967296) (unit-below : Below 4294967296 (unit_fields p.form)) where
   four : 4 * link_count p ≡ length p.links
   four = omega (arith, (records p e).0)
 
@@ -135,46 +136,71 @@ module _ (p : Parts) (e : records_fit p ≡ true) (links-below : Below 429496729
   unfolding sheet_of
   in_three = bytes_of_all-append (p.links ++ p.nodes) (trailer_of p) ∙ ap (λ (r : List ℕ). r ++ bytes_of_all (trailer_of p)) (bytes_of_all-append p.links p.nodes)
 
-  before-trailer : length (sheet_of p) - 20 ≡ length (bytes_of_all p.links ++ bytes_of_all p.nodes)
+  abbrev size : ℕ
+  size = trailer_length p.form
+
+  before-trailer : length (sheet_of p) - size ≡ length (bytes_of_all p.links ++ bytes_of_all p.nodes)
   before-trailer = omega (arith, length-sheet p e, length-append (bytes_of_all p.links) (bytes_of_all p.nodes), length-bytes_of_all p.links, length-bytes_of_all p.nodes, four, three)
 
-  trailer-back : words (sheet_of p) (length (sheet_of p) - 20) 5 ≡ trailer_of p
+  trailer-back : words (sheet_of p) (length (sheet_of p) - size) (length (trailer_of p)) ≡ trailer_of p
   trailer-back =
       let pre = bytes_of_all p.links ++ bytes_of_all p.nodes in
-      (λ i. words ((in_three ∙ sym (append-nil (pre ++ bytes_of_all (trailer_of p)))) i) (before-trailer i) 5) ∙ words_of (trailer_of p) pre [] (at-trailer p e start-below)
+      (λ i. words ((in_three ∙ sym (append-nil (pre ++ bytes_of_all (trailer_of p)))) i) (before-trailer i) (length (trailer_of p))) ∙ words_of (trailer_of p) pre [] (at-trailer p e start-below unit-below)
 
-  field_back : (i : ℕ) → i < 5 → trailer_field (sheet_of p) i ≡ get_or (trailer_of p) i 0
-  field_back i h = sym (get_d_words (sheet_of p) (length (sheet_of p) - 20) 5 i h) ∙ ap (λ (l : List ℕ). get_or l i 0) trailer-back
+  -- by the form that was written
+  back : (i : ℕ) → i < length (trailer_of p) → field_back size (sheet_of p) i ≡ get_or (trailer_of p) i 0
+  back i h = sym (get_d_words (sheet_of p) (length (sheet_of p) - size) (length (trailer_of p)) i h) ∙ ap (λ (l : List ℕ). get_or l i 0) trailer-back
+
+  five : (i : ℕ) → i < 5 → i < length (trailer_of p)
+  five i h = omega arith
+
+  laid_back : laid_out size (sheet_of p) ≡ true
+  unfolding laid_out
+  laid_back =
+      let long : size ≤ length (sheet_of p) = omega (arith, length-sheet p e) in
+      let t = back 3 (five 3 (omega arith)) in
+      let n = back 2 (five 2 (omega arith)) in
+      let one : eqb (field_back size (sheet_of p) 1) (link_length * field_back size (sheet_of p) 3) ≡ true = eq-eqb _ _ (back 1 (five 1 (omega arith)) ∙ ap (λ (k : ℕ). link_length * k) (sym t)) in
+      let all : eqb (length (sheet_of p)) (link_length * field_back size (sheet_of p) 3 + node_length * field_back size (sheet_of p) 2 + size) ≡ true = eq-eqb _ _ (length-sheet p e ∙ λ i. link_length * sym t i + node_length * sym n i + size) in
+      λ i. le-leb size (length (sheet_of p)) long i && eq-eqb (field_back size (sheet_of p) 0) 0 (back 0 (five 0 (omega arith))) i && one i && all i
+
+  -- so the form is read back: under the other trailer it is not laid out
+  pub form_back : form_of (sheet_of p) ≡ p.form
+  form_back = go p.form refl
+    where
+      go : (f : Form) → p.form ≡ f → form_of (sheet_of p) ≡ f
+      go Form.Short q = form-short (sheet_of p) (ap (λ (f : Form). laid_out (trailer_length f) (sheet_of p)) (sym q) ∙ laid_back)
+      go (Form.Long u) q =
+          let sixth : 5 < length (trailer_of p) = omega (arith, trailer-size p ∙ ap trailer_length q) in
+          form-long (sheet_of p) (ap (λ (f : Form). laid_out (trailer_length f) (sheet_of p)) (sym q) ∙ laid_back)
+          ∙ ap Form.Long (ap (λ (f : Form). field_back (trailer_length f) (sheet_of p) 5) (sym q) ∙ back 5 sixth ∙ ap (λ (f : Form). get_or (unit_fields f) 0 0) q)
+
+  field_back_at : (i : ℕ) → i < 5 → trailer_field (sheet_of p) i ≡ get_or (trailer_of p) i 0
+  field_back_at i h = ap (λ (f : Form). field_back (trailer_length f) (sheet_of p) i) form_back ∙ back i (five i h)
 
   links-back : words (sheet_of p) 0 (4 * stated_links (sheet_of p)) ≡ p.links
   links-back =
       let post = bytes_of_all p.nodes ++ bytes_of_all (trailer_of p) in
-      let n : 4 * stated_links (sheet_of p) ≡ length p.links = ap (λ (k : ℕ). 4 * k) (field_back 3 (omega arith)) ∙ four in
+      let n : 4 * stated_links (sheet_of p) ≡ length p.links = ap (λ (k : ℕ). 4 * k) (field_back_at 3 (omega arith)) ∙ four in
       (λ i. words ((in_three ∙ append_assoc (bytes_of_all p.links) (bytes_of_all p.nodes) (bytes_of_all (trailer_of p))) i) 0 (n i)) ∙ words_of p.links [] post links-below
 
-  nodes-back : words (sheet_of p) (16 * stated_links (sheet_of p)) (3 * stated_nodes (sheet_of p)) ≡ p.nodes
+  nodes-back : words (sheet_of p) (link_length * stated_links (sheet_of p)) (3 * stated_nodes (sheet_of p)) ≡ p.nodes
   nodes-back =
-      let at : 16 * stated_links (sheet_of p) ≡ length (bytes_of_all p.links) = ap (λ (k : ℕ). 16 * k) (field_back 3 (omega arith)) ∙ omega (arith, four, length-bytes_of_all p.links) in
-      let n : 3 * stated_nodes (sheet_of p) ≡ length p.nodes = ap (λ (k : ℕ). 3 * k) (field_back 2 (omega arith)) ∙ three in
+      let at : link_length * stated_links (sheet_of p) ≡ length (bytes_of_all p.links) = ap (λ (k : ℕ). link_length * k) (field_back_at 3 (omega arith)) ∙ omega (arith, four, length-bytes_of_all p.links) in
+      let n : 3 * stated_nodes (sheet_of p) ≡ length p.nodes = ap (λ (k : ℕ). 3 * k) (field_back_at 2 (omega arith)) ∙ three in
       (λ i. words (in_three i) (at i) (n i)) ∙ words_of p.nodes (bytes_of_all p.links) (bytes_of_all (trailer_of p)) nodes-below
 
-  -- the same links, nodes and start
+  -- the same links, nodes, start and form
   pub parts-back : parts_of (sheet_of p) ≡ p
   unfolding parts_of
-  parts-back = λ i. record { links = links-back i; nodes = nodes-back i; start = field_back 4 (omega arith) i }
+  parts-back = λ i. record { links = links-back i; nodes = nodes-back i; start = field_back_at 4 (omega arith) i; form = form_back i }
 
   -- so the same machine
   pub machine-back : machine_of (parts_of (sheet_of p)) ≡ machine_of p
   machine-back = ap machine_of parts-back
 
   sizes-back : sizes_fit (sheet_of p) ≡ true
-  sizes-back =
-      let long : trailer_length ≤ length (sheet_of p) = omega (arith, length-sheet p e) in
-      let t = field_back 3 (omega arith) in
-      let n = field_back 2 (omega arith) in
-      let one : eqb (trailer_field (sheet_of p) 1) (16 * stated_links (sheet_of p)) ≡ true = eq-eqb _ _ (field_back 1 (omega arith) ∙ ap (λ (k : ℕ). 16 * k) (sym t)) in
-      let all : eqb (length (sheet_of p)) (16 * stated_links (sheet_of p) + 12 * stated_nodes (sheet_of p) + trailer_length) ≡ true = eq-eqb _ _ (length-sheet p e ∙ λ i. 16 * sym t i + 12 * sym n i + trailer_length) in
-      λ i. le-leb trailer_length (length (sheet_of p)) long i && eq-eqb (trailer_field (sheet_of p) 0) 0 (field_back 0 (omega arith)) i && one i && all i
+  sizes-back = ap (λ (f : Form). laid_out (trailer_length f) (sheet_of p)) form_back ∙ laid_back
 
   -- and the reader's verdict is the writer's
   pub number-back : read_number (sheet_of p) ≡ verdict (records_fit p) p
@@ -211,28 +237,35 @@ words-below (suc n) bytes at b zero = word_lt bytes at b
 words-below (suc n) bytes at b (suc i) = words-below n bytes (at + 4) b i
 
 module _ (bytes : List ℕ) (below : Below 256 bytes) (fits : sizes_fit bytes ≡ true) where
-  T₀ : T (leb trailer_length (length bytes) && eqb (trailer_field bytes 0) 0 && eqb (trailer_field bytes 1) (16 * stated_links bytes) && eqb (length bytes) (16 * stated_links bytes + 12 * stated_nodes bytes + trailer_length))
-  T₀ = subst T (sym fits) tt
+  laid : LaidOut (trailer_size bytes) bytes
+  laid = laid-out (trailer_size bytes) bytes fits
 
-  offset : trailer_field bytes 0 ≡ 0
-  offset = eqb→eq _ _ (and_r (leb trailer_length (length bytes)) (eqb (trailer_field bytes 0) 0) (and_l (leb trailer_length (length bytes) && eqb (trailer_field bytes 0) 0) (eqb (trailer_field bytes 1) (16 * stated_links bytes))
-      (and_l (leb trailer_length (length bytes) && eqb (trailer_field bytes 0) 0 && eqb (trailer_field bytes 1) (16 * stated_links bytes)) (eqb (length bytes) (16 * stated_links bytes + 12 * stated_nodes bytes + trailer_length)) T₀)))
+  -- the fields of a trailer that begins here
+  abbrev fields_at : ℕ → Form → List ℕ
+  fields_at at f = word bytes at ∷ word bytes (at + 4) ∷ word bytes (at + 4 + 4) ∷ word bytes (at + 4 + 4 + 4) ∷ word bytes (at + 4 + 4 + 4 + 4) ∷ unit_fields f
 
-  offset-nodes : trailer_field bytes 1 ≡ 16 * stated_links bytes
-  offset-nodes = eqb→eq _ _ (and_r (leb trailer_length (length bytes) && eqb (trailer_field bytes 0) 0) (eqb (trailer_field bytes 1) (16 * stated_links bytes))
-      (and_l (leb trailer_length (length bytes) && eqb (trailer_field bytes 0) 0 && eqb (trailer_field bytes 1) (16 * stated_links bytes)) (eqb (length bytes) (16 * stated_links bytes + 12 * stated_nodes bytes + trailer_length)) T₀))
-
-  trailer-read : trailer_of (parts_of bytes) ≡ words bytes (length bytes - 20) 5
-  unfolding words parts_of
+  trailer-read : trailer_of (parts_of bytes) ≡ words bytes (length bytes - trailer_size bytes) (length (trailer_of (parts_of bytes)))
+  unfolding words parts_of form_of
   trailer-read =
-      let at = length bytes - 20 in
+      let at = length bytes - trailer_size bytes in
       let zero-at : at + 4 * 0 ≡ at = omega arith in
       let one_at : at + 4 * 1 ≡ at + 4 = omega arith in
       let two_at : at + 4 * 2 ≡ at + 4 + 4 = omega arith in
       let three-at : at + 4 * 3 ≡ at + 4 + 4 + 4 = omega arith in
       let four-at : at + 4 * 4 ≡ at + 4 + 4 + 4 + 4 = omega arith in
-      (λ i. sym offset i ∷ (ap (λ (k : ℕ). 16 * k) (read-fields bytes).links-are ∙ sym offset-nodes) i ∷ (read-fields bytes).nodes-are i ∷ (read-fields bytes).links-are i ∷ trailer_field bytes 4 ∷ [])
-      ∙ (λ i. word bytes (zero-at i) ∷ word bytes (one_at i) ∷ word bytes (two_at i) ∷ word bytes (three-at i) ∷ word bytes (four-at i) ∷ [])
+      (λ i. sym laid.links-at i ∷ (ap (λ (k : ℕ). link_length * k) (read-fields bytes).links-are ∙ sym laid.nodes-at) i ∷ (read-fields bytes).nodes-are i ∷ (read-fields bytes).links-are i ∷ trailer_field bytes 4 ∷ unit_fields (form_of bytes))
+      ∙ (λ i. word bytes (zero-at i) ∷ word bytes (one_at i) ∷ word bytes (two_at i) ∷ word bytes (three-at i) ∷ word bytes (four-at i) ∷ unit_fields (form_of bytes))
+      ∙ sixth (laid_out long_trailer bytes)
+    where
+      place : length bytes - 24 + 4 * 5 ≡ length bytes - 24 + 4 + 4 + 4 + 4 + 4
+      place = omega arith
+
+      Same : Form → Type 0
+      Same f = fields_at (length bytes - trailer_length f) f ≡ words bytes (length bytes - trailer_length f) (length (0 ∷ 0 ∷ 0 ∷ 0 ∷ 0 ∷ unit_fields f))
+
+      sixth : (b : Bool) → Same (cond b (Form.Long (field_back long_trailer bytes 5)) Form.Short)
+      sixth false = refl
+      sixth true = let at = length bytes - 24 in λ i. word bytes at ∷ word bytes (at + 4) ∷ word bytes (at + 4 + 4) ∷ word bytes (at + 4 + 4 + 4) ∷ word bytes (at + 4 + 4 + 4 + 4) ∷ word bytes (place i) ∷ []
 
   pub bytes_back : sheet_of (parts_of bytes) ≡ bytes
   unfolding sheet_of parts_of
@@ -241,24 +274,26 @@ module _ (bytes : List ℕ) (below : Below 256 bytes) (fits : sizes_fit bytes �
       let n = stated_nodes bytes in
       let a = 4 * (4 * t) in
       let b = 4 * (3 * n) in
-      let at : length bytes - 20 ≡ a + b = omega (arith, length-read bytes fits) in
-      let from : 16 * t ≡ a = omega arith in
-      let all : length bytes ≡ a + b + 20 = omega (arith, length-read bytes fits) in
-      bytes_of_all-append (words bytes 0 (4 * t) ++ words bytes (16 * t) (3 * n)) (trailer_of (parts_of bytes))
-      ∙ (λ i. bytes_of_all-append (words bytes 0 (4 * t)) (words bytes (16 * t) (3 * n)) i ++ bytes_of_all (trailer-read i))
-      ∙ (λ i. bytes_of_all-words (4 * t) bytes 0 below (omega (arith, length-read bytes fits)) i ++ bytes_of_all-words (3 * n) bytes (16 * t) below (omega (arith, length-read bytes fits)) i ++ bytes_of_all-words 5 bytes (length bytes - 20) below (omega (arith, length-read bytes fits)) i)
-      ∙ (λ i. take a bytes ++ take b (drop (from i) bytes) ++ take 20 (drop (at i) bytes))
-      ∙ ap (λ (r : List ℕ). r ++ take 20 (drop (a + b) bytes)) (sym (take-add a b bytes))
-      ∙ sym (take-add (a + b) 20 bytes)
+      let k = length (trailer_of (parts_of bytes)) in
+      let c : 4 * k ≡ trailer_size bytes = trailer-size (parts_of bytes) in
+      let at : length bytes - trailer_size bytes ≡ a + b = omega (arith, length-read bytes fits) in
+      let from : link_length * t ≡ a = omega arith in
+      let all : length bytes ≡ a + b + 4 * k = omega (arith, length-read bytes fits, c) in
+      bytes_of_all-append (words bytes 0 (4 * t) ++ words bytes (link_length * t) (3 * n)) (trailer_of (parts_of bytes))
+      ∙ (λ i. bytes_of_all-append (words bytes 0 (4 * t)) (words bytes (link_length * t) (3 * n)) i ++ bytes_of_all (trailer-read i))
+      ∙ (λ i. bytes_of_all-words (4 * t) bytes 0 below (omega (arith, length-read bytes fits)) i ++ bytes_of_all-words (3 * n) bytes (link_length * t) below (omega (arith, length-read bytes fits)) i ++ bytes_of_all-words k bytes (length bytes - trailer_size bytes) below (omega (arith, length-read bytes fits, c)) i)
+      ∙ (λ i. take a bytes ++ take b (drop (from i) bytes) ++ take (4 * k) (drop (at i) bytes))
+      ∙ ap (λ (r : List ℕ). r ++ take (4 * k) (drop (a + b) bytes)) (sym (take-add a b bytes))
+      ∙ sym (take-add (a + b) (4 * k) bytes)
       ∙ ap (λ (k : ℕ). take k bytes) (sym all) ∙ take-length bytes
 
   records-read : records_fit (parts_of bytes) ≡ true
   unfolding parts_of
   records-read =
-      let small-nodes : node_count (parts_of bytes) < 2 ^ 32 = subst (λ (k : ℕ). k < 2 ^ 32) (sym (read-fields bytes).nodes-are) (word_lt bytes (length bytes - 20 + 4 * 2) below) in
-      let small-links : 16 * link_count (parts_of bytes) < 2 ^ 32 = subst (λ (k : ℕ). k < 2 ^ 32) (offset-nodes ∙ ap (λ (k : ℕ). 16 * k) (sym (read-fields bytes).links-are)) (word_lt bytes (length bytes - 20 + 4 * 1) below) in
+      let small-nodes : node_count (parts_of bytes) < 2 ^ 32 = subst (λ (k : ℕ). k < 2 ^ 32) (sym (read-fields bytes).nodes-are) (word_lt bytes (length bytes - trailer_size bytes + 4 * 2) below) in
+      let small-links : link_length * link_count (parts_of bytes) < 2 ^ 32 = subst (λ (k : ℕ). k < 2 ^ 32) (laid.nodes-at ∙ ap (λ (k : ℕ). link_length * k) (sym (read-fields bytes).links-are)) (word_lt bytes (length bytes - trailer_size bytes + 4 * 1) below) in
       let whole-links : length (parts_of bytes).links % 4 ≡ 0 = omega (arith, length-words bytes 0 (4 * stated_links bytes)) in
-      let whole-nodes : length (parts_of bytes).nodes % 3 ≡ 0 = omega (arith, length-words bytes (16 * stated_links bytes) (3 * stated_nodes bytes)) in
+      let whole-nodes : length (parts_of bytes).nodes % 3 ≡ 0 = omega (arith, length-words bytes (link_length * stated_links bytes) (3 * stated_nodes bytes)) in
       λ i. eq-eqb _ _ whole-links i && eq-eqb _ _ whole-nodes i && lt-ltb _ _ small-nodes i && lt-ltb _ _ small-links i
 
   -- the writer accepts what the reader accepts
@@ -275,7 +310,7 @@ written-again bytes old below accepted room = go (sizes_fit bytes) refl
     go false e = absurd (omega (arith, sym (read-unfit bytes e) ∙ accepted))
     go true e =
         let p = parts_of bytes in
-        let size : sheet_length p ≡ length bytes = (λ i. 16 * (read-fields bytes).links-are i + 12 * (read-fields bytes).nodes-are i + 20) ∙ sym (length-read bytes e) in
+        let size : sheet_length p ≡ length bytes = (λ i. link_length * (read-fields bytes).links-are i + node_length * (read-fields bytes).nodes-are i + trailer_size bytes) ∙ sym (length-read bytes e) in
         let zero_number : write_number p (length old) ≡ 0 =
         ap (λ (k : ℕ). cond (not (eqb k 0)) k (cond (ltb (length old) (sheet_length p)) 21 0)) (number-again bytes below e ∙ accepted) ∙ ap (λ (b : Bool). cond b 21 0) (le-ltb (length old) (sheet_length p) (omega arith)) in
         ap (λ (k : ℕ). cond (eqb k 0) (sheet_of p ++ drop (sheet_length p) old) old) zero_number ∙ λ i. bytes_back bytes below e i ++ drop (size i) old

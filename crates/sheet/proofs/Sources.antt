@@ -12,7 +12,7 @@ use lib.Dec.{T, eqb, eqb→eq}
 use lib.ListN.{length, get_or, replicate, length-append, length-replicate, get_or-replicate, get_or-append}
 use lib.Ieee.Fits.{and_r}
 use Rattle.sheet.specs.Below.{all_below, sum_below}
-use Rattle.sheet.specs.Sheet.{Parts, link_count, node_count, count, mark, final_bits, well_marked, nodes_fit}
+use Rattle.sheet.specs.Sheet.{Parts, unit_of, link_count, node_count, count, mark, final_bits, well_marked, nodes_fit}
 use Rattle.sheet.proofs.Below.{split_at, get_d_past, length-list_below, get_or-list_below, sum_mono}
 use Rattle.sheet.specs.Machine.{Link, machine_of, sources_below, link_of, final_of}
 
@@ -87,10 +87,10 @@ module _ (p : Parts) where
   unfolding machine_of
   machine-links = length-list_below (link_count p) (link_of p)
 
-  pub machine-final : (v : ℕ) → v < node_count p → get_or (machine_of p).finals v none ≡ final_of (mark p v) (final_bits p v)
+  pub machine-final : (v : ℕ) → v < node_count p → get_or (machine_of p).finals v none ≡ final_of (unit_of p.form) (mark p v) (final_bits p v)
   unfolding machine_of
-  machine-final v h = get_or-list_below (node_count p) (λ v. final_of (mark p v) (final_bits p v)) v none h
+  machine-final v h = get_or-list_below (node_count p) (λ v. final_of (unit_of p.form) (mark p v) (final_bits p v)) v none h
 
   pub machine-nodes : length (machine_of p).finals ≡ node_count p
   unfolding machine_of
-  machine-nodes = length-list_below (node_count p) (λ v. final_of (mark p v) (final_bits p v))
+  machine-nodes = length-list_below (node_count p) (λ v. final_of (unit_of p.form) (mark p v) (final_bits p v))

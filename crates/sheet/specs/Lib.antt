@@ -10,3 +10,4 @@ pub mod Reading
 pub mod Readers
 pub mod Accepted
 pub mod NodeSources
+pub mod Under

@@ -2,12 +2,13 @@
 use Rattle.std.specs.Prelude.{ℕ, zero, suc, ◌+◌, ◌*◌, Bool, true, false, ◌&&◌, List, leb, ltb, length, Option, Some, None}
 use Rattle.sheet.specs.declared.reader.Reader.{Reader}
 use Rattle.sheet.specs.declared.tr.Link.{Link}
-use Rattle.sheet.specs.Sheet.{stated_links, trailer_length}
+use Rattle.sheet.specs.Sheet.{link_length, short_trailer, trailer_size, stated_links}
 use Rattle.sheet.specs.Records.{link_at}
 
 -- whether there is a link l: the trailer states it, and the links that it states lie before the trailer
 abbrev pub has_link : List ℕ → ℕ → Bool
-has_link bytes l = leb trailer_length (length bytes) && ltb l (stated_links bytes) && leb (16 * stated_links bytes + trailer_length) (length bytes)
+has_link bytes l =
+    leb short_trailer (length bytes) && ltb l (stated_links bytes) && leb (link_length * stated_links bytes + trailer_size bytes) (length bytes)
 
 -- by whether there is a link l
 abbrev pub next_by : Bool → List ℕ → ℕ → Option Link

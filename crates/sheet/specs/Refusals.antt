@@ -17,6 +17,7 @@ number_of Refusal.Labels = 10
 number_of Refusal.Product = 11
 number_of Refusal.Sum = 12
 number_of Refusal.Narrow = 13
+number_of Refusal.Unit = 14
 number_of Refusal.Work = 20
 number_of Refusal.Room = 21
 number_of Refusal.Queue = 22
@@ -29,8 +30,8 @@ refusal_of k =
     cond (eqb k 1) Refusal.Layout (cond (eqb k 2) Refusal.Start (cond (eqb k 3) Refusal.Next (cond (eqb k 4) Refusal.Weight
     (cond (eqb k 5) Refusal.Limits (cond (eqb k 6) Refusal.Climb (cond (eqb k 7) Refusal.Count (cond (eqb k 8) Refusal.Rows
     (cond (eqb k 9) Refusal.NoRows (cond (eqb k 10) Refusal.Labels (cond (eqb k 11) Refusal.Product (cond (eqb k 12) Refusal.Sum
-    (cond (eqb k 13) Refusal.Narrow (cond (eqb k 20) Refusal.Work (cond (eqb k 21) Refusal.Room (cond (eqb k 22) Refusal.Queue
-    (cond (eqb k 30) Refusal.NoAnswer Refusal.Absent))))))))))))))))
+    (cond (eqb k 13) Refusal.Narrow (cond (eqb k 14) Refusal.Unit (cond (eqb k 20) Refusal.Work (cond (eqb k 21) Refusal.Room (cond (eqb k 22) Refusal.Queue
+    (cond (eqb k 30) Refusal.NoAnswer Refusal.Absent)))))))))))))))))
 
 -- by the test of the number
 abbrev pub answer_by : {A : Type 0} → Bool → A → ℕ → Result A Refusal

@@ -1,16 +1,19 @@
-// A sheet that has passed tests 1 to 4, with the counts and the start that its trailer states. Where
+// A sheet that has passed tests 1, 14 and 2 to 4, with the counts, the start and the form that its trailer states. Where
 // one stands, its records may be read without a test. Its start is the trailer's word, as C is told it.
 ghost use Rattle.std.specs.Prelude.{◌≡◌, ◌+◌, ◌*◌, ◌^◌, ◌<◌, length, unwrap_or, IfOk, IfSome};
+ghost use Rattle.tropical_weight.specs.Units.{places};
 ghost use Rattle.sheet.specs.Refusals.{number_in};
-ghost use Rattle.sheet.specs.Words.{word as word_at};
-ghost use Rattle.sheet.specs.Sheet.{read_number, parts_of, count, link_bits, next};
+ghost use Rattle.sheet.specs.Words.{word_length, word as word_at};
+ghost use Rattle.sheet.specs.Sheet.{link_length, node_length, node_words, sheet_size, unit_of, read_number, parts_of, count, link_bits, next};
 ghost use Rattle.sheet.specs.Records.{link_at as record_at, trailer_at, count_at, final_at};
 ghost use Rattle.sheet.specs.Accepted.{trailer_in, start_in, ending_at, ending};
 
+use crate::form::Form;
 use crate::read::read;
 use crate::refusal::Refusal;
-use crate::tr::{Link, link_at};
-use crate::words::word;
+use crate::tr::{LINK, Link, NODE, link_at};
+use crate::words::{WORD, word};
+use tropical_weight::unit::Unit;
 
 #[derive(Clone, Copy)]
 pub struct Sheet<'a> {
@@ -18,10 +21,11 @@ pub struct Sheet<'a> {
     pub links: u32,
     pub nodes: u32,
     pub start: u32,
+    pub form: Form,
     pub ghost accepted: { read_number bytes.now ≡ 0 },
-    pub ghost stated: { trailer_in links nodes start ≡ trailer_at bytes.now },
-    pub ghost sized: { length bytes.now ≡ 16 * links + 12 * nodes + 20 },
-    pub ghost few_links: { 16 * links < 2 ^ 32 },
+    pub ghost stated: { trailer_in links nodes start form ≡ trailer_at bytes.now },
+    pub ghost sized: { length bytes.now ≡ sheet_size form links nodes },
+    pub ghost few_links: { link_length * links < 2 ^ 32 },
     pub ghost few_nodes: { nodes < 2 ^ 32 },
 }
 
@@ -37,7 +41,15 @@ impl<'a> Sheet<'a> {
             links: t.links,
             nodes: t.nodes,
             start: t.start,
+            form: t.form,
         })
+    }
+
+    // The unit of its weights.
+    pub fn unit(&self) -> Unit
+        ensures { places result ≡ unit_of self.now.form }
+    {
+        self.form.unit()
     }
 
     // The start, where it is a node.
@@ -50,12 +62,12 @@ impl<'a> Sheet<'a> {
 
     // Field number i of node v, 0 to 2.
     fn node_field(&self, v: u32, i: usize) -> u32
-        requires { (v < self.now.nodes) × (i < 3) }
-        ensures { result ≡ word_at self.now.bytes.now (16 * self.now.links + 12 * v + 4 * i) }
+        requires { (v < self.now.nodes) × (i < node_words) }
+        ensures { result ≡ word_at self.now.bytes.now (link_length * self.now.links + node_length * v + word_length * i) }
     {
         word(
             self.bytes,
-            16 * (self.links as usize) + 12 * (v as usize) + 4 * i,
+            LINK * (self.links as usize) + NODE * (v as usize) + WORD * i,
         )
     }
 
@@ -92,19 +104,19 @@ impl<'a> Sheet<'a> {
     // The node that link l leads to.
     pub fn next(&self, l: u32) -> u32
         requires { l < self.now.links }
-        ensures word { result ≡ word_at self.now.bytes.now (16 * l + 12) }
+        ensures word { result ≡ word_at self.now.bytes.now (link_length * l + 3 * word_length) }
         ensures part { result ≡ next (parts_of self.now.bytes.now) l }
         ensures below { result < self.now.nodes }
     {
-        word(self.bytes, 16 * (l as usize) + 12)
+        word(self.bytes, LINK * (l as usize) + 3 * WORD)
     }
 
     // The field of link l's weight.
     pub fn link_bits(&self, l: u32) -> u32
         requires { l < self.now.links }
-        ensures word { result ≡ word_at self.now.bytes.now (16 * l + 8) }
+        ensures word { result ≡ word_at self.now.bytes.now (link_length * l + 2 * word_length) }
         ensures part { result ≡ link_bits (parts_of self.now.bytes.now) l }
     {
-        word(self.bytes, 16 * (l as usize) + 8)
+        word(self.bytes, LINK * (l as usize) + 2 * WORD)
     }
 }

@@ -1,8 +1,8 @@
 // Lists of 32-bit fields by their numbers: those of a byte string, and words.
 ghost use Rattle.std.specs.Prelude.{◌≡◌, ℕ, ◌*◌, ◌/◌, ◌<◌, length, get_or};
-ghost use Rattle.sheet.specs.Words.{word as word_at};
+ghost use Rattle.sheet.specs.Words.{word_length, word as word_at};
 
-use crate::words::word;
+use crate::words::{WORD, word};
 
 pub trait Fields {
     ghost count: { Self → ℕ };
@@ -21,12 +21,12 @@ pub struct Bytes<'a> {
 }
 
 impl<'a> Fields for Bytes<'a> {
-    ghost count = { λ f. length f.bytes.now / 4 };
+    ghost count = { λ f. length f.bytes.now / word_length };
 
-    ghost value = { λ f i. word_at f.bytes.now (4 * i) };
+    ghost value = { λ f i. word_at f.bytes.now (word_length * i) };
 
     fn field(&self, i: usize) -> u32 {
-        word(self.bytes, 4 * i)
+        word(self.bytes, WORD * i)
     }
 }
 

@@ -4,6 +4,7 @@
 
 pub mod accepted;
 pub mod field;
+pub mod form;
 pub mod read;
 pub mod reader;
 pub mod refusal;

@@ -2,7 +2,7 @@
 ghost use Rattle.std.specs.Prelude.{◌≡◌};
 ghost use Rattle.sheet.specs.Reading.{has_link, next_link};
 
-use crate::tr::{Link, TRAILER, link_at, stated_trailer};
+use crate::tr::{LINK, Link, link_at, stated_trailer};
 
 // Whether there is a link l: the trailer states it, and the links that it states lie before the
 // trailer.
@@ -16,7 +16,7 @@ fn has_link(sheet: &[u8], l: usize) -> bool
     if links <= l {
         return false;
     }
-    16 * links + TRAILER <= sheet.len()
+    LINK * links + t.form.trailer() <= sheet.len()
 }
 
 // Link number l of a sheet, or none past the last; on a byte string that is too short for the links

@@ -33,6 +33,8 @@ pub enum Refusal {
     Sum = 12,
     // A machine does not narrow to the node.
     Narrow = 13,
+    // The unit is neither 64 nor 256, or that of a second sheet is not the first's.
+    Unit = 14,
     // The work area is shorter than needed.
     Work = 20,
     // The result area is shorter than this very answer.

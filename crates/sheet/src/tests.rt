@@ -1,15 +1,18 @@
-// Tests 1 to 4 record by record. The reader runs them over bytes, the writer over words, each in one
+// Tests 1, 14 and 2 to 4 record by record. The reader runs them over bytes, the writer over words, each in one
 // pass over the nodes and one over the links. A pass makes the table of shifts, 256 bytes, once.
 ghost use Rattle.std.specs.Prelude.{◌≡◌, ◌||◌, ◌+◌, ◌*◌, ◌^◌, ◌≤◌, ◌<◌, eqb};
 ghost use Rattle.sheet.specs.Refusals.{answer};
-ghost use Rattle.sheet.specs.Sheet.{well_marked, start_fits, weight_fits};
+ghost use Rattle.tropical_weight.specs.Units.{places};
+ghost use Rattle.sheet.specs.Sheet.{link_words, node_words, well_marked, start_fits, weight_fits};
 ghost use Rattle.sheet.specs.Tests.{with_node, with_link, node_tests, link_tests, judged};
 
 use crate::field::Fields;
+use crate::form::Form;
 use crate::refusal::Refusal;
-use crate::tr::NO_START;
+use crate::tr::{LINK_WORDS, NO_START, NODE_WORDS};
 use crate::weight::weight_fits;
 use tropical_weight::shifts::GridShifts;
+use tropical_weight::unit::Unit;
 
 // What the nodes so far pass: the marks and the weights of absent finals (test 1), the links that
 // they count (test 1), and the final weights (test 4). Flags and no Result: each test is over the whole
@@ -35,7 +38,7 @@ fn well_marked(mark: u32, bits: u32) -> bool
 }
 
 fn final_fits(shifts: &GridShifts, mark: u32, bits: u32) -> bool
-    ensures { result ≡ eqb mark 0 || weight_fits bits }
+    ensures { result ≡ eqb mark 0 || weight_fits (places shifts.now.unit) bits }
 {
     if mark == 0 {
         return true;
@@ -56,7 +59,7 @@ fn start_fits(start: u32, nodes: u32) -> bool
 // by which the tests took a twentieth more.
 fn with_node(shifts: &GridShifts, t: NodeTests, count: u32, mark: u32, bits: u32) -> NodeTests
     requires { t.links + count < 2 ^ 64 }
-    ensures { result ≡ with_node t count mark bits }
+    ensures { result ≡ with_node (places shifts.now.unit) t count mark bits }
 {
     NodeTests {
         marked: well_marked(mark, bits) && t.marked,
@@ -67,7 +70,7 @@ fn with_node(shifts: &GridShifts, t: NodeTests, count: u32, mark: u32, bits: u32
 
 // One link more, in the same way.
 fn with_link(shifts: &GridShifts, t: LinkTests, bits: u32, next: u32, nodes: u32) -> LinkTests
-    ensures { result ≡ with_link t bits next nodes }
+    ensures { result ≡ with_link (places shifts.now.unit) t bits next nodes }
 {
     LinkTests {
         nexts: next < nodes && t.nexts,
@@ -78,18 +81,18 @@ fn with_link(shifts: &GridShifts, t: LinkTests, bits: u32, next: u32, nodes: u32
 // The nodes, three fields a node. Not inlined, nor are the links: each loop has the registers to itself so,
 // and the tests of a large sheet took a tenth more without it.
 #[inline(never)]
-pub fn test_nodes<F: Fields>(fields: &F, nodes: u32) -> NodeTests
-    requires { 3 * nodes ≤ F.count fields.now }
-    ensures { result ≡ node_tests nodes (λ v. F.value fields.now (3 * v)) (λ v. F.value fields.now (3 * v + 1)) (λ v. F.value fields.now (3 * v + 2)) }
+pub fn test_nodes<F: Fields>(fields: &F, nodes: u32, unit: Unit) -> NodeTests
+    requires { node_words * nodes ≤ F.count fields.now }
+    ensures { result ≡ node_tests (places unit) nodes (λ v. F.value fields.now (node_words * v)) (λ v. F.value fields.now (node_words * v + 1)) (λ v. F.value fields.now (node_words * v + 2)) }
 {
-    let shifts = GridShifts::new();
+    let shifts = GridShifts::new(unit);
     let mut t = NodeTests {
         marked: true,
         links: 0,
         weights: true,
     };
     for v in 0..nodes {
-        let from = 3 * (v as usize);
+        let from = NODE_WORDS * (v as usize);
         t = with_node(
             &shifts,
             t,
@@ -103,17 +106,17 @@ pub fn test_nodes<F: Fields>(fields: &F, nodes: u32) -> NodeTests
 
 // The links, four fields a link. Apart from the nodes: records of another width, and other tests.
 #[inline(never)]
-pub fn test_links<F: Fields>(fields: &F, links: u32, nodes: u32) -> LinkTests
-    requires { 4 * links ≤ F.count fields.now }
-    ensures { result ≡ link_tests links nodes (λ l. F.value fields.now (4 * l + 2)) (λ l. F.value fields.now (4 * l + 3)) }
+pub fn test_links<F: Fields>(fields: &F, links: u32, nodes: u32, unit: Unit) -> LinkTests
+    requires { link_words * links ≤ F.count fields.now }
+    ensures { result ≡ link_tests (places unit) links nodes (λ l. F.value fields.now (link_words * l + 2)) (λ l. F.value fields.now (link_words * l + 3)) }
 {
-    let shifts = GridShifts::new();
+    let shifts = GridShifts::new(unit);
     let mut t = LinkTests {
         nexts: true,
         weights: true,
     };
     for l in 0..links {
-        let from = 4 * (l as usize);
+        let from = LINK_WORDS * (l as usize);
         t = with_link(
             &shifts,
             t,
@@ -125,12 +128,22 @@ pub fn test_links<F: Fields>(fields: &F, links: u32, nodes: u32) -> LinkTests
     t
 }
 
-// The first of tests 1 to 4 that fails, where length and offsets are as laid out.
-pub fn judge(n: NodeTests, l: LinkTests, links: u32, nodes: u32, start: u32) -> Result<(), Refusal>
-    ensures { result ≡ answer tt (judged n l links nodes start) }
+// The first of tests 1, 14 and 2 to 4 that fails, where length and offsets are as laid out.
+pub fn judge(
+    n: NodeTests,
+    l: LinkTests,
+    links: u32,
+    nodes: u32,
+    start: u32,
+    form: Form,
+) -> Result<(), Refusal>
+    ensures { result ≡ answer tt (judged n l links nodes start form) }
 {
     if !(n.marked && n.links == u64::from(links)) {
         return Err(Refusal::Layout);
+    }
+    if !form.fits() {
+        return Err(Refusal::Unit);
     }
     if !start_fits(start, nodes) {
         return Err(Refusal::Start);

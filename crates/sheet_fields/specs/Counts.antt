@@ -1,4 +1,4 @@
--- The counts of a sheet that passes tests 1 to 4, and its start. Definitions only.
+-- The counts of a sheet that passes tests 1, 14 and 2 to 4, and its start. Definitions only.
 use Rattle.std.specs.Prelude.{List, ℕ, length, Result}
 use Rattle.sheet.specs.declared.refusal.Refusal.{Refusal}
 use Rattle.sheet.specs.Refusals.{answer}

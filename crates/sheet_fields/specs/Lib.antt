@@ -1,3 +1,4 @@
 pub mod Counts
 pub mod Nodes
 pub mod Fields
+pub mod Units

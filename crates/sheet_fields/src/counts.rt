@@ -15,7 +15,7 @@ pub struct SheetCounts {
     pub start: u32,
 }
 
-// Tests 1 to 4 of a byte string as a sheet, and then its counts.
+// Tests 1, 14 and 2 to 4 of a byte string as a sheet, and then its counts.
 pub fn counts(sheet: &[u8]) -> Result<SheetCounts, Refusal>
     ensures { result ≡ counts_of sheet.now }
 {

@@ -4,3 +4,4 @@
 
 pub mod counts;
 pub mod nodes;
+pub mod unit;

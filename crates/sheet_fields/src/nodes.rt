@@ -5,7 +5,7 @@ ghost use Rattle.sheet.specs.Machine.{machine as machine_for};
 ghost use Rattle.sheet_fields.specs.Nodes.{next_node};
 ghost use Rattle.sheet_fields.specs.Fields.{NodeOf};
 
-use sheet::tr::{Node, TRAILER, node_at, stated_trailer};
+use sheet::tr::{LINK, NODE, Node, node_at, stated_trailer};
 
 // Node number v of a sheet, or none past the last; on a byte string that is too short for the links and
 // nodes that it states there is none. Not one with link_or_end, which asks for room for the links alone.
@@ -19,7 +19,7 @@ pub fn node_or_end(sheet: &[u8], v: usize) -> Option<Node>
     if nodes <= v {
         return None;
     }
-    if sheet.len() < 16 * links + 12 * nodes + TRAILER {
+    if sheet.len() < LINK * links + NODE * nodes + t.form.trailer() {
         return None;
     }
     Some(node_at(sheet, links, v))

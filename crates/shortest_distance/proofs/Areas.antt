@@ -13,10 +13,9 @@ use Rattle.sheet.specs.Below.{sum_below}
 use Rattle.sheet.specs.Words.{bytes_of_all}
 use Rattle.sheet.proofs.Bytes.{sets-append, bytes_of_all-append, length-bytes_of_all}
 use Rattle.sheet.specs.Records.{count_at}
-use Rattle.machine.specs.Distance as Named
 use Rattle.std.specs.Prelude.{None}
 use Rattle.distance.specs.Held.{reached_in, words_in, with_distance}
-use Rattle.distance.proofs.Words.{same-words, put_back, put_word, put-drop, put-length}
+use Rattle.distance.proofs.Words.{same-words, none_back, put_word, put-drop, put-length}
 use Rattle.shortest_distance.specs.ParentWords.{parent_at, parent_stored}
 use Rattle.shortest_distance.specs.NodeSlots.{distance_at, first_word, prepared, height_in, distance_words}
 use Rattle.shortest_distance.proofs.ParentWords.{same-parent, stored-word, stored-length, stored-drop, stored-distance, none-back}
@@ -71,7 +70,7 @@ prepared-words bytes links (suc n) work v h fits = go (eq-or-lt_of_le (let k : v
     go (inl e) r = subst (SetUp bytes links (prepared bytes links (suc n) work)) (sym e) (
       same-words (set named (8 * n + 4) first) named (8 * n) (8 * n) (beside (8 * n) (omega arith)) (beside (8 * n + 1) (omega arith))
           ∙ stored-distance put n None n
-          ∙ put_back p (8 * n) Named.unreached (omega (arith, length-prepared bytes links n work)),
+          ∙ none_back p (8 * n) (omega (arith, length-prepared bytes links n work)),
       same-parent (set named (8 * n + 4) first) named n (beside (8 * n + 2) (omega arith)) (beside (8 * n + 3) (omega arith))
           ∙ none-back put n (omega (arith, put-length p (8 * n) None, length-prepared bytes links n work)),
       get_or-set_same named (8 * n + 4) first 0 (omega (arith, stored-length put n None, put-length p (8 * n) None, length-prepared bytes links n work)),

@@ -15,7 +15,7 @@ use Rattle.tropical_weight.proofs.Semiring.{is_finite}
 use Rattle.sheet.specs.Below.{sum_below}
 use Rattle.sheet.specs.Words.{word}
 use Rattle.sheet.specs.Records.{count_at, first_link}
-use Rattle.sheet.specs.Machine.{Machine}
+use Rattle.sheet.specs.Machine.{Machine, unit_in}
 use Rattle.sheet.proofs.Apart.{not-both, or-either, or_left, or_right}
 use Rattle.sheet.proofs.Below.{split_at}
 use Rattle.machine.specs.Readings.{link}
@@ -27,10 +27,11 @@ use Rattle.machine.proofs.SheetFields.{SheetFields, first-in}
 use Rattle.distance.specs.Held.{held, reached_in}
 use Rattle.distance.proofs.Offers.{reached-held}
 use Rattle.shortest_distance.specs.NodeSlots.{distance_at, height_in, led_from, led_height, length_in}
+use Rattle.sheet.specs.Sheet.{link_length}
 
 -- ---- a loop's turn more
 pub led-from-next : (bytes : List ℕ) (first n height : ℕ)
-    → led_from bytes first (n + 1) height ≡ cond (leb (led_from bytes first n height) (word bytes (16 * (first + n) + 12))) (word bytes (16 * (first + n) + 12) + 1) (led_from bytes first n height)
+    → led_from bytes first (n + 1) height ≡ cond (leb (led_from bytes first n height) (word bytes (link_length * (first + n) + 12))) (word bytes (link_length * (first + n) + 12) + 1) (led_from bytes first n height)
 unfolding led_from
 led-from-next bytes first n height = ap (λ (k : ℕ). led_from bytes first k height) (add-one n)
 
@@ -53,7 +54,7 @@ raised top next = go (leb top next) refl
 module _ (bytes : List ℕ) where
   -- where link l leads
   abbrev to : ℕ → ℕ
-  to l = word bytes (16 * l + 12)
+  to l = word bytes (link_length * l + 12)
 
   -- ---- of the links from a number on
   module _ (first height : ℕ) where
@@ -161,9 +162,9 @@ module _ (work : List ℕ) where
   scan-low n = elim (scan-attained n) [ inl e ↦ omega (arith, e) | inr x ↦ omega (arith, x.1, x.3) ]
 
 -- ---- of a sheet whose distances are made
-module _ (bytes : List ℕ) (links nodes : ℕ) (m : Machine) (f : SheetFields bytes links nodes m) (work : List ℕ) (made : (v : ℕ) → v < nodes → distance_at work v ≡ held (distance m v)) where
+module _ (bytes : List ℕ) (links nodes : ℕ) (m : Machine) (f : SheetFields bytes links nodes m) (work : List ℕ) (made : (v : ℕ) → v < nodes → distance_at work v ≡ held (unit_in m) (distance m v)) where
   found : (v : ℕ) → v < nodes → reached_in (distance_at work v) ≡ is_reached m v
-  found v b = ap reached_in (made v b) ∙ reached-held (distance m v) ∙ ap is_finite (weight-of (dist m v))
+  found v b = ap reached_in (made v b) ∙ reached-held (unit_in m) (distance m v) ∙ ap is_finite (weight-of (dist m v))
 
   abbrev highest : ℕ
   highest = height_in work nodes
@@ -180,7 +181,7 @@ module _ (bytes : List ℕ) (links nodes : ℕ) (m : Machine) (f : SheetFields b
   ]
 
   -- and leads to a counted one
-  led-counted : (n l : ℕ) → n ≤ nodes → Led bytes links work n l → (word bytes (16 * l + 12) < nodes) × (is_counted m (word bytes (16 * l + 12)) ≡ true)
+  led-counted : (n l : ℕ) → n ≤ nodes → Led bytes links work n l → (word bytes (link_length * l + 12) < nodes) × (is_counted m (word bytes (link_length * l + 12)) ≡ true)
   led-counted n l h x =
       let u = x.0 in
       let b : u < nodes = omega (arith, x.1) in
@@ -218,7 +219,7 @@ module _ (bytes : List ℕ) (links nodes : ℕ) (m : Machine) (f : SheetFields b
       go true = scanned
       go false = elim (pass-attained bytes links work highest highest) [
         | inl e ↦ subst Attained (sym e) scanned
-        | inr x ↦ let y = led-counted highest x.0 (scan-low work nodes) x.1 in inr (word bytes (16 * x.0 + 12), y.0, y.1, x.2 ∙ add-one (word bytes (16 * x.0 + 12)))
+        | inr x ↦ let y = led-counted highest x.0 (scan-low work nodes) x.1 in inr (word bytes (link_length * x.0 + 12), y.0, y.1, x.2 ∙ add-one (word bytes (link_length * x.0 + 12)))
       ]
 
   pub length-is : length_in bytes links nodes work ≡ height m

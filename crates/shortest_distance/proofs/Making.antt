@@ -17,8 +17,8 @@ use Rattle.sheet.specs.Words.{word}
 use Rattle.sheet.specs.declared.tr.Trailer.{Trailer}
 use Rattle.sheet.specs.Records.{trailer_at, count_at}
 use Rattle.sheet.specs.Accepted.{start_in}
-use Rattle.sheet.specs.Sheet.{parts_of, no_start, node_count, trailer_field, stated_links, stated_nodes}
-use Rattle.sheet.specs.Machine.{machine_of, machine}
+use Rattle.sheet.specs.Sheet.{link_length, node_length, parts_of, no_start, node_count, trailer_field, stated_links, stated_nodes}
+use Rattle.sheet.specs.Machine.{unit_in, machine_of, machine}
 use Rattle.sheet.proofs.Fields.{read-fields}
 use Rattle.sheet.proofs.Sources.{machine-nodes}
 use Rattle.machine.specs.Distance.{distance_of, dist, is_reached}
@@ -55,7 +55,7 @@ module _ (bytes old : List ℕ) (e : input_number bytes ≡ 0) (room : 8 * state
   few = subst (λ (n : ℕ). n ≤ node_limit) (read-fields bytes).nodes-are (few-nodes (parts_of bytes) (passes bytes e))
 
   -- what setting up asks of a sheet
-  laid_out : 16 * stated_links bytes + 12 * stated_nodes bytes ≤ length bytes
+  laid_out : link_length * stated_links bytes + node_length * stated_nodes bytes ≤ length bytes
   laid_out = in-sheet bytes (input-read bytes e).0
 
   counted : sum_below (stated_nodes bytes) (count_at bytes (stated_links bytes)) ≤ stated_links bytes
@@ -84,7 +84,7 @@ module _ (bytes old : List ℕ) (e : input_number bytes ≡ 0) (room : 8 * state
     made_none = record {
       each = λ v b.
           (prepared-words bytes (stated_links bytes) (stated_nodes bytes) old v (subst (λ (n : ℕ). v < n) (read-fields bytes).nodes-are b) room).0
-          ∙ sym (ap (λ w. held (distance_of w)) (infinite v));
+          ∙ sym (ap (λ w. held (unit_in (machine bytes)) (distance_of w)) (infinite v));
       parents = λ v b.
           (prepared-words bytes (stated_links bytes) (stated_nodes bytes) old v (subst (λ (n : ℕ). v < n) (read-fields bytes).nodes-are b) room).1
           ∙ sym (ap (parent_from (machine bytes)) (parent-none (machine bytes) v (infinite v)));
@@ -105,7 +105,7 @@ module _ (bytes old : List ℕ) (e : input_number bytes ≡ 0) (room : 8 * state
     slots = subst (λ (n : ℕ). 8 * n ≤ length old) (sym (sheet-fields bytes e).nodes-are) room
 
     abbrev first-state : State
-    first-state = record { work = with_distance (prepared bytes (stated_links bytes) (stated_nodes bytes) old) (8 * s) (held zero-cost); queue = enqueued emptied s }
+    first-state = record { work = with_distance (prepared bytes (stated_links bytes) (stated_nodes bytes) old) (8 * s) (held (unit_in (machine bytes)) zero-cost); queue = enqueued emptied s }
 
     none_before : sum_below 0 (count_at bytes (stated_links bytes)) ≡ 0
     none_before = unfold sum_below in refl
@@ -117,7 +117,7 @@ module _ (bytes old : List ℕ) (e : input_number bytes ≡ 0) (room : 8 * state
       slots = subst (λ (n : ℕ). 8 * stated_nodes bytes ≤ n) (sym (length-prepared bytes (stated_links bytes) (stated_nodes bytes) old)) room;
       few = few;
       counted = counted;
-      inside = λ l b. subst (λ (n : ℕ). word bytes (16 * l + 12) < n) (read-fields bytes).nodes-are (subst (λ (n : ℕ). n < node_count (parts_of bytes)) ((read-fields bytes).next-is l b) (next-at (parts_of bytes) (passes bytes e) l (subst (λ (n : ℕ). l < n) (sym (read-fields bytes).links-are) b)));
+      inside = λ l b. subst (λ (n : ℕ). word bytes (link_length * l + 12) < n) (read-fields bytes).nodes-are (subst (λ (n : ℕ). n < node_count (parts_of bytes)) ((read-fields bytes).next-is l b) (next-at (parts_of bytes) (passes bytes e) l (subst (λ (n : ℕ). l < n) (sym (read-fields bytes).links-are) b)));
       firsts = λ v b. (prepared-words bytes (stated_links bytes) (stated_nodes bytes) old v b room).2;
       full = emptied-full;
       valid = emptied-valid;
@@ -127,10 +127,10 @@ module _ (bytes old : List ℕ) (e : input_number bytes ≡ 0) (room : 8 * state
     sound : Sound bytes (stated_links bytes) (stated_nodes bytes) first-state.work first-state.queue
     sound =
         let area = prepared bytes (stated_links bytes) (stated_nodes bytes) old in
-        store_kept bytes (stated_links bytes) (stated_nodes bytes) area (enqueued emptied s) s (held zero-cost) (put-kept bytes (stated_links bytes) (stated_nodes bytes) area emptied s h set-up)
+        store_kept bytes (stated_links bytes) (stated_nodes bytes) area (enqueued emptied s) s (held (unit_in (machine bytes)) zero-cost) (put-kept bytes (stated_links bytes) (stated_nodes bytes) area emptied s h set-up)
 
     abbrev begun-at : ℕ → State
-    begun-at n = record { work = with_distance (prepared bytes (stated_links bytes) n old) (8 * s) (held zero-cost); queue = enqueued emptied s }
+    begun-at n = record { work = with_distance (prepared bytes (stated_links bytes) n old) (8 * s) (held (unit_in (machine bytes)) zero-cost); queue = enqueued emptied s }
 
     begun : Holds bytes (stated_links bytes) (machine bytes) (fields-nodes bytes e) old 0 0 first-state
     begun =
@@ -162,12 +162,12 @@ module _ (bytes old : List ℕ) (e : input_number bytes ≡ 0) (t : Trailer) (sa
       pub start-low : t.start < node_limit
       start-low = subst (λ (t : Trailer). t.start < t.nodes → t.start < node_limit) (sym same) (λ k. omega (arith, few bytes old e fits)) h
 
-      module _ (work : List ℕ) (named : work ≡ with_distance area (8 * t.start) (held zero-cost)) (q : Queue) (begun-with : q ≡ enqueued emptied t.start) where
+      module _ (work : List ℕ) (named : work ≡ with_distance area (8 * t.start) (held (unit_in (machine bytes)) zero-cost)) (q : Queue) (begun-with : q ≡ enqueued emptied t.start) where
         abbrev begun-by : Trailer → State
-        begun-by t = record { work = with_distance (prepared bytes t.links t.nodes old) (8 * t.start) (held zero-cost); queue = enqueued emptied t.start }
+        begun-by t = record { work = with_distance (prepared bytes t.links t.nodes old) (8 * t.start) (held (unit_in (machine bytes)) zero-cost); queue = enqueued emptied t.start }
 
         state-is : begun-by t ≡ record { work = work; queue = q }
-        state-is = λ i. record { work = sym (named ∙ ap (λ (x : List ℕ). with_distance x (8 * t.start) (held zero-cost)) set-up) i; queue = sym begun-with i }
+        state-is = λ i. record { work = sym (named ∙ ap (λ (x : List ℕ). with_distance x (8 * t.start) (held (unit_in (machine bytes)) zero-cost)) set-up) i; queue = sym begun-with i }
 
         pub sound-start : Sound bytes t.links t.nodes work q
         sound-start =

@@ -16,7 +16,7 @@ use Rattle.sheet.proofs.Below.{length-list_below, flat-snoc}
 use Rattle.sheet.proofs.Bytes.{length-bytes_of_all}
 use Rattle.sheet.proofs.Apart.{not-zero, neither}
 use Rattle.sheet.proofs.Sources.{machine-nodes}
-use Rattle.sheet.specs.Machine.{machine}
+use Rattle.sheet.specs.Machine.{unit_in, machine}
 use Rattle.machine.specs.Distance as Named
 use Rattle.machine.specs.Distance.{distance, distances, height}
 use Rattle.machine.specs.Input.{input_number}
@@ -39,16 +39,16 @@ use Rattle.slots.proofs.Clearing.{cleared-same}
 use Rattle.shortest_distance.proofs.Lengths.{length-is}
 
 -- ---- the words of slots that hold these distances are those they are written in
-words_are : (work : List ℕ) (f : ℕ → Named.Distance) (n : ℕ) → ((v : ℕ) → v < n → distance_at work v ≡ held (f v)) → distance_words work n ≡ flat_map written (list_below n f)
+words_are : (unit : ℕ) (work : List ℕ) (f : ℕ → Named.Distance) (n : ℕ) → ((v : ℕ) → v < n → distance_at work v ≡ held unit (f v)) → distance_words work n ≡ flat_map (written unit) (list_below n f)
 unfolding distance_words list_below flat_map
-words_are work f zero h = refl
-words_are work f (suc v) h =
-    let word : words_in (distance_at work v) ≡ written (f v) = ap words_in (h v (omega arith)) ∙ words-written (f v) in
-    (λ i. words_are work f v (λ u b. h u (omega arith)) i ++ word i) ∙ sym (flat-snoc written (list_below v f) (f v))
+words_are unit work f zero h = refl
+words_are unit work f (suc v) h =
+    let word : words_in (distance_at work v) ≡ written unit (f v) = ap words_in (h v (omega arith)) ∙ words-written unit (f v) in
+    (λ i. words_are unit work f v (λ u b. h u (omega arith)) i ++ word i) ∙ sym (flat-snoc (written unit) (list_below v f) (f v))
 
 -- ---- eight bytes a distance
 answer-bytes : (bytes : List ℕ) → length (answer_of bytes) ≡ 8 * length (distances (machine bytes))
-answer-bytes bytes = length-bytes_of_all (flat_map written (distances (machine bytes))) ∙ omega (arith, length-written (distances (machine bytes)))
+answer-bytes bytes = length-bytes_of_all (flat_map (written (unit_in (machine bytes))) (distances (machine bytes))) ∙ omega (arith, length-written (unit_in (machine bytes)) (distances (machine bytes)))
 
 -- ---- the number, by what was tested
 module _ (bytes : List ℕ) (words : ℕ) (room : ℕ) where
@@ -84,7 +84,7 @@ module _ (bytes work result : List ℕ) where
         result-is = sym (not-zero k _ result (λ z. number-positive r (sym e ∙ z)));
       }
 
-  pub outcome-input : (r : Refusal) → input_number bytes ≡ number_of r → number_of r ≤ 6 → Outcome (Err r) work result
+  pub outcome-input : (r : Refusal) → input_number bytes ≡ number_of r → number_of r ≤ 14 → Outcome (Err r) work result
   outcome-input r e b = early r (λ z. omega (arith, b, z)) (number-input bytes (length work) (length result) (λ z. number-positive r (sym e ∙ z)) ∙ e)
 
   outcome-20 : input_number bytes ≡ 0 → length work / 8 < slots_needed bytes → Outcome (Err Refusal.Work) work result
@@ -98,11 +98,11 @@ module _ (bytes work result : List ℕ) where
     unfolding distances
     count_same = height-same ∙ sym (length-list_below (height (machine bytes)) (distance (machine bytes)))
 
-    words_same : distance_words made n ≡ flat_map written (distances (machine bytes))
+    words_same : distance_words made n ≡ flat_map (written (unit_in (machine bytes))) (distances (machine bytes))
     unfolding distances
     words_same =
         ap (λ (k : ℕ). distance_words made k) height-same
-        ∙ words_are made (distance (machine bytes)) (height (machine bytes)) (λ v b. h.each v (omega (arith, height-le (machine bytes), machine-nodes (parts_of bytes))))
+        ∙ words_are (unit_in (machine bytes)) made (distance (machine bytes)) (height (machine bytes)) (λ v b. h.each v (omega (arith, height-le (machine bytes), machine-nodes (parts_of bytes))))
 
     answer-length : length (answer_of bytes) ≡ 8 * n
     answer-length = answer-bytes bytes ∙ ap (λ (k : ℕ). 8 * k) (sym count_same)

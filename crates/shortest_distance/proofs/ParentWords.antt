@@ -9,6 +9,7 @@ use lib.ListN.{length, get_or, set, drop, length-set}
 use lib.Seq.{get_or-set_same, get_or-set_other, drop-set-lt}
 use lib.Ieee.{Float}
 use borrow.Author.Tests.{eq-eqb, ne_eqb}
+use Rattle.tropical_weight.specs.Limits.{finest}
 use Rattle.slots.specs.Slots.{nothing}
 use Rattle.machine.specs.Distance as Named
 use Rattle.distance.specs.Held.{Distance}
@@ -79,9 +80,10 @@ module _ (work : List ℕ) (n : ℕ) (offer : Float) (l v : ℕ) where
   put = with_distance work (8 * n) (Some offer)
 
   -- the distance of the node becomes `new`, others keep theirs
-  pub taken_here : (better : Bool) (old new : Named.Distance) → cond better (Some offer) (held old) ≡ held new → 8 * n + 1 < length work → distance_at work n ≡ held old → distance_at (area better) n ≡ held new
-  taken_here true old new p room e = stored-distance put n (by l v) n ∙ ap (λ (d : Distance). distance_in (with_distance work (8 * n) d) (8 * n)) p ∙ put_back work (8 * n) new room
-  taken_here false old new p room e = e ∙ p
+  pub taken_here : (unit : ℕ) → unit ≤ finest → (better : Bool) (old new : Named.Distance) → cond better (Some offer) (held unit old) ≡ held unit new → 8 * n + 1 < length work → distance_at work n ≡ held unit old
+      → distance_at (area better) n ≡ held unit new
+  taken_here unit covered true old new p room e = stored-distance put n (by l v) n ∙ ap (λ (d : Distance). distance_in (with_distance work (8 * n) d) (8 * n)) p ∙ put_back work (8 * n) unit covered new room
+  taken_here unit covered false old new p room e = e ∙ p
 
   pub taken-other : (better : Bool) (u : ℕ) → (u ≡ n → ⊥) → distance_at (area better) u ≡ distance_at work u
   taken-other true u k = stored-distance put n (by l v) u ∙ put_other work (8 * n) (Some offer) (8 * u) (λ e. k (omega arith)) (λ e. omega arith) (λ e. omega arith)

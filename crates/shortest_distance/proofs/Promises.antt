@@ -14,9 +14,10 @@ use borrow.Author.Tests.{eqb-true}
 use Rattle.tropical_weight.specs.Tropical.{Tropical, fin, inf, ◌≼◌}
 use Rattle.sheet.specs.Words.{word, bytes_of_all}
 use Rattle.sheet.specs.Sheet.{parts_of}
-use Rattle.sheet.specs.Machine.{Machine, machine}
+use Rattle.sheet.specs.Machine.{Machine, unit_in, machine}
 use Rattle.sheet.proofs.Apart.{or-either, or_left, or_right}
 use Rattle.sheet.proofs.Below.{get_or-list_below, length-list_below}
+use Rattle.sheet.proofs.Forms.{covered}
 use Rattle.machine.specs.Readings.{link, IsRun, run_cost}
 use Rattle.machine.specs.Climbs.{Climbs}
 use Rattle.machine.specs.Distance.{Distance, unreached, distance_of, dist, distance, distances, height, is_reached, is_led_to, is_counted}
@@ -67,7 +68,7 @@ module _ (m : Machine) (c : Climbs m) (start-in : (s : ℕ) → m.start ≡ some
   node_in v (inr x) = subst (λ (u : ℕ). u < length m.finals) x.leads (c.inside x.by x.exists)
 
   -- the words of its distance tell which of the two a node is
-  told : (result : List ℕ) (v : ℕ) (d : Tropical) → dist m v ≡ d → word result (8 * v) ≡ get_or (written (distance_of d)) 0 0 → word result (8 * v + 4) ≡ get_or (written (distance_of d)) 1 0
+  told : (result : List ℕ) (v : ℕ) (d : Tropical) → dist m v ≡ d → word result (8 * v) ≡ get_or (written (unit_in m) (distance_of d)) 0 0 → word result (8 * v + 4) ≡ get_or (written (unit_in m) (distance_of d)) 1 0
       → ReachedAt m result v ⊎ UnreachedAt m result v
   told result v (fin k) e p q =
       let a = dist-attained m c v k e in
@@ -92,11 +93,11 @@ module _ (m : Machine) (c : Climbs m) (start-in : (s : ℕ) → m.start ≡ some
           let same : x.0 ≡ v = omega (arith, e, x.3) in
           by-counted v (ap (is_counted m) (sym same) ∙ x.2)
 
-  pub least : (rest : List ℕ) → Least m (length (distances m)) (bytes_of_all (flat_map written (distances m)) ++ rest)
+  pub least : (rest : List ℕ) → Least m (length (distances m)) (bytes_of_all (flat_map (written (unit_in m)) (distances m)) ++ rest)
   least rest = record {
     values = λ v h.
-        let result = bytes_of_all (flat_map written (distances m)) ++ rest in
-        let at : (i : ℕ) → i < 2 → word result (8 * v + 4 * i) ≡ get_or (written (distance m v)) i 0 = λ i b. value-at (distances m) rest v i h b ∙ ap (λ (d : Distance). get_or (written d) i 0) (value-is v (subst (λ (n : ℕ). v < n) count-is h)) in
+        let result = bytes_of_all (flat_map (written (unit_in m)) (distances m)) ++ rest in
+        let at : (i : ℕ) → i < 2 → word result (8 * v + 4 * i) ≡ get_or (written (unit_in m) (distance m v)) i 0 = λ i b. value-at (unit_in m) (covered m.form) (distances m) rest v i h b ∙ ap (λ (d : Distance). get_or (written (unit_in m) d) i 0) (value-is v (subst (λ (n : ℕ). v < n) count-is h)) in
         told result v (dist m v) refl (ap (word result) (let z : 8 * v ≡ 8 * v + 4 * 0 = omega arith in z) ∙ at 0 (omega arith)) (at 1 (omega arith));
     above = λ v x. subst (λ (n : ℕ). v < n) (sym count-is) (height-above m (length m.finals) v (node_in v x) (counted-by v x));
     highest = λ v e. top v (sym count-is ∙ e);

@@ -15,15 +15,16 @@ use lib.ListN.{length, get_or, set, drop}
 use lib.Seq.{get_or-set_same, get_or-set_other, set-get_or}
 use lib.Ieee.{Float, binary32, add}
 use borrow.Author.Tests.{le-leb, lt-leb, lt-ltb, eq-eqb, ne_eqb}
-use Rattle.tropical_weight.specs.Limits.{unit, weight_limit, node_limit, sum_limit}
+use Rattle.tropical_weight.specs.Limits.{weight_limit, node_limit, sum_limit}
 use Rattle.tropical_weight.specs.Tropical.{Tropical, lt_t, ◌⊗◌, Within}
 use Rattle.tropical_weight.specs.Grid.{of_t}
 use Rattle.tropical_weight.proofs.Semiring.{is_finite, finite-⊕, not_finite}
 use Rattle.tropical_weight.proofs.Sums.{within-mono, terms-within, limits}
 use Rattle.sheet.specs.Below.{sum_below}
-use Rattle.sheet.specs.Machine.{Machine}
+use Rattle.sheet.specs.Machine.{Machine, unit_in}
 use Rattle.sheet.specs.Records.{link_at, count_at}
 use Rattle.sheet.proofs.Below.{split_at}
+use Rattle.sheet.proofs.Forms.{covered}
 use Rattle.machine.specs.Readings.{link}
 use Rattle.machine.specs.Distance.{Distance, unreached, as_weight, nearer, onward, dist, distance, relax}
 use Rattle.machine.specs.Parents.{parent}
@@ -135,7 +136,7 @@ module _ (bytes : List ℕ) (links : ℕ) (m : Machine) (f : SheetFields bytes l
   -- ---- what the slots and the queue hold beside what `Sound` says: the row after l links with its parents, and the nodes from k on that it reaches; beyond the
   -- slots the area is as it was
   pub record Holds (l k : ℕ) (s : State) : Type 0 where
-    pub distances : (v : ℕ) → v < length m.finals → distance_at s.work v ≡ held (get_or (relax m l) v unreached)
+    pub distances : (v : ℕ) → v < length m.finals → distance_at s.work v ≡ held (unit_in m) (get_or (relax m l) v unreached)
     pub parents : (v : ℕ) → v < length m.finals → parent_at s.work v ≡ parent_from m (chosen l v)
     pub sound : Sound bytes links (length m.finals) s.work s.queue
     pub size : length s.work ≡ length old
@@ -188,32 +189,32 @@ module _ (bytes : List ℕ) (links : ℕ) (m : Machine) (f : SheetFields bytes l
     row_new = row_next l in-links ∙ ap (λ (k : ℕ). nearer x (onward (get_or (relax m l) k unreached) w)) source
 
     abbrev offer : Float
-    offer = add binary32 (of_t unit (as_weight d)) (of_t unit w)
+    offer = add binary32 (of_t (unit_in m) (as_weight d)) (of_t (unit_in m) w)
 
     -- what the code's link makes of a state that holds the row
     abbrev after : State → State
     after s = record {
-      work = cond (improves (distance_at s.work nx) (of_t unit (as_weight d)) (of_t unit w)) (taken_words nx offer l u s.work) s.work;
+      work = cond (improves (distance_at s.work nx) (of_t (unit_in m) (as_weight d)) (of_t (unit_in m) w)) (taken_words nx offer l u s.work) s.work;
       queue = cond (not (is_finite (as_weight x)) && is_finite (as_weight d ⊗ w)) (enqueued s.queue nx) s.queue;
     }
 
     module _ (s : State) (h : Holds l (suc u) s) where
-      state-is : relax_link (link_at bytes l) l u (of_t unit (as_weight d)) s ≡ after s
+      state-is : relax_link (link_at bytes l) l u (of_t (unit_in m) (as_weight d)) s ≡ after s
       state-is =
-          let reach-is : reaches (distance_at s.work (link_at bytes l).nextstate) (of_t unit (as_weight d)) (link_at bytes l).weight ≡ not (is_finite (as_weight x)) && is_finite (as_weight d ⊗ w) =
-          (λ i. reaches ((ap (distance_at s.work) (f.next-at l in-sheet) ∙ h.distances nx nx-in) i) (of_t unit (as_weight d)) (f.link-value l in-sheet i)) ∙ reaches-is x d w x-limit d-limit weight-limit offer-limit in
+          let reach-is : reaches (distance_at s.work (link_at bytes l).nextstate) (of_t (unit_in m) (as_weight d)) (link_at bytes l).weight ≡ not (is_finite (as_weight x)) && is_finite (as_weight d ⊗ w) =
+          (λ i. reaches ((ap (distance_at s.work) (f.next-at l in-sheet) ∙ h.distances nx nx-in) i) (of_t (unit_in m) (as_weight d)) (f.link-value l in-sheet i)) ∙ reaches-is (unit_in m) (covered m.form) x d w x-limit d-limit weight-limit offer-limit in
           λ i. record {
             work =
                 cond
-                (improves (distance_at s.work (f.next-at l in-sheet i)) (of_t unit (as_weight d)) (f.link-value l in-sheet i))
-                (taken_words (f.next-at l in-sheet i) (add binary32 (of_t unit (as_weight d)) (f.link-value l in-sheet i)) l u s.work)
+                (improves (distance_at s.work (f.next-at l in-sheet i)) (of_t (unit_in m) (as_weight d)) (f.link-value l in-sheet i))
+                (taken_words (f.next-at l in-sheet i) (add binary32 (of_t (unit_in m) (as_weight d)) (f.link-value l in-sheet i)) l u s.work)
                 s.work;
             queue = cond (reach-is i) (enqueued s.queue (f.next-at l in-sheet i)) s.queue;
           }
 
       -- the next node's distance after the offer
-      becomes : cond (improves (distance_at s.work nx) (of_t unit (as_weight d)) (of_t unit w)) (Some offer) (held x) ≡ held (nearer x (onward d w))
-      becomes = (λ i. cond (improves (h.distances nx nx-in i) (of_t unit (as_weight d)) (of_t unit w)) (Some offer) (held x)) ∙ relaxed-is x d w x-limit d-limit weight-limit offer-limit
+      becomes : cond (improves (distance_at s.work nx) (of_t (unit_in m) (as_weight d)) (of_t (unit_in m) w)) (Some offer) (held (unit_in m) x) ≡ held (unit_in m) (nearer x (onward d w))
+      becomes = (λ i. cond (improves (h.distances nx nx-in i) (of_t (unit_in m) (as_weight d)) (of_t (unit_in m) w)) (Some offer) (held (unit_in m) x)) ∙ relaxed-is (unit_in m) (covered m.form) x d w x-limit d-limit weight-limit offer-limit
 
       small-next : nx < node_limit
       small-next = omega (arith, nx-in, f.few-nodes)
@@ -251,23 +252,23 @@ module _ (bytes : List ℕ) (links : ℕ) (m : Machine) (f : SheetFields bytes l
           drop_false false b = refl
 
       abbrev better : Bool
-      better = improves (distance_at s.work nx) (of_t unit (as_weight d)) (of_t unit w)
+      better = improves (distance_at s.work nx) (of_t (unit_in m) (as_weight d)) (of_t (unit_in m) w)
 
-      distance-after : (v : ℕ) → v < length m.finals → distance_at (after s).work v ≡ held (get_or (relax m (suc l)) v unreached)
+      distance-after : (v : ℕ) → v < length m.finals → distance_at (after s).work v ≡ held (unit_in m) (get_or (relax m (suc l)) v unreached)
       distance-after v k = elim (ℕ_discrete v nx) [
         | yes e ↦
             ap (distance_at (after s).work) e
-            ∙ taken_here s.work nx offer l u better x (nearer x (onward d w)) becomes (omega (arith, h.sound.slots, nx-in)) (h.distances nx nx-in)
-            ∙ ap held (sym (ap (λ (j : ℕ). get_or (relax m (suc l)) j unreached) e ∙ row_new))
+            ∙ taken_here s.work nx offer l u (unit_in m) (covered m.form) better x (nearer x (onward d w)) becomes (omega (arith, h.sound.slots, nx-in)) (h.distances nx nx-in)
+            ∙ ap (held (unit_in m)) (sym (ap (λ (j : ℕ). get_or (relax m (suc l)) j unreached) e ∙ row_new))
         | no n ↦
-            taken-other s.work nx offer l u better v n ∙ h.distances v k ∙ ap held (sym (row_other l v n))
+            taken-other s.work nx offer l u better v n ∙ h.distances v k ∙ ap (held (unit_in m)) (sym (row_other l v n))
       ]
 
       -- the test by which the next node takes the offer is that by which link l is chosen
       better-is : better ≡ eqb nx nx && lt_t (row_at m l (link m l).source ⊗ w) (row_at m l nx)
       better-is =
-          ap (λ (y : Single.Distance). improves y (of_t unit (as_weight d)) (of_t unit w)) (h.distances nx nx-in)
-          ∙ improves-is x d w x-limit d-limit weight-limit offer-limit
+          ap (λ (y : Single.Distance). improves y (of_t (unit_in m) (as_weight d)) (of_t (unit_in m) w)) (h.distances nx nx-in)
+          ∙ improves-is (unit_in m) (covered m.form) x d w x-limit d-limit weight-limit offer-limit
           ∙ sym (λ i. eq-eqb nx nx refl i && lt_t (row_at m l (source i) ⊗ w) (row_at m l nx))
 
       by-test : (t : Bool) → cond t (by l u) (parent_from m (chosen l nx)) ≡ parent_from m (cond t (some l) (chosen l nx))
@@ -285,11 +286,11 @@ module _ (bytes : List ℕ) (links : ℕ) (m : Machine) (f : SheetFields bytes l
         | no n ↦ parent-other s.work nx offer l u better v n ∙ h.parents v k ∙ ap (parent_from m) (sym (chosen-other l v in-links k n))
       ]
 
-      pub link-step : Holds (suc l) (suc u) (relax_link (link_at bytes l) l u (of_t unit (as_weight d)) s)
+      pub link-step : Holds (suc l) (suc u) (relax_link (link_at bytes l) l u (of_t (unit_in m) (as_weight d)) s)
       link-step = subst (λ (y : State). Holds (suc l) (suc u) y) (sym state-is) (record {
         distances = distance-after;
         parents = parent-after;
-        sound = subst (λ (y : State). Sound bytes links (length m.finals) y.work y.queue) state-is (link-kept bytes links (length m.finals) (link_at bytes l) l u (of_t unit (as_weight d)) s (subst (λ (n : ℕ). n < length m.finals) (sym (f.next-at l in-sheet)) nx-in) h.sound);
+        sound = subst (λ (y : State). Sound bytes links (length m.finals) y.work y.queue) state-is (link-kept bytes links (length m.finals) (link_at bytes l) l u (of_t (unit_in m) (as_weight d)) s (subst (λ (n : ℕ). n < length m.finals) (sym (f.next-at l in-sheet)) nx-in) h.sound);
         size = taken-length s.work nx offer l u better ∙ h.size;
         beyond = taken-drop s.work nx offer l u better (8 * length m.finals) (omega (arith, nx-in)) ∙ h.beyond;
         flags = flag-after;
@@ -297,7 +298,7 @@ module _ (bytes : List ℕ) (links : ℕ) (m : Machine) (f : SheetFields bytes l
 
   -- ---- the links of node u, so many of them
   links-step : (u : ℕ) → u < length m.finals → (n : ℕ) → n ≤ count_at bytes links u → (s : State) → Holds (first u) (suc u) s
-      → Holds (first u + n) (suc u) (relax_links bytes (first u) u (of_t unit (row_at m (first u) u)) n s) × (get_or (relax m (first u + n)) u unreached ≡ get_or (relax m (first u)) u unreached)
+      → Holds (first u + n) (suc u) (relax_links bytes (first u) u (of_t (unit_in m) (row_at m (first u) u)) n s) × (get_or (relax m (first u + n)) u unreached ≡ get_or (relax m (first u)) u unreached)
   unfolding relax_links
   links-step u hu zero k s h = (subst (λ (l : ℕ). Holds l (suc u) s) (sym (add-zero (first u))) h, ap (λ (l : ℕ). get_or (relax m l) u unreached) (add-zero (first u)))
   links-step u hu (suc n) k s h =
@@ -306,11 +307,11 @@ module _ (bytes : List ℕ) (links : ℕ) (m : Machine) (f : SheetFields bytes l
       let lo : first u ≤ l = omega arith in
       let hi : l < first (suc u) = omega (arith, next-first bytes links u) in
       let at : suc l ≡ first u + suc n = omega arith in
-      let step = link-step u l hu lo hi (relax_links bytes (first u) u (of_t unit (row_at m (first u) u)) n s) before.0 in
-      let same : of_t unit (row_at m l u) ≡ of_t unit (row_at m (first u) u) = ap (λ (y : Distance). of_t unit (as_weight y)) before.1 in
+      let step = link-step u l hu lo hi (relax_links bytes (first u) u (of_t (unit_in m) (row_at m (first u) u)) n s) before.0 in
+      let same : of_t (unit_in m) (row_at m l u) ≡ of_t (unit_in m) (row_at m (first u) u) = ap (λ (y : Distance). of_t (unit_in m) (as_weight y)) before.1 in
       let apart : u ≡ (link m l).next → ⊥ = λ e. omega (arith, nx-up u l hu lo hi) in (
-        subst (λ (j : ℕ). Holds j (suc u) (relax_link (link_at bytes l) l u (of_t unit (row_at m (first u) u)) (relax_links bytes (first u) u (of_t unit (row_at m (first u) u)) n s))) at
-            (subst (λ (y : Float). Holds (suc l) (suc u) (relax_link (link_at bytes l) l u y (relax_links bytes (first u) u (of_t unit (row_at m (first u) u)) n s))) same step),
+        subst (λ (j : ℕ). Holds j (suc u) (relax_link (link_at bytes l) l u (of_t (unit_in m) (row_at m (first u) u)) (relax_links bytes (first u) u (of_t (unit_in m) (row_at m (first u) u)) n s))) at
+            (subst (λ (y : Float). Holds (suc l) (suc u) (relax_link (link_at bytes l) l u y (relax_links bytes (first u) u (of_t (unit_in m) (row_at m (first u) u)) n s))) same step),
         ap (λ (j : ℕ). get_or (relax m j) u unreached) (sym at) ∙ row_other l u apart ∙ before.1,
       )
 
@@ -363,7 +364,7 @@ module _ (bytes : List ℕ) (links : ℕ) (m : Machine) (f : SheetFields bytes l
 
       taken : Holds (first u) (suc u) (record { work = s.work; queue = dequeued s.queue })
       taken = record {
-        distances = λ v b. h.distances v b ∙ ap (λ (y : List Distance). held (get_or y v unreached)) (sym rows.row);
+        distances = λ v b. h.distances v b ∙ ap (λ (y : List Distance). held (unit_in m) (get_or y v unreached)) (sym rows.row);
         parents = λ v b. h.parents v b ∙ ap (parent_from m) (sym (rows.parents v b));
         sound = head-taken bytes links (length m.finals) s h.sound filled;
         size = h.size;
@@ -373,15 +374,15 @@ module _ (bytes : List ℕ) (links : ℕ) (m : Machine) (f : SheetFields bytes l
 
       pub head_step : Holds (first (suc u)) (suc u) (relax_head bytes links s)
       head_step =
-          let distance : weight_in (distance_at s.work u) ≡ of_t unit (row_at m (first u) u) = ap weight_in (taken.distances u head.1) ∙ weight-held (get_or (relax m (first u)) u unreached) in
+          let distance : weight_in (distance_at s.work u) ≡ of_t (unit_in m) (row_at m (first u) u) = ap weight_in (taken.distances u head.1) ∙ weight-held (unit_in m) (get_or (relax m (first u)) u unreached) in
           let all = (links-step u head.1 (count_at bytes links u) (omega arith) (record { work = s.work; queue = dequeued s.queue }) taken).0 in
           subst (λ (y : Float). Holds (first (suc u)) (suc u) (relax_links bytes (first_word s.work u) u y (count_at bytes links u) (record { work = s.work; queue = dequeued s.queue }))) (sym distance)
-          (subst (λ (j : ℕ). Holds (first (suc u)) (suc u) (relax_links bytes j u (of_t unit (row_at m (first u) u)) (count_at bytes links u) (record { work = s.work; queue = dequeued s.queue }))) (sym (h.sound.firsts u head.1))
-          (subst (λ (j : ℕ). Holds j (suc u) (relax_links bytes (first u) u (of_t unit (row_at m (first u) u)) (count_at bytes links u) (record { work = s.work; queue = dequeued s.queue }))) (sym (next-first bytes links u)) all))
+          (subst (λ (j : ℕ). Holds (first (suc u)) (suc u) (relax_links bytes j u (of_t (unit_in m) (row_at m (first u) u)) (count_at bytes links u) (record { work = s.work; queue = dequeued s.queue }))) (sym (h.sound.firsts u head.1))
+          (subst (λ (j : ℕ). Holds j (suc u) (relax_links bytes (first u) u (of_t (unit_in m) (row_at m (first u) u)) (count_at bytes links u) (record { work = s.work; queue = dequeued s.queue }))) (sym (next-first bytes links u)) all))
 
   -- ---- all heads: the slots hold Mohri's distances and the parents
   pub record Final (s : State) : Type 0 where
-    pub distances : (v : ℕ) → v < length m.finals → distance_at s.work v ≡ held (distance m v)
+    pub distances : (v : ℕ) → v < length m.finals → distance_at s.work v ≡ held (unit_in m) (distance m v)
     pub parents : (v : ℕ) → v < length m.finals → parent_at s.work v ≡ parent_from m (parent m v)
     pub size : length s.work ≡ length old
     pub beyond : drop (8 * length m.finals) s.work ≡ drop (8 * length m.finals) old
@@ -390,7 +391,7 @@ module _ (bytes : List ℕ) (links : ℕ) (m : Machine) (f : SheetFields bytes l
   final-of k s h e = record {
     distances = λ v b.
         let last : get_or (relax m (length m.links)) v unreached ≡ distance m v = same-weight (relax-is m f.climbs v b ∙ sym (weight-of (dist m v))) in
-        h.distances v b ∙ ap (λ (y : List Distance). held (get_or y v unreached)) (sym e.row ∙ ap (relax m) all-links) ∙ ap held last;
+        h.distances v b ∙ ap (λ (y : List Distance). held (unit_in m) (get_or y v unreached)) (sym e.row ∙ ap (relax m) all-links) ∙ ap (held (unit_in m)) last;
     parents = λ v b. h.parents v b ∙ ap (parent_from m) (sym (e.parents v b) ∙ ap (λ (l : ℕ). chosen l v) all-links ∙ sym (Fold.parent-chosen m f.climbs v));
     size = h.size;
     beyond = h.beyond;

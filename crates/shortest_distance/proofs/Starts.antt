@@ -13,8 +13,9 @@ use lib.Seq.{get_or-set_same, get_or-set_other}
 use lib.IntN.{pos}
 use borrow.Author.Tests.{le-leb, lt-ltb, le-ltb, eq-eqb, ne_eqb}
 use Rattle.tropical_weight.specs.Limits.{node_limit}
-use Rattle.sheet.specs.Machine.{Machine}
+use Rattle.sheet.specs.Machine.{Machine, unit_in}
 use Rattle.sheet.proofs.Below.{split_at}
+use Rattle.sheet.proofs.Forms.{covered}
 use Rattle.machine.specs.Distance.{Distance, reached, unreached, as_weight, start_row, relax}
 use Rattle.machine.specs.Parents.{lowest}
 use Rattle.machine.proofs.SheetFields.{SheetFields}
@@ -41,7 +42,7 @@ module _ (bytes : List ℕ) (links : ℕ) (m : Machine) (f : SheetFields bytes l
   -- ---- slots set up, the start reached at 0, and in the queue
   module _ (s : ℕ) (starts : m.start ≡ some s) (in-nodes : s < length m.finals) (room : 8 * length m.finals ≤ length old) where
     abbrev pub begun : State
-    begun = record { work = with_distance (prepared bytes links (length m.finals) old) (8 * s) (held zero-cost); queue = enqueued emptied s }
+    begun = record { work = with_distance (prepared bytes links (length m.finals) old) (8 * s) (held (unit_in m) zero-cost); queue = enqueued emptied s }
 
     row_zero : relax m 0 ≡ set (replicate (length m.finals) unreached) s zero-cost
     unfolding relax
@@ -56,22 +57,22 @@ module _ (bytes : List ℕ) (links : ℕ) (m : Machine) (f : SheetFields bytes l
     small : s < node_limit
     small = omega (arith, f.few-nodes)
 
-    distance-begun : (v : ℕ) → v < length m.finals → distance_at begun.work v ≡ held (get_or (relax m 0) v unreached)
+    distance-begun : (v : ℕ) → v < length m.finals → distance_at begun.work v ≡ held (unit_in m) (get_or (relax m 0) v unreached)
     distance-begun v b = elim (ℕ_discrete v s) [
       | yes e ↦
           ap (distance_at begun.work) e
-          ∙ put_back (prepared bytes links (length m.finals) old) (8 * s) zero-cost (omega (arith, length-prepared bytes links (length m.finals) old))
-          ∙ ap held (sym (row-start v e))
+          ∙ put_back (prepared bytes links (length m.finals) old) (8 * s) (unit_in m) (covered m.form) zero-cost (omega (arith, length-prepared bytes links (length m.finals) old))
+          ∙ ap (held (unit_in m)) (sym (row-start v e))
       | no n ↦
-          put_other (prepared bytes links (length m.finals) old) (8 * s) (held zero-cost) (8 * v) (λ e. n (omega arith)) (λ e. omega arith) (λ e. omega arith)
+          put_other (prepared bytes links (length m.finals) old) (8 * s) (held (unit_in m) zero-cost) (8 * v) (λ e. n (omega arith)) (λ e. omega arith) (λ e. omega arith)
           ∙ (prepared-words bytes links (length m.finals) old v b room).0
-          ∙ ap held (sym (row-blank v n b))
+          ∙ ap (held (unit_in m)) (sym (row-blank v n b))
     ]
 
     -- no link, no parent
     parent-begun : (v : ℕ) → v < length m.finals → parent_at begun.work v ≡ parent_from m (chosen (offer m v) 0)
     unfolding lowest
-    parent-begun v b = put-parent (prepared bytes links (length m.finals) old) s (held zero-cost) v ∙ (prepared-words bytes links (length m.finals) old v b room).1
+    parent-begun v b = put-parent (prepared bytes links (length m.finals) old) s (held (unit_in m) zero-cost) v ∙ (prepared-words bytes links (length m.finals) old v b room).1
 
     no-flags : (v : ℕ) → holds emptied v ≡ false
     no-flags = (empty-exactly emptied emptied-full emptied-valid).0 emptied-empty
@@ -96,7 +97,7 @@ module _ (bytes : List ℕ) (links : ℕ) (m : Machine) (f : SheetFields bytes l
       distances = distance-begun;
       parents = parent-begun;
       sound = sound;
-      size = put-length (prepared bytes links (length m.finals) old) (8 * s) (held zero-cost) ∙ length-prepared bytes links (length m.finals) old;
-      beyond = put-drop (prepared bytes links (length m.finals) old) (8 * s) (held zero-cost) (8 * length m.finals) (omega arith) ∙ prepared-beyond bytes links (length m.finals) old;
+      size = put-length (prepared bytes links (length m.finals) old) (8 * s) (held (unit_in m) zero-cost) ∙ length-prepared bytes links (length m.finals) old;
+      beyond = put-drop (prepared bytes links (length m.finals) old) (8 * s) (held (unit_in m) zero-cost) (8 * length m.finals) (omega arith) ∙ prepared-beyond bytes links (length m.finals) old;
       flags = flag-begun;
     }

@@ -3,28 +3,28 @@ use Rattle.std.specs.Prelude.{ℕ, ◌/◌, not, ◌||◌, cond, ltb, eqb, lengt
 use mathlib.Core.List.{List, ◌++◌, flat_map}
 use Rattle.sheet.specs.Words.{bytes_of_all}
 use Rattle.sheet.specs.Sheet.{node_count, parts_of}
-use Rattle.sheet.specs.Machine.{machine}
+use Rattle.sheet.specs.Machine.{unit_in, machine}
 use Rattle.machine.specs.Distance.{distances}
 use Rattle.machine.specs.Input.{input_number}
 use Rattle.distance.specs.Written.{written}
 use Rattle.sheet.specs.declared.refusal.Refusal.{Refusal}
 use Rattle.sheet.specs.Refusals.{answer}
-use Rattle.slots.specs.Slots.{cleared}
+use Rattle.slots.specs.Slots.{slot_length, cleared}
 
--- one distance per node up to the highest reached, or led to from a reached one, two words each
+-- one distance per node up to the highest reached, or led to from a reached one, two words each, in the unit of the sheet
 abbrev pub answer_of : List ℕ → List ℕ
-answer_of bytes = bytes_of_all (flat_map written (distances (machine bytes)))
+answer_of bytes = bytes_of_all (flat_map (written (unit_in (machine bytes))) (distances (machine bytes)))
 
 -- the work slots needed
 abbrev pub slots_needed : List ℕ → ℕ
 slots_needed bytes = node_count (parts_of bytes)
 
--- The number of the refusal, or 0: 1 to 6, then 20 and 21. The work area has so many words, the result area so many bytes.
+-- The number of the refusal, or 0: 1, 14 and 2 to 6, then 20 and 21. The work area has so many words, the result area so many bytes.
 unfoldable pub distance_number : List ℕ → ℕ → ℕ → ℕ
 unfolding input_number distances flat_map
 distance_number bytes words room =
     let k = input_number bytes in
-    let state : ℕ = cond (ltb (words / 8) (slots_needed bytes)) 20 (cond (ltb room (length (answer_of bytes))) 21 0) in
+    let state : ℕ = cond (ltb (words / slot_length) (slots_needed bytes)) 20 (cond (ltb room (length (answer_of bytes))) 21 0) in
     cond (not (eqb k 0)) k state
 
 -- what the call answers: how many distances it wrote, or the refusal of the number

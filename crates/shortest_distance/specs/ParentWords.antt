@@ -4,7 +4,7 @@ use Rattle.std.specs.Prelude.{Bool, true, false, List, Option, None, Some, ℕ, 
 use Rattle.std.proofs.Math.Option as Math
 use Rattle.sheet.specs.Machine.{Machine}
 use Rattle.machine.specs.Readings.{link}
-use Rattle.slots.specs.Slots.{nothing}
+use Rattle.slots.specs.Slots.{slot_length, nothing}
 use Rattle.shortest_distance.specs.declared.parent.Parent.{Parent}
 
 -- a link and its source as a parent
@@ -17,12 +17,12 @@ parent_in true l u = None
 parent_in false l u = by l u
 
 abbrev pub parent_at : List ℕ → ℕ → Option Parent
-parent_at work v = parent_in (eqb (get_or work (8 * v + 2) 0) nothing) (get_or work (8 * v + 2) 0) (get_or work (8 * v + 3) 0)
+parent_at work v = parent_in (eqb (get_or work (slot_length * v + 2) 0) nothing) (get_or work (slot_length * v + 2) 0) (get_or work (slot_length * v + 3) 0)
 
 -- stored there
 abbrev pub parent_stored : List ℕ → ℕ → Option Parent → List ℕ
-parent_stored work v None = set work (8 * v + 2) nothing
-parent_stored work v (Some p) = set (set work (8 * v + 2) p.link) (8 * v + 3) p.source
+parent_stored work v None = set work (slot_length * v + 2) nothing
+parent_stored work v (Some p) = set (set work (slot_length * v + 2) p.link) (slot_length * v + 3) p.source
 
 -- a parent of the definitions as it is held
 abbrev pub parent_from : Machine → Math.Option ℕ → Option Parent

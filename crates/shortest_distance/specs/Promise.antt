@@ -3,9 +3,10 @@
 use Rattle.std.specs.Prelude.{◌≡◌, ◌⊎◌, List, ℕ, suc, ◌+◌, ◌*◌, ◌<◌, ℤ, length, Result, Ok, Err}
 use Rattle.std.proofs.Math.Option.{some}
 use Rattle.tropical_weight.specs.Tropical.{fin, ◌≼◌}
-use Rattle.sheet.specs.Words.{word}
-use Rattle.sheet.specs.Machine.{Machine, machine, bits_of}
+use Rattle.sheet.specs.Words.{word_length, word}
+use Rattle.sheet.specs.Machine.{Machine, unit_in, machine, bits_of}
 use Rattle.machine.specs.Readings.{link, IsRun, run_cost}
+use Rattle.distance.specs.Written.{written_length}
 use Rattle.sheet.specs.declared.refusal.Refusal.{Refusal}
 
 -- a run of links from the start to v, at a finite cost
@@ -31,17 +32,17 @@ pub record LeastTo (m : Machine) (v : ℕ) (k : ℤ) : Type 0 where
   pub run : RunTo m v
   pub attained : run_cost m run.run ≡ fin k
 
--- The two words of v are 1 and the bits of the least cost of a run to it.
+-- The two words of v are 1 and the bits, in the unit of the machine, of the least cost of a run to it.
 pub record ReachedAt (m : Machine) (result : List ℕ) (v : ℕ) : Type 0 where
   pub cost : ℤ
-  pub mark : word result (8 * v) ≡ 1
-  pub bits : word result (8 * v + 4) ≡ bits_of (fin cost)
+  pub mark : word result (written_length * v) ≡ 1
+  pub bits : word result (written_length * v + word_length) ≡ bits_of (unit_in m) (fin cost)
   pub least : LeastTo m v cost
 
 -- They are 0 and 0, and no such run leads to it.
 pub record UnreachedAt (m : Machine) (result : List ℕ) (v : ℕ) : Type 0 where
-  pub mark : word result (8 * v) ≡ 0
-  pub bits : word result (8 * v + 4) ≡ 0
+  pub mark : word result (written_length * v) ≡ 0
+  pub bits : word result (written_length * v + word_length) ≡ 0
   pub none : RunTo m v → ⊥
 
 -- The first bytes of a result hold so many distances.

@@ -5,6 +5,7 @@ use Rattle.std.specs.Float.{binary32}
 use Rattle.std.specs.Float.Ieee.{add}
 use Rattle.sheet.specs.declared.tr.Link.{Link}
 use Rattle.sheet.specs.Records.{link_at, count_at}
+use Rattle.slots.specs.Slots.{slot_length}
 use Rattle.state_order_queue.specs.declared.Queue.{Queue}
 use Rattle.state_order_queue.specs.Queues.{is_empty, enqueued, dequeued}
 use Rattle.distance.specs.Held.{weight_in, with_distance}
@@ -14,7 +15,7 @@ use Rattle.shortest_distance.specs.NodeSlots.{distance_at, first_word}
 
 -- the area after an offer is taken: the distance of its node, and link l of node v as its parent
 abbrev pub taken_words : ℕ → Float → ℕ → ℕ → List ℕ → List ℕ
-taken_words next offer l v work = parent_stored (with_distance work (8 * next) (Some offer)) next (by l v)
+taken_words next offer l v work = parent_stored (with_distance work (slot_length * next) (Some offer)) next (by l v)
 
 -- the area after link l of node v, which has a distance, is relaxed
 abbrev pub relaxed_words : Link → ℕ → ℕ → Float → List ℕ → List ℕ

@@ -3,6 +3,7 @@
 #![tactic(auto)]
 
 ghost use Rattle.std.specs.Prelude.{◌≡◌, ◌*◌, ◌≤◌, length};
+ghost use Rattle.slots.specs.Slots.{slot_length};
 ghost use Rattle.shortest_distance.specs.NodeSlots.{distance_words};
 ghost use Rattle.shortest_distance.specs.Handed.{handed, handed_over};
 ghost use Rattle.shortest_distance.specs.Outcome.{distance_answer, work_after, result_after};
@@ -22,7 +23,7 @@ mod relax;
 // Hands the distances of the first nodes over, where the result area has room for them: so many, for the
 // area is lent and longer (C interface).
 fn hand_over(work: &[u32], count: u32, res: &mut [u8]) -> Result<u32, Refusal>
-    requires { 8 * count ≤ length work.now }
+    requires { slot_length * count ≤ length work.now }
     ensures value { result ≡ handed count (length res.old) }
     ensures res_after { res.new ≡ handed_over (distance_words work.now count) res.old }
 {
@@ -35,7 +36,7 @@ fn hand_over(work: &[u32], count: u32, res: &mut [u8]) -> Result<u32, Refusal>
 
 // Makes the distances and the parents of a machine in the slots of its nodes.
 pub fn make(m: &Machine, work: &mut [u32])
-    requires { 8 * m.now.sheet.nodes ≤ length work.old }
+    requires { slot_length * m.now.sheet.nodes ≤ length work.old }
     ensures { Made m.now.sheet.bytes.now work.old work.new }
 {
     node_slots::prepare(&m.sheet, work);

@@ -5,6 +5,8 @@ ghost use Rattle.std.specs.Prelude.{◌≡◌, ◌+◌, ◌*◌, ◌≤◌, leng
 ghost use Rattle.std.proofs.lemmas.List.Edits.{sets};
 ghost use Rattle.sheet.specs.Words.{bytes_of_all};
 ghost use Rattle.sheet.specs.Records.{count_at};
+ghost use Rattle.slots.specs.Slots.{slot_length};
+ghost use Rattle.distance.specs.Written.{written_length};
 ghost use Rattle.shortest_distance.specs.NodeSlots.{prepared, height_in, led_from, led_height, length_in};
 ghost use Rattle.shortest_distance.specs.NodeSlots.{distance_words};
 
@@ -19,7 +21,7 @@ pub const FIRST: usize = 4;
 
 // Sets up the slots: each node is unreached and has no parent, its first link the links counted before it.
 pub fn prepare(sheet: &Sheet, work: &mut [u32])
-    requires { 8 * sheet.now.nodes ≤ length work.old }
+    requires { slot_length * sheet.now.nodes ≤ length work.old }
     ensures { work.new ≡ prepared sheet.now.bytes.now sheet.now.links sheet.now.nodes work.old }
 {
     for source in Sources::new(sheet) {
@@ -32,7 +34,7 @@ pub fn prepare(sheet: &Sheet, work: &mut [u32])
 
 // One more than the highest node that is reached, or 0: scans down from the top.
 fn reached_height(work: &[u32], nodes: u32) -> u32
-    requires { 8 * nodes ≤ length work.now }
+    requires { slot_length * nodes ≤ length work.now }
     ensures { result ≡ height_in work.now nodes }
 {
     for v in (0..nodes).rev() {
@@ -56,7 +58,7 @@ fn led_from(source: &Source, height: u32) -> u32
 
 // The height of the reached nodes, raised above those that links lead to from them, barred or not.
 fn led_height(sheet: &Sheet, work: &[u32], reached: u32) -> u32
-    requires { (8 * sheet.now.nodes ≤ length work.now) × (reached ≤ sheet.now.nodes) }
+    requires { (slot_length * sheet.now.nodes ≤ length work.now) × (reached ≤ sheet.now.nodes) }
     ensures { result ≡ led_height sheet.now.bytes.now sheet.now.links work.now reached reached }
 {
     let mut top = reached;
@@ -72,7 +74,7 @@ fn led_height(sheet: &Sheet, work: &[u32], reached: u32) -> u32
 // One more than the highest node that is reached, or led to from a reached one, or 0. Where the last
 // node is reached none is higher, and no link is looked at.
 pub fn height(sheet: &Sheet, work: &[u32]) -> u32
-    requires { 8 * sheet.now.nodes ≤ length work.now }
+    requires { slot_length * sheet.now.nodes ≤ length work.now }
     ensures { result ≡ length_in sheet.now.bytes.now sheet.now.links sheet.now.nodes work.now }
 {
     let nodes = sheet.nodes;
@@ -85,7 +87,7 @@ pub fn height(sheet: &Sheet, work: &[u32]) -> u32
 
 // Writes the distances of the first nodes at the front of the result.
 pub fn put_distances(work: &[u32], count: u32, res: &mut [u8])
-    requires { (8 * count ≤ length work.now) × (8 * count ≤ length res.old) }
+    requires { (slot_length * count ≤ length work.now) × (written_length * count ≤ length res.old) }
     ensures { res.new ≡ sets res.old 0 (bytes_of_all (distance_words work.now count)) }
 {
     for v in 0..count {

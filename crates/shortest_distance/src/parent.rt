@@ -1,5 +1,6 @@
 // The parent of a node, in its slot: the link by which the best way enters it.
 ghost use Rattle.std.specs.Prelude.{◌≡◌, ◌+◌, ◌*◌, ◌≤◌, length};
+ghost use Rattle.slots.specs.Slots.{slot_length};
 ghost use Rattle.shortest_distance.specs.ParentWords.{parent_at, parent_stored};
 
 use slots::{NOTHING, SLOT, number_in};
@@ -18,7 +19,7 @@ pub struct Parent {
 
 // The parent in a node's slot. How none is stored is known here and where it is stored alone.
 pub fn parent_at(work: &[u32], v: u32) -> Option<Parent>
-    requires { 8 * v + 8 ≤ length work.now }
+    requires { slot_length * v + slot_length ≤ length work.now }
     ensures { result ≡ parent_at work.now v }
 {
     let at = SLOT * (v as usize);
@@ -29,7 +30,7 @@ pub fn parent_at(work: &[u32], v: u32) -> Option<Parent>
 
 // Stores a parent there; for none the link's word tells it alone.
 pub fn store_parent(work: &mut [u32], v: u32, parent: Option<Parent>)
-    requires { 8 * v + 8 ≤ length work.old }
+    requires { slot_length * v + slot_length ≤ length work.old }
     ensures { work.new ≡ parent_stored work.old v parent }
 {
     let at = SLOT * (v as usize);

@@ -1,5 +1,6 @@
 // Relaxation, link by link through the queue.
 ghost use Rattle.std.specs.Prelude.{◌≡◌, ◌+◌, ◌*◌, ◌≤◌, length};
+ghost use Rattle.slots.specs.Slots.{slot_length};
 ghost use Rattle.distance.specs.Offer.{reaches};
 ghost use Rattle.shortest_distance.specs.NodeSlots.{distance_at};
 ghost use Rattle.shortest_distance.specs.Relaxation.{relaxed_words, relax_heads};
@@ -18,7 +19,7 @@ use state_order_queue::{Queue, next_front};
 // comparison of exact sums is right in every rounding mode, and an offer of infinity reaches nothing.
 // Answers whether it is the node's first.
 fn relax_link(k: Link, by: Parent, d: f32, work: &mut [u32]) -> bool
-    requires { 8 * k.nextstate + 8 ≤ length work.old }
+    requires { slot_length * k.nextstate + slot_length ≤ length work.old }
     ensures value { result ≡ reaches (distance_at work.old k.nextstate) d k.weight }
     ensures work_new { work.new ≡ relaxed_words k by.link by.source d work.old }
 {

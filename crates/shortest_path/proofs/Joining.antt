@@ -15,7 +15,7 @@ use Rattle.tropical_weight.specs.Limits.{weight_limit, node_limit, link_limit, l
 use Rattle.tropical_weight.specs.Tropical.{Tropical, fin, inf}
 use Rattle.sheet.specs.declared.tr.Trailer.{Trailer}
 use Rattle.sheet.specs.Sheet.{parts_of, stated_links}
-use Rattle.sheet.specs.Machine.{Machine, machine_of}
+use Rattle.sheet.specs.Machine.{Machine, unit_in, machine_of}
 use Rattle.sheet.specs.Records.{trailer_at}
 use Rattle.sheet.proofs.Round.{Below}
 use Rattle.sheet.proofs.Apart.{not-both}
@@ -39,13 +39,13 @@ use Rattle.search.proofs.Entries.{numbered}
 use Rattle.search.proofs.Complete.{few-listed}
 use Rattle.search.proofs.Within.{holds_after, put-room}
 use Rattle.search.proofs.Trims.{trimmed-is}
-use Rattle.slots.specs.Slots.{nothing}
+use Rattle.slots.specs.Slots.{slot_length, nothing}
 use Rattle.search_slots.specs.Slots.{listed_word, visits_word}
 use Rattle.list_answer.proofs.SlotsNeeded.{slots-many}
 use Rattle.list_answer.specs.ListAnswer.{slots_of, slots_for, listed_in, listed_over}
-use Rattle.machine.specs.Finals.{finals_at, final_count}
+use Rattle.machine.specs.Finals.{final_count}
 use Rattle.reversed_machine.specs.Laid.{Reversal}
-use Rattle.machine.proofs.SheetFields.{sheet-fields, fields-own}
+use Rattle.machine.proofs.SheetFields.{sheet-fields, fields-own, finals-counted}
 use Rattle.n_shortest.specs.declared.n_best.Places.{Places}
 use Rattle.n_shortest.specs.SearchWords.{Words, after_w, begun_w, none_w, stopped_w, Sized, Ready, Begins}
 use Rattle.n_shortest.proofs.Storing as Storing
@@ -63,14 +63,14 @@ pub record Sizes (N T finals n room : ℕ) : Type 0 where
   pub few-links : T ≤ link_limit
   pub few-nodes : N ≤ node_limit
   pub products : n * (T + 1) ≤ list_limit * (T + 1)
-  pub fits : 8 * (1 + finals + n * (T + 1) + (N + 1) + (T + finals)) ≤ room
+  pub fits : slot_length * (1 + finals + n * (T + 1) + (N + 1) + (T + finals)) ≤ room
 
 -- n = 0 gives the empty machine
-pub zero-empty : (m : Machine) → result_for m 0 ≡ empty
+pub zero-empty : (m : Machine) → result_for m 0 ≡ empty m.form
 unfolding result_for
 zero-empty m = go (best m)
   where
-    go : (o : Option Reading) → result_by m 0 o ≡ empty
+    go : (o : Option Reading) → result_by m 0 o ≡ empty m.form
     go none = refl
     go (some x) = refl
 
@@ -84,9 +84,15 @@ module _ (bytes : List ℕ) (ok : input_number bytes ≡ 0) (t : Trailer) (same 
   pub nodes-is : t.nodes ≡ length m.finals
   nodes-is = ap (λ (t : Trailer). t.nodes) same ∙ sym (sheet-fields bytes ok).nodes-are
 
+  pub form-is : t.form ≡ m.form
+  form-is = ap (λ (t : Trailer). t.form) same ∙ sym (sheet-fields bytes ok).form-is
+
+  -- n = 0, of the sheet whose trailer was read
+  pub none-asked : (n : ℕ) → n ≡ 0 → result_for m n ≡ empty t.form
+  none-asked n e = ap (result_for m) e ∙ zero-empty m ∙ ap empty (sym form-is)
+
   pub finals-is : finals ≡ marked m.finals
-  unfolding finals_at
-  finals-is = counted ∙ (λ i. marked (finals_at bytes (links-is i) (nodes-is i))) ∙ ap marked (fields-own bytes ok).finals-are
+  finals-is = counted ∙ (λ i. final_count bytes (links-is i) (nodes-is i)) ∙ finals-counted (fields-own bytes ok)
 
   pub few-nodes : t.nodes ≤ node_limit
   few-nodes = omega (arith, nodes-is, (fields-own bytes ok).few-nodes)
@@ -115,14 +121,14 @@ module _ (bytes : List ℕ) (ok : input_number bytes ≡ 0) (t : Trailer) (same 
     slots-are = slots-many (length m.finals) (length m.links) (marked m.finals) n lo ∙ omega (arith, allowed-is, links-is, nodes-is, finals-is)
 
     -- what bounds the sums of the code, on a part of so many words
-    pub sizes : (room : ℕ) → 8 * slots_for m n ≤ room → Sizes t.nodes t.links finals n room
+    pub sizes : (room : ℕ) → slot_length * slots_for m n ≤ room → Sizes t.nodes t.links finals n room
     sizes room h = record { few-finals = few-finals; few-links = few-links; few-nodes = few-nodes; products = product; fits = omega (arith, slots-are, h) }
 
     abbrev pub places : Places
-    places = record { nodes = 8 * (1 + finals + n * (t.links + 1)); links = 8 * (1 + finals + n * (t.links + 1)) + 8 * (t.nodes + 1); inputs = t.links; end = t.start + 1 }
+    places = record { nodes = slot_length * (1 + finals + n * (t.links + 1)); links = slot_length * (1 + finals + n * (t.links + 1)) + slot_length * (t.nodes + 1); inputs = t.links; end = t.start + 1 }
 
     -- ---- once the machine is reversed
-    module _ (below : Below 256 bytes) (old part : List ℕ) (long : 8 * slots_for m n ≤ length old) (rev : Reversal m places.nodes places.links old part) where
+    module _ (below : Below 256 bytes) (old part : List ℕ) (long : slot_length * slots_for m n ≤ length old) (rev : Reversal m places.nodes places.links old part) where
       a : Accepted m
       a = accepted bytes below ok
 
@@ -132,12 +138,12 @@ module _ (bytes : List ℕ) (ok : input_number bytes ≡ 0) (t : Trailer) (same 
       -- ---- whether there is a reading: whether the least total is reached
       total-reached : reached_in (distance_in part places.nodes) ≡ is_finite (total m)
       total-reached =
-          ap (λ (k : ℕ). reached_in (distance_in part k)) (let z : places.nodes ≡ places.nodes + 8 * 0 = omega arith in z)
-          ∙ ap reached_in (rev.laid.distances 0 (omega arith)) ∙ reached-held (distance_of (total m)) ∙ ap is_finite (weight-of (total m))
+          ap (λ (k : ℕ). reached_in (distance_in part k)) (let z : places.nodes ≡ places.nodes + slot_length * 0 = omega arith in z)
+          ∙ ap reached_in (rev.laid.distances 0 (omega arith)) ∙ reached-held (unit_in m) (distance_of (total m)) ∙ ap is_finite (weight-of (total m))
 
-      pub none-there : reached_in (distance_in part places.nodes) ≡ false → result_for m n ≡ empty
+      pub none-there : reached_in (distance_in part places.nodes) ≡ false → result_for m n ≡ empty t.form
       unfolding result_for
-      none-there e = ap (result_by m n) (best-infinite m a.climbs (not_finite (total m) (sym total-reached ∙ e)))
+      none-there e = ap (result_by m n) (best-infinite m a.climbs (not_finite (total m) (sym total-reached ∙ e))) ∙ ap empty (sym form-is)
 
       -- where there is one the machine has a start, which the trailer names
       reading : reached_in (distance_in part places.nodes) ≡ true → (k : ℤ) × (total m ≡ fin k)
@@ -162,7 +168,7 @@ module _ (bytes : List ℕ) (ok : input_number bytes ≡ 0) (t : Trailer) (same 
             go s true q e = let z : ◌≡◌ {A = ℕ} 0 1 = cc in absurd (omega arith)
             go s false q e = (refl, λ z. eqb-false s nothing q z)
 
-        laid : Storing.Laid places (suc (length m.finals)) (reversed m) part
+        laid : Storing.Laid (unit_in m) places (suc (length m.finals)) (reversed m) part
         laid = lies m a.climbs b a.few-nodes places part links-is t.start start_is.0 (add-one t.start) rev.laid
 
         sized : Sized places (none_w part)
@@ -185,7 +191,7 @@ module _ (bytes : List ℕ) (ok : input_number bytes ≡ 0) (t : Trailer) (same 
         fans : (v : ℕ) → v < suc (length m.finals) → length ((reversed m).out v) ≤ t.links + finals
         fans v h = omega (arith, fan-few m a.climbs b a.few-nodes places part links-is t.start start_is.0 (add-one t.start) rev.laid v h, links-is, finals-is)
 
-        room-is : 8 * most_taken m n ≤ places.nodes
+        room-is : slot_length * most_taken m n ≤ places.nodes
         room-is = omega (arith, allowed-is)
 
         small_is : most_taken m n < 4294967295
@@ -197,13 +203,13 @@ module _ (bytes : List ℕ) (ok : input_number bytes ≡ 0) (t : Trailer) (same 
         abbrev pub done : Words
         done = after_w places n (t.links + finals) (1 + finals + n * (t.links + 1)) (begun_w places part)
 
-        pub found : Stores places (suc (length m.finals)) (reversed m) (search m n) done
+        pub found : Stores (unit_in m) places (suc (length m.finals)) (reversed m) (search m n) done
         unfolding search
         found =
-            subst (λ k. Stores places (suc (length m.finals)) (reversed m) (search m n) (after_w places n (t.links + finals) k (begun_w places part))) (sym allowed-is)
+            subst (λ k. Stores (unit_in m) places (suc (length m.finals)) (reversed m) (search m n) (after_w places n (t.links + finals) k (begun_w places part))) (sym allowed-is)
             (stores-after m a.climbs b a.few-nodes n places (t.links + finals) fans room-is small_is part laid sized fresh (most_taken m n))
 
-        pub holding : Holding done.part (search m n)
+        pub holding : Holding (unit_in m) done.part (search m n)
         holding = record {
           slots = omega (arith, found.entries-count, found.sized.room, found.sized.after, found.sized.inside);
           listed-slots = omega (arith, found.listed-few, found.entries-count, found.sized.room, found.sized.after, found.sized.inside);
@@ -231,12 +237,12 @@ module _ (bytes : List ℕ) (ok : input_number bytes ≡ 0) (t : Trailer) (same 
             (subst (λ k. Listable bytes (stated_links bytes) done.part k done.counts.listed) (sym found.entries-count)
             (subst (λ k. Listable bytes (stated_links bytes) done.part (length (search m n).entries) k) (sym found.listed-count) (listable bytes below ok (search m n) (numbered m a.climbs n) done.part holding source)))
 
-        pub answers : (room : ℕ) → list_answer done.counts.listed (kept_count done.counts.entries done.counts.listed done.part) done.counts.taken room ≡ listed_in (result_for m n) room
+        pub answers : (room : ℕ) → list_answer t.form done.counts.listed (kept_count done.counts.entries done.counts.listed done.part) done.counts.taken room ≡ listed_in (result_for m n) room
         answers room =
-            (λ i. list_answer (found.listed-count i) (kept_count (found.entries-count i) (found.listed-count i) done.part) (found.taken-count i) room)
+            (λ i. list_answer (form-is i) (found.listed-count i) (kept_count (found.entries-count i) (found.listed-count i) done.part) (found.taken-count i) room)
             ∙ list-answers bytes below ok (search m n) (numbered m a.climbs n) done.part holding source room ∙ ap (λ r. listed_in r room) (sym some-there)
 
-        pub leaves : (old : List ℕ) → list_after bytes t.links done.part done.counts.entries done.counts.listed old ≡ listed_over (result_for m n) old
+        pub leaves : (old : List ℕ) → list_after bytes t.links t.form done.part done.counts.entries done.counts.listed old ≡ listed_over (result_for m n) old
         leaves old =
-            (λ i. list_after bytes (ap (λ (t : Trailer). t.links) same i) done.part (found.entries-count i) (found.listed-count i) old)
+            (λ i. list_after bytes (ap (λ (t : Trailer). t.links) same i) (form-is i) done.part (found.entries-count i) (found.listed-count i) old)
             ∙ list-leaves bytes below ok (search m n) (numbered m a.climbs n) done.part holding source old ∙ ap (λ r. listed_over r old) (sym some-there)

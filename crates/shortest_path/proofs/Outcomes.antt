@@ -11,7 +11,7 @@ use borrow.Author.Tests.{lt-ltb, le-ltb, ltb-false, eqb-true, eqb-false}
 use Rattle.tropical_weight.specs.Limits.{list_limit}
 use Rattle.sheet.proofs.Apart.{not-zero, neither}
 use Rattle.machine.specs.Input.{input_number}
-use Rattle.slots.specs.Slots.{cleared}
+use Rattle.slots.specs.Slots.{slot_length, cleared}
 use Rattle.slots.proofs.Clearing.{cleared-same}
 use Rattle.list_answer.specs.declared.Listed.{Listed}
 use Rattle.std.specs.Prelude.{Result, Err}
@@ -22,8 +22,8 @@ use Rattle.list_answer.specs.ListAnswer.{listed_by, listed_in, listed_over}
 use Rattle.shortest_path.specs.Outcome.{result_of, answer_of, slots_needed, tested_number, areas_number, list_number, counts_of, list_answer, work_after, result_after}
 
 -- a part of so many slots put back leaves what is beyond it
-pub beyond-part : (part work : List ℕ) (k j : ℕ) → k ≡ j → length part ≡ 8 * k → drop (8 * j) (part ++ drop (8 * k) work) ≡ drop (8 * j) work
-beyond-part part work k j e size = subst (λ (i : ℕ). drop (8 * i) (part ++ drop (8 * k) work) ≡ drop (8 * i) work) e (drop_at part (drop (8 * k) work) (8 * k) size)
+pub beyond-part : (part work : List ℕ) (k j : ℕ) → k ≡ j → length part ≡ slot_length * k → drop (slot_length * j) (part ++ drop (slot_length * k) work) ≡ drop (slot_length * j) work
+beyond-part part work k j e size = subst (λ (i : ℕ). drop (slot_length * i) (part ++ drop (slot_length * k) work) ≡ drop (slot_length * i) work) e (drop_at part (drop (slot_length * k) work) (slot_length * k) size)
 
 -- ---- the number, by what was tested
 module _ (bytes : List ℕ) (n last : ℕ) where
@@ -84,7 +84,7 @@ module _ (bytes : List ℕ) (n : ℕ) (work result : List ℕ) where
     result-is = sym (not-zero number _ result (λ z. number-positive r (sym e ∙ z)));
   }
 
-  pub outcome-input : (r : Refusal) → input_number bytes ≡ number_of r → number_of r ≤ 6 → Outcome (Err r) work result
+  pub outcome-input : (r : Refusal) → input_number bytes ≡ number_of r → number_of r ≤ 14 → Outcome (Err r) work result
   outcome-input r e b = early r (λ z. omega (arith, b, z)) (number-input bytes n (length work) (length result) (λ z. number-positive r (sym e ∙ z)) ∙ e)
 
   module _ (e : input_number bytes ≡ 0) where
@@ -94,18 +94,18 @@ module _ (bytes : List ℕ) (n : ℕ) (work result : List ℕ) where
         (number-tested bytes n (length work) (length result) ∙ tested-seven bytes n (areas_number bytes n (length work) (length result)) e h)
 
     module _ (few : n ≤ list_limit) where
-      pub outcome-20 : length work / 8 < slots_needed bytes n → Outcome (Err Refusal.Work) work result
+      pub outcome-20 : length work / slot_length < slots_needed bytes n → Outcome (Err Refusal.Work) work result
       outcome-20 h =
           early Refusal.Work (λ z. omega (arith, z))
-          (number-areas bytes n (length work) (length result) e few ∙ ap (λ (b : Bool). cond b 20 (cond (ltb (length result) (length (answer_of bytes n))) 21 0)) (lt-ltb (length work / 8) (slots_needed bytes n) h))
+          (number-areas bytes n (length work) (length result) e few ∙ ap (λ (b : Bool). cond b 20 (cond (ltb (length result) (length (answer_of bytes n))) 21 0)) (lt-ltb (length work / slot_length) (slots_needed bytes n) h))
 
       -- ---- a list made in its slots, and those cleared
-      module _ (slots : slots_needed bytes n ≤ length work / 8) (made : List ℕ) (beyond : drop (8 * slots_needed bytes n) made ≡ drop (8 * slots_needed bytes n) work) where
+      module _ (slots : slots_needed bytes n ≤ length work / slot_length) (made : List ℕ) (beyond : drop (slot_length * slots_needed bytes n) made ≡ drop (slot_length * slots_needed bytes n) work) where
         abbrev short : Bool
         short = ltb (length result) (length (answer_of bytes n))
 
         number_is : number ≡ cond short 21 0
-        number_is = number-areas bytes n (length work) (length result) e few ∙ ap (λ (b : Bool). cond b 20 (cond short 21 0)) (le-ltb (length work / 8) (slots_needed bytes n) slots)
+        number_is = number-areas bytes n (length work) (length result) e few ∙ ap (λ (b : Bool). cond b 20 (cond short 21 0)) (le-ltb (length work / slot_length) (slots_needed bytes n) slots)
 
         pub outcome-made : Outcome (listed_in (result_of bytes n) (length result)) (cleared (slots_needed bytes n) made) (listed_over (result_of bytes n) result)
         outcome-made = record {

@@ -14,7 +14,7 @@ use borrow.Author.Tests.{eq-eqb, ne_eqb}
 use Rattle.tropical_weight.specs.Limits.{weight_limit, node_limit, sum_limit}
 use Rattle.tropical_weight.specs.Tropical.{Tropical, Within}
 use Rattle.tropical_weight.proofs.Sums.{within-mono}
-use Rattle.sheet.specs.Machine.{Machine}
+use Rattle.sheet.specs.Machine.{Machine, unit_in}
 use Rattle.machine.specs.Readings.{link, is_at}
 use Rattle.machine.specs.Climbs.{Climbs, Small}
 use Rattle.machine.specs.Demand.{◌∈◌}
@@ -78,7 +78,7 @@ module _ (m : Machine) (c : Climbs m) (b : Small weight_limit m) (few : length m
 
   -- link k as its slot has it
   abbrev link_at : ℕ → Back
-  link_at k = back_of part p.links (length m.links) k
+  link_at k = back_of (unit_in m) part p.links (length m.links) k
 
   -- the links read off in n steps from k on
   abbrev read_off : ℕ → ℕ → List Back
@@ -86,9 +86,9 @@ module _ (m : Machine) (c : Climbs m) (b : Small weight_limit m) (few : length m
 
   -- the chain from k on is what one step more reads off, where the test for nothing comes out as t
   abbrev IsBy : ℕ → ℕ → Bool → Type 0
-  IsBy n k t = ChainIs p size (reversed m) part k (map link_at (cond t [] (k ∷ chain_of part p.links (chain_word part p.links k) n)))
+  IsBy n k t = ChainIs (unit_in m) p size (reversed m) part k (map link_at (cond t [] (k ∷ chain_of part p.links (chain_word part p.links k) n)))
 
-  chain-is : (n k : ℕ) → Enough n k → ChainIs p size (reversed m) part k (read_off n k)
+  chain-is : (n k : ℕ) → Enough n k → ChainIs (unit_in m) p size (reversed m) part k (read_off n k)
   unfolding chain_of
   chain-is zero k (inl e) = e
   chain-is zero k (inr h) = absurd (omega (arith, h.0, h.1))
@@ -115,13 +115,13 @@ module _ (m : Machine) (c : Climbs m) (b : Small weight_limit m) (few : length m
   weight-within zero x h = let f = out-final m x h in subst (λ (y : Back). Within sum_limit y.weight) (sym f.3) (one-term f.1 (b.on_final f.0 f.1 f.2))
   weight-within (suc v) x h = let f = out-link m v x h in subst (λ (y : Back). Within sum_limit y.weight) (sym f.3) (one-term (link m f.0).weight (b.on_link f.0 f.1))
 
-  pub lies : Storing.Laid p (suc (length m.finals)) (reversed m) part
+  pub lies : Storing.Laid (unit_in m) p (suc (length m.finals)) (reversed m) part
   lies = record {
     room = omega (arith, laid.apart);
     small = omega arith;
     distances = λ q h. laid.distances q (omega arith);
     within = togo-within m c b few;
-    chains = λ q h. subst (ChainIs p size (reversed m) part (head_word part p.nodes q)) (out-is q h) (chain-is (back_count m) (head_word part p.nodes q) (head-enough (head_word part p.nodes q) (laid.heads q (omega arith))));
+    chains = λ q h. subst (ChainIs (unit_in m) p size (reversed m) part (head_word part p.nodes q)) (out-is q h) (chain-is (back_count m) (head_word part p.nodes q) (head-enough (head_word part p.nodes q) (laid.heads q (omega arith))));
     leads = λ q x h. (leads-in m c q x h, weight-within q x h);
     ends = λ q h. ap (eqb q) end ∙ end_is m s q starts;
   }

@@ -5,7 +5,7 @@ use Rattle.machine.specs.Input.{input_number}
 use Rattle.sheet.specs.Machine.{machine}
 use Rattle.sheet.specs.declared.refusal.Refusal.{Refusal}
 use Rattle.sheet.specs.Refusals.{answer}
-use Rattle.slots.specs.Slots.{cleared}
+use Rattle.slots.specs.Slots.{slot_length, cleared}
 use Rattle.search.specs.ListMachine.{Result, result_for, result_bytes}
 use Rattle.list_answer.specs.declared.Listed.{Listed}
 use Rattle.list_answer.specs.ListAnswer.{slots_for}
@@ -22,16 +22,16 @@ answer_of bytes n = result_bytes (result_of bytes n)
 abbrev pub slots_needed : List ℕ → ℕ → ℕ
 slots_needed bytes n = slots_for (machine bytes) n
 
--- the first number of 1 to 7 whose test fails, or else the last
+-- the first number of 1, 14 and 2 to 7 whose test fails, or else the last
 unfoldable pub tested_number : List ℕ → ℕ → ℕ → ℕ
 unfolding input_number
 tested_number bytes n last = let k = input_number bytes in cond (not (eqb k 0)) k (cond (ltb list_limit n) 7 last)
 
 -- 20, 21 or 0. The work area has so many words, the result area so many bytes.
 abbrev pub areas_number : List ℕ → ℕ → ℕ → ℕ → ℕ
-areas_number bytes n words room = cond (ltb (words / 8) (slots_needed bytes n)) 20 (cond (ltb room (length (answer_of bytes n))) 21 0)
+areas_number bytes n words room = cond (ltb (words / slot_length) (slots_needed bytes n)) 20 (cond (ltb room (length (answer_of bytes n))) 21 0)
 
--- the number of the refusal, or 0: 1 to 7, then 20 and 21
+-- the number of the refusal, or 0: 1, 14 and 2 to 7, then 20 and 21
 unfoldable pub list_number : List ℕ → ℕ → ℕ → ℕ → ℕ
 unfolding tested_number result_for result_bytes
 list_number bytes n words room = tested_number bytes n (areas_number bytes n words room)

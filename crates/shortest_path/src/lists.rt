@@ -2,6 +2,7 @@
 // counted machine: what the two functions ask of it differs, and a struct for both would be no shorter.
 ghost use Rattle.std.specs.Prelude.{◌≡◌, ◌*◌, ◌≤◌, length};
 ghost use Rattle.tropical_weight.specs.Limits.{list_limit};
+ghost use Rattle.slots.specs.Slots.{slot_length};
 ghost use Rattle.sheet.specs.Sheet.{parts_of};
 ghost use Rattle.sheet.specs.Machine.{machine_of};
 ghost use Rattle.search.specs.ListMachine.{result_for};
@@ -24,7 +25,7 @@ pub fn list_many(
     part: &mut [u32],
     res: &mut [u8],
 ) -> Result<Listed, Refusal>
-    requires { (2 ≤ n) × (n ≤ list_limit) × (8 * slots_for (machine_of (parts_of counted.now.machine.sheet.bytes.now)) n ≤ length part.old) }
+    requires { (2 ≤ n) × (n ≤ list_limit) × (slot_length * slots_for (machine_of (parts_of counted.now.machine.sheet.bytes.now)) n ≤ length part.old) }
     ensures value { result ≡ listed_in (result_for (machine_of (parts_of counted.now.machine.sheet.bytes.now)) n) (length res.old) }
     ensures res_after { res.new ≡ listed_over (result_for (machine_of (parts_of counted.now.machine.sheet.bytes.now)) n) res.old }
 {
@@ -38,7 +39,7 @@ pub fn list_many(
     // without a reading the least total is unreached; with one there is a start, whose field is read
     // below without another test
     if distance::distance_at(part, heads).is_none() {
-        return list_answer::put_none(res);
+        return list_answer::put_none(res, sheet.form);
     }
     let p = n_best::Places {
         nodes: heads,
@@ -48,8 +49,7 @@ pub fn list_many(
     };
     let c = n_best::n_shortest_path(part, p, n, sheet.links + counted.finals, allowed);
     trim::write_list(
-        sheet.bytes,
-        sheet.links,
+        &sheet,
         part,
         c.entries as usize,
         c.listed as usize,
@@ -65,12 +65,12 @@ pub fn list_in(
     part: &mut [u32],
     res: &mut [u8],
 ) -> Result<Listed, Refusal>
-    requires { (n ≤ list_limit) × (8 * slots_for (machine_of (parts_of counted.now.machine.sheet.bytes.now)) n ≤ length part.old) }
+    requires { (n ≤ list_limit) × (slot_length * slots_for (machine_of (parts_of counted.now.machine.sheet.bytes.now)) n ≤ length part.old) }
     ensures value { result ≡ listed_in (result_for (machine_of (parts_of counted.now.machine.sheet.bytes.now)) n) (length res.old) }
     ensures res_after { res.new ≡ listed_over (result_for (machine_of (parts_of counted.now.machine.sheet.bytes.now)) n) res.old }
 {
     match n {
-        0 => list_answer::put_none(res),
+        0 => list_answer::put_none(res, counted.machine.sheet.form),
         1 => single::single_shortest_path(&counted.machine, part, res),
         _ => list_many(counted, n, part, res),
     }

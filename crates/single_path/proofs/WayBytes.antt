@@ -12,11 +12,14 @@ use lib.ListN.{length, drop, replicate, length-append, length-reverse}
 use lib.Seq.{sets, sets-eq}
 use borrow.Author.Tests.{le-ltb, lt-ltb, eq-eqb, ne_eqb}
 use Rattle.tropical_weight.specs.Tropical.{Tropical}
-use Rattle.sheet.specs.Words.{bytes_of_all}
-use Rattle.sheet.specs.Sheet.{link_count, node_count, trailer_of, sheet_of}
-use Rattle.sheet.specs.Machine.{Link, Machine, weight_of, bits_of, link_fields, leaving, node_fields, parts_for}
+use Rattle.sheet.specs.declared.form.Form.{Form}
+use Rattle.sheet.specs.Words.{word_length, bytes_of_all}
+use Rattle.sheet.specs.Sheet.{link_length, node_length, trailer_length, unit_fields, link_count, node_count, trailer_of, sheet_of}
+use Rattle.sheet.specs.Answers.{parts}
+use Rattle.sheet.specs.Machine.{Link, Machine, unit_in, weight_of, bits_of, link_fields, leaving, node_fields, parts_for}
 use Rattle.sheet.proofs.Bytes.{bytes_of_all-append, length-bytes_of_all, sets-words}
-use Rattle.sheet.proofs.Encoding.{links-are, nodes-are}
+use Rattle.sheet.proofs.Writing.{trailer-size}
+use Rattle.sheet.proofs.Encoding.{links-are, nodes-are, form-is}
 use Rattle.sheet.proofs.Round.{Below}
 use Rattle.machine.specs.Readings.{Reading, final}
 use Rattle.machine.specs.Demand.{◌∈◌}
@@ -28,7 +31,7 @@ use Rattle.shortest_distance.specs.Handed.{handed_over}
 use Rattle.std.specs.Prelude as Core
 use Rattle.sheet.specs.declared.refusal.Refusal.{Refusal}
 use Rattle.list_answer.specs.declared.Listed.{Listed}
-use Rattle.single_path.specs.SingleWords.{way_links, way_nodes, way_trailer, way_words, way_listed}
+use Rattle.single_path.specs.SingleWords.{way_links, way_nodes, way_trailer, way_words, way_length, way_listed}
 use Rattle.list_answer.specs.ListAnswer.{listed_by, listed_in, listed_over, state_words}
 use Rattle.list_answer.proofs.Stores.{length-states}
 
@@ -38,35 +41,43 @@ unfolding way_links
 length-way_links bytes s [] = refl
 length-way_links bytes s (l ∷ ls) = omega (arith, length-way_links bytes (suc s) ls)
 
-module _ (bytes : List ℕ) (bits : ℕ) (way : List ℕ) where
+module _ (bytes : List ℕ) (form : Form) (bits : ℕ) (way : List ℕ) where
   length_front : (length (way_links bytes 0 way) ≡ 4 * length way) × (length (way_nodes bits (length way)) ≡ 3 * length way + 3)
   length_front = (length-way_links bytes 0 way, omega (arith, length-states (length way)))
 
-  pub length-way_words : length (bytes_of_all (way_words bytes bits way)) ≡ 32 * length way + 32
+  length-trailer : (k : ℕ) → 4 * length (way_trailer form k) ≡ trailer_length form
+  length-trailer k = trailer-size (parts [] [] 0 form)
+
+  pub length-way_words : length (bytes_of_all (way_words bytes form bits way)) ≡ way_length form (length way)
   length-way_words =
       let a = way_links bytes 0 way in
       let b = way_nodes bits (length way) in
-      let c = way_trailer (length way) in
-      omega (arith, length-bytes_of_all (way_words bytes bits way), length-append (a ++ b ++ c) way, length-append (a ++ b) c, length-append a b, length_front.0, length_front.1)
+      let c = way_trailer form (length way) in
+      omega (arith, length-bytes_of_all (way_words bytes form bits way), length-append (a ++ b ++ c) way, length-append (a ++ b) c, length-append a b, length_front.0, length_front.1, length-trailer (length way))
+
+  -- where the parts begin behind the links, for so many
+  abbrev trailer-at : ℕ → ℕ
+  trailer-at k = link_length * k + node_length * k + node_length
 
   -- the four parts stored one after the other
   way-stores : (old : List ℕ) (k : ℕ) → k ≡ length way
-      → sets (sets (sets (sets old 0 (bytes_of_all (way_links bytes 0 way))) (16 * k) (bytes_of_all (way_nodes bits k))) (16 * k + 12 * k + 12) (bytes_of_all (way_trailer k))) (16 * k + 12 * k + 12 + 20) (bytes_of_all way) ≡ sets old 0 (bytes_of_all (way_words bytes bits way))
+      → sets (sets (sets (sets old 0 (bytes_of_all (way_links bytes 0 way))) (link_length * k) (bytes_of_all (way_nodes bits k))) (trailer-at k) (bytes_of_all (way_trailer form k))) (trailer-at k + trailer_length form) (bytes_of_all way) ≡ sets old 0 (bytes_of_all (way_words bytes form bits way))
   way-stores old k e =
       let a = way_links bytes 0 way in
       let b = way_nodes bits (length way) in
-      let c = way_trailer (length way) in
-      (λ i. sets (sets (sets (sets old 0 (bytes_of_all a)) (16 * e i) (bytes_of_all (way_nodes bits (e i)))) (16 * e i + 12 * e i + 12) (bytes_of_all (way_trailer (e i)))) (16 * e i + 12 * e i + 12 + 20) (bytes_of_all way))
-      ∙ ap (λ (l : List ℕ). sets (sets l (16 * length way + 12 * length way + 12) (bytes_of_all c)) (16 * length way + 12 * length way + 12 + 20) (bytes_of_all way)) (sets-words old 0 a b (16 * length way) (omega (arith, length_front.0)))
-      ∙ ap (λ (l : List ℕ). sets l (16 * length way + 12 * length way + 12 + 20) (bytes_of_all way)) (sets-words old 0 (a ++ b) c (16 * length way + 12 * length way + 12) (omega (arith, length-append a b, length_front.0, length_front.1)))
-      ∙ sets-words old 0 (a ++ b ++ c) way (16 * length way + 12 * length way + 12 + 20) (omega (arith, length-append (a ++ b) c, length-append a b, length_front.0, length_front.1))
+      let c = way_trailer form (length way) in
+      let at = trailer-at (length way) in
+      (λ i. sets (sets (sets (sets old 0 (bytes_of_all a)) (link_length * e i) (bytes_of_all (way_nodes bits (e i)))) (trailer-at (e i)) (bytes_of_all (way_trailer form (e i)))) (trailer-at (e i) + trailer_length form) (bytes_of_all way))
+      ∙ ap (λ (l : List ℕ). sets (sets l at (bytes_of_all c)) (at + trailer_length form) (bytes_of_all way)) (sets-words old 0 a b (link_length * length way) (omega (arith, length_front.0)))
+      ∙ ap (λ (l : List ℕ). sets l (at + trailer_length form) (bytes_of_all way)) (sets-words old 0 (a ++ b) c at (omega (arith, length-append a b, length_front.0, length_front.1)))
+      ∙ sets-words old 0 (a ++ b ++ c) way (at + trailer_length form) (omega (arith, length-append (a ++ b) c, length-append a b, length_front.0, length_front.1, length-trailer (length way)))
 
   -- by what the calls leave
-  pub way-stored : (old : List ℕ) (k field : ℕ) (one two three four : List ℕ) → k ≡ length way → field ≡ bits → one ≡ sets old 0 (bytes_of_all (way_links bytes 0 way)) → two ≡ sets one (16 * k) (bytes_of_all (way_nodes field k))
-      → three ≡ sets two (16 * k + 12 * k + 12) (bytes_of_all (way_trailer k)) → four ≡ sets three (16 * k + 12 * k + 12 + 20) (bytes_of_all way) → four ≡ sets old 0 (bytes_of_all (way_words bytes bits way))
-  way-stored old k field one two three four e f a b c d =
+  pub way-stored : (old : List ℕ) (k field size : ℕ) (one two three four : List ℕ) → k ≡ length way → field ≡ bits → size ≡ trailer_length form → one ≡ sets old 0 (bytes_of_all (way_links bytes 0 way)) → two ≡ sets one (link_length * k) (bytes_of_all (way_nodes field k))
+      → three ≡ sets two (trailer-at k) (bytes_of_all (way_trailer form k)) → four ≡ sets three (trailer-at k + size) (bytes_of_all way) → four ≡ sets old 0 (bytes_of_all (way_words bytes form bits way))
+  way-stored old k field size one two three four e f g a b c d =
       d
-      ∙ ap (λ (x : List ℕ). sets x (16 * k + 12 * k + 12 + 20) (bytes_of_all way)) (c ∙ ap (λ (x : List ℕ). sets x (16 * k + 12 * k + 12) (bytes_of_all (way_trailer k))) (b ∙ λ i. sets (a i) (16 * k) (bytes_of_all (way_nodes (f i) k))))
+      ∙ (λ i. sets ((c ∙ ap (λ (x : List ℕ). sets x (trailer-at k) (bytes_of_all (way_trailer form k))) (b ∙ λ i. sets (a i) (link_length * k) (bytes_of_all (way_nodes (f i) k)))) i) (trailer-at k + g i) (bytes_of_all way))
       ∙ way-stores old k e
 
 -- ---- the links of the way as a machine's
@@ -86,14 +97,14 @@ leaving-one m s (l ∷ ls) v a b = go (ℕ_discrete s v) (λ p q. leaving-one m 
     go (yes e) ih = ap (λ (t : Bool). cond t (suc (leaving (back_links m (suc s) ls) v)) (leaving (back_links m (suc s) ls) v)) (eq-eqb s v e) ∙ ap suc (leaving-below m (suc s) ls v (omega arith))
     go (no e) ih = ap (λ (t : Bool). cond t (suc (leaving (back_links m (suc s) ls) v)) (leaving (back_links m (suc s) ls) v)) (ne_eqb s v e) ∙ ih (omega (arith, e)) (omega arith)
 
-states-are : (ks : List Link) (v n : ℕ) → ((i : ℕ) → v ≤ i → i < v + n → leaving ks i ≡ 1) → node_fields ks v (replicate n none) ≡ state_words n
+states-are : (j : ℕ) (ks : List Link) (v n : ℕ) → ((i : ℕ) → v ≤ i → i < v + n → leaving ks i ≡ 1) → node_fields j ks v (replicate n none) ≡ state_words n
 unfolding node_fields state_words
-states-are ks v zero h = refl
-states-are ks v (suc n) h = λ i. h v (omega arith) (omega arith) i ∷ 0 ∷ 0 ∷ states-are ks (suc v) n (λ j a b. h j (omega arith) (omega arith)) i
+states-are j ks v zero h = refl
+states-are j ks v (suc n) h = λ i. h v (omega arith) (omega arith) i ∷ 0 ∷ 0 ∷ states-are j ks (suc v) n (λ u a b. h u (omega arith) (omega arith)) i
 
 -- ---- the result of a way
 module _ (bytes : List ℕ) (m : Machine) (f : SheetFields bytes (length m.links) (length m.finals) m) (whole : Below 256 bytes) where
-  links-are-words : (s : ℕ) (ls : List ℕ) → ((l : ℕ) → l ∈ ls → l < length m.links) → flat_map link_fields (back_links m (suc s) ls) ≡ way_links bytes s ls
+  links-are-words : (s : ℕ) (ls : List ℕ) → ((l : ℕ) → l ∈ ls → l < length m.links) → flat_map (link_fields (unit_in m)) (back_links m (suc s) ls) ≡ way_links bytes s ls
   unfolding flat_map back_links way_links
   links-are-words s [] h = refl
   links-are-words s (l ∷ ls) h =
@@ -101,7 +112,7 @@ module _ (bytes : List ℕ) (m : Machine) (f : SheetFields bytes (length m.links
       let down : suc s - 1 ≡ s = omega arith in
       λ i. (sym (f.ilabel-at l b) i ∷ sym (f.olabel-at l b) i ∷ sym (f.link-bits whole l b) i ∷ down i ∷ []) ++ links-are-words (suc s) ls (λ k q. h k (Memᴰ.tail q)) i
 
-  module _ (x : Reading) (bits : ℕ) (way : List ℕ) (way-is : way ≡ reverse x.run) (inside : (l : ℕ) → l ∈ reverse x.run → l < length m.links) (ends : final m x.end ≡ some (weight_of bits)) (same : bits_of (weight_of bits) ≡ bits) where
+  module _ (x : Reading) (bits : ℕ) (way : List ℕ) (way-is : way ≡ reverse x.run) (inside : (l : ℕ) → l ∈ reverse x.run → l < length m.links) (ends : final m x.end ≡ some (weight_of (unit_in m) bits)) (same : bits_of (unit_in m) (weight_of (unit_in m) bits) ≡ bits) where
     abbrev back : List ℕ
     back = reverse x.run
 
@@ -124,23 +135,23 @@ module _ (bytes : List ℕ) (m : Machine) (f : SheetFields bytes (length m.links
     nodes-part : (parts_for found).nodes ≡ way_nodes bits (length way)
     unfolding parts_for node_fields
     nodes-part =
-        ap (λ (o : Option Tropical). node_fields (back_links m 1 back) 0 (o ∷ replicate (length x.run) none)) ends
-        ∙ (λ i. leaving-below m 1 back 0 (omega arith) i ∷ 1 ∷ same i ∷ states-are (back_links m 1 back) 1 (length x.run) (λ v a b. leaving-one m 1 back v a (omega (arith, long))) i)
+        ap (λ (o : Option Tropical). node_fields (unit_in m) (back_links m 1 back) 0 (o ∷ replicate (length x.run) none)) ends
+        ∙ (λ i. leaving-below m 1 back 0 (omega arith) i ∷ 1 ∷ same i ∷ states-are (unit_in m) (back_links m 1 back) 1 (length x.run) (λ v a b. leaving-one m 1 back v a (omega (arith, long))) i)
         ∙ ap (λ (n : ℕ). way_nodes bits n) (sym (ap length way-is ∙ long))
 
-    trailer-part : trailer_of (parts_for found) ≡ way_trailer (length way)
+    trailer-part : trailer_of (parts_for found) ≡ way_trailer m.form (length way)
     unfolding parts_for
     trailer-part =
         let l : link_count (parts_for found) ≡ length way = links-are found ∙ links-count in
         let n : node_count (parts_for found) ≡ length way + 1 = nodes-are found ∙ nodes-count in
         let s : length x.run ≡ length way = sym (ap length way-is ∙ long) in
-        λ i. 0 ∷ 16 * l i ∷ n i ∷ l i ∷ s i ∷ []
+        λ i. 0 ∷ link_length * l i ∷ n i ∷ l i ∷ s i ∷ unit_fields (form-is found i)
 
-    pub way-bytes : result_bytes (best_result m x) ≡ bytes_of_all (way_words bytes bits way)
+    pub way-bytes : result_bytes (best_result m x) ≡ bytes_of_all (way_words bytes m.form bits way)
     unfolding result_bytes sheet_of
     way-bytes =
         (λ i. bytes_of_all (links-part i ++ nodes-part i ++ trailer-part i) ++ bytes_of_all ((words_are m x ∙ sym way-is) i))
-        ∙ sym (bytes_of_all-append (way_links bytes 0 way ++ way_nodes bits (length way) ++ way_trailer (length way)) way)
+        ∙ sym (bytes_of_all-append (way_links bytes 0 way ++ way_nodes bits (length way) ++ way_trailer m.form (length way)) way)
 
 -- ---- what is answered, by the words
 abbrev pub made : ℕ → ℕ → ℕ → Core.Result Listed Refusal
@@ -168,12 +179,17 @@ long-enough ws old size nodes links e h = (
 )
 
 -- a way of so many links
-module _ (bytes : List ℕ) (bits : ℕ) (way : List ℕ) (count : ℕ) (counted : count ≡ length way) (old : List ℕ) where
-  pub way-short : length old < 32 * count + 32 → (Core.Err Refusal.Room ≡ way_listed way (length old)) × (old ≡ handed_over (way_words bytes bits way) old)
-  way-short h = too_short (way_words bytes bits way) old (32 * length way + 32) (length way + 1) (length way) (length-way_words bytes bits way) (omega arith)
+module _ (bytes : List ℕ) (form : Form) (bits : ℕ) (way : List ℕ) (count : ℕ) (counted : count ≡ length way) (old : List ℕ) where
+  -- its bytes, by the trailer's
+  way-size : (size : ℕ) → size ≡ trailer_length form → (link_length + node_length + word_length) * count + node_length + size ≡ way_length form (length way)
+  way-size size e = omega (arith, counted, e)
 
-  pub way_long : (new : List ℕ) → 32 * count + 32 ≤ length old → new ≡ sets old 0 (bytes_of_all (way_words bytes bits way))
-      → (made (count + 1) count 0 ≡ way_listed way (length old)) × (new ≡ handed_over (way_words bytes bits way) old)
-  way_long new h e =
-      let a = long-enough (way_words bytes bits way) old (32 * length way + 32) (length way + 1) (length way) (length-way_words bytes bits way) (omega arith) in
-      (ap (λ (k : ℕ). made (k + 1) k 0) counted ∙ a.0, e ∙ a.1)
+  pub way-short : (size : ℕ) → size ≡ trailer_length form → length old < (link_length + node_length + word_length) * count + node_length + size
+      → (Core.Err Refusal.Room ≡ way_listed form way (length old)) × (old ≡ handed_over (way_words bytes form bits way) old)
+  way-short size e h = too_short (way_words bytes form bits way) old (way_length form (length way)) (length way + 1) (length way) (length-way_words bytes form bits way) (omega (arith, way-size size e))
+
+  pub way_long : (new : List ℕ) (size : ℕ) → size ≡ trailer_length form → (link_length + node_length + word_length) * count + node_length + size ≤ length old → new ≡ sets old 0 (bytes_of_all (way_words bytes form bits way))
+      → (made (count + 1) count 0 ≡ way_listed form way (length old)) × (new ≡ handed_over (way_words bytes form bits way) old)
+  way_long new size e h w =
+      let a = long-enough (way_words bytes form bits way) old (way_length form (length way)) (length way + 1) (length way) (length-way_words bytes form bits way) (omega (arith, way-size size e)) in
+      (ap (λ (k : ℕ). made (k + 1) k 0) counted ∙ a.0, w ∙ a.1)

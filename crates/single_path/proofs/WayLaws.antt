@@ -6,6 +6,7 @@ use mathlib.Core.List.{List, [], ◌∷◌, reverse, reverse-append}
 use Prim.Native.Nat.{ℕ, zero, suc, ◌+◌, ◌*◌, ◌≤◌, ◌<◌}
 use native.Mathlib.Omega.{arith}
 use lib.ListN.{length}
+use Rattle.sheet.specs.Sheet.{link_length}
 use Rattle.sheet.specs.Machine.{Machine}
 use Rattle.machine.specs.Readings.{link, is_at}
 use Rattle.machine.specs.Climbs.{Climbs}
@@ -15,6 +16,7 @@ use Rattle.machine.proofs.Parents.{parent_is, term}
 use Rattle.machine.proofs.Reached.{finite-reached, reached-above}
 use Rattle.machine.proofs.Runs.{at_some}
 use Rattle.std.specs.Prelude as Core
+use Rattle.slots.specs.Slots.{slot_length}
 use Rattle.shortest_distance.specs.declared.parent.Parent.{Parent}
 use Rattle.shortest_distance.specs.ParentWords.{by, parent_at, parent_from}
 use Rattle.single_path.specs.SingleWords.{on_from, way_back, Traced}
@@ -60,16 +62,16 @@ module _ (m : Machine) (c : Climbs m) where
             ap (λ (r : List ℕ). l ∷ r) (ih (link m l).source (omega arith)) ∙ sym (reverse-append (follow m f (link m l).source) (l ∷ []))
 
     -- ---- what the code asks of the slots
-    pub traced-from : (bytes : List ℕ) (end : ℕ) → end < length m.finals → 8 * length m.finals ≤ length work → 16 * length m.links ≤ length bytes → Traced bytes work end
+    pub traced-from : (bytes : List ℕ) (end : ℕ) → end < length m.finals → slot_length * length m.finals ≤ length work → link_length * length m.links ≤ length bytes → Traced bytes work end
     traced-from bytes end h room long = record {
       falls = record { slots = omega arith; sources = λ v l u b e. (by-link v l u (omega arith) e).0 };
       among = λ v l u b e. (by-link v l u (omega arith) e).1;
     }
       where
-        by-link : (v l u : ℕ) → v < length m.finals → parent_at work v ≡ by l u → (u < v) × (16 * l + 16 ≤ length bytes)
+        by-link : (v l u : ℕ) → v < length m.finals → parent_at work v ≡ by l u → (u < v) × (link_length * l + link_length ≤ length bytes)
         by-link v l u b e = go (parent m v) refl (sym (parents v b) ∙ e)
           where
-            go : (o : Option ℕ) → parent m v ≡ o → parent_from m o ≡ by l u → (u < v) × (16 * l + 16 ≤ length bytes)
+            go : (o : Option ℕ) → parent m v ≡ o → parent_from m o ≡ by l u → (u < v) × (link_length * l + link_length ≤ length bytes)
             go none q w = let z : ◌≡◌ {A = ℕ} 0 1 = cc in absurd (omega arith)
             go (some k) q w =
                 let p = parent_up v k q in

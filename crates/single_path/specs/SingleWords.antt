@@ -3,13 +3,17 @@
 use Rattle.std.specs.Prelude.{◌≡◌, false, cond, List, [], ◌∷◌, ◌++◌, ℕ, zero, suc, ◌+◌, ◌*◌, ◌≤◌, ◌<◌, ltb, length, Float, Option, Some, None, Result}
 use Rattle.std.specs.Float.Ieee.{lt}
 use Rattle.std.specs.Float.Ieee as Ieee
+use Rattle.sheet.specs.declared.form.Form.{Form}
+use Rattle.sheet.specs.Words.{word_length}
+use Rattle.sheet.specs.Sheet.{link_length, node_length, trailer_length}
 use Rattle.sheet.specs.Records.{final_at}
-use Rattle.sheet.specs.Accepted.{ending_at}
+use Rattle.sheet.specs.Accepted.{trailer_in, trailer_fields, ending_at}
 use Rattle.distance.specs.Held.{Distance, total_in}
 use Rattle.shortest_distance.specs.declared.parent.Parent.{Parent}
 use Rattle.shortest_distance.specs.ParentWords.{by, parent_at}
 use Rattle.shortest_distance.specs.NodeSlots.{distance_at}
 use Rattle.sheet.specs.declared.refusal.Refusal.{Refusal}
+use Rattle.slots.specs.Slots.{slot_length}
 use Rattle.list_answer.specs.declared.Listed.{Listed}
 use Rattle.list_answer.specs.ListAnswer.{listed_by, link_to, state_words}
 
@@ -37,13 +41,13 @@ best_below bytes links work (suc v) =
 -- ---- the way back from the end
 -- Parents' sources fall from a node on.
 pub record Falls (work : List ℕ) (end : ℕ) : Type 0 where
-  pub slots : 8 * end + 8 ≤ length work
+  pub slots : slot_length * end + slot_length ≤ length work
   pub sources : (v l u : ℕ) → v ≤ end → parent_at work v ≡ by l u → u < v
 
 -- And each parent is a link of the sheet.
 pub record Traced (bytes work : List ℕ) (end : ℕ) : Type 0 where
   pub falls : Falls work end
-  pub among : (v l u : ℕ) → v ≤ end → parent_at work v ≡ by l u → 16 * l + 16 ≤ length bytes
+  pub among : (v l u : ℕ) → v ≤ end → parent_at work v ≡ by l u → link_length * l + link_length ≤ length bytes
 
 -- the parents' links from v back, the last first; v steps are enough
 abbrev pub on_from : Option Parent → (ℕ → List ℕ) → List ℕ
@@ -57,7 +61,7 @@ way_back work (suc f) v = on_from (parent_at work v) (way_back work f)
 -- How the way back goes on from v, by the parent there: it ends, or steps to a lower node by a link of the sheet.
 abbrev pub Back : List ℕ → List ℕ → ℕ → Option Parent → Type 0
 Back bytes work v None = way_back work v v ≡ []
-Back bytes work v (Some p) = (p.source < v) × (16 * p.link + 16 ≤ length bytes) × (way_back work v v ≡ p.link ∷ way_back work p.source p.source)
+Back bytes work v (Some p) = (p.source < v) × (link_length * p.link + link_length ≤ length bytes) × (way_back work v v ≡ p.link ∷ way_back work p.source p.source)
 
 -- the links of a way, the last first, to the states from s on
 unfoldable pub way_links : List ℕ → ℕ → List ℕ → List ℕ
@@ -68,17 +72,22 @@ way_links bytes s (l ∷ ls) = link_to bytes l s ++ way_links bytes (suc s) ls
 abbrev pub way_nodes : ℕ → ℕ → List ℕ
 way_nodes bits n = 0 ∷ 1 ∷ bits ∷ state_words n
 
-abbrev pub way_trailer : ℕ → List ℕ
-way_trailer k = 0 ∷ 16 * k ∷ (k + 1) ∷ k ∷ k ∷ []
+-- the trailer of the form of the sheet
+abbrev pub way_trailer : Form → ℕ → List ℕ
+way_trailer form k = trailer_fields (trailer_in k (k + 1) k form)
 
 -- the words of the answer: the way's links, states and trailer, and the link numbers
-abbrev pub way_words : List ℕ → ℕ → List ℕ → List ℕ
-way_words bytes bits way = way_links bytes 0 way ++ way_nodes bits (length way) ++ way_trailer (length way) ++ way
+abbrev pub way_words : List ℕ → Form → ℕ → List ℕ → List ℕ
+way_words bytes form bits way = way_links bytes 0 way ++ way_nodes bits (length way) ++ way_trailer form (length way) ++ way
 
 -- and of the way back from a node of a sheet with so many links
-abbrev pub way_from : List ℕ → ℕ → List ℕ → ℕ → List ℕ
-way_from bytes links work end = way_words bytes (final_at bytes links end) (way_back work end end)
+abbrev pub way_from : List ℕ → ℕ → Form → List ℕ → ℕ → List ℕ
+way_from bytes links form work end = way_words bytes form (final_at bytes links end) (way_back work end end)
 
--- what is answered to an area of so many bytes: a way takes 32 bytes a link and 32 more
-abbrev pub way_listed : List ℕ → ℕ → Result Listed Refusal
-way_listed way room = listed_by (ltb room (32 * length way + 32)) (length way + 1) (length way) 0
+-- its bytes: for each link its record, a state and its number, and besides the final state and the trailer
+abbrev pub way_length : Form → ℕ → ℕ
+way_length form k = (link_length + node_length + word_length) * k + node_length + trailer_length form
+
+-- what is answered to an area of so many bytes
+abbrev pub way_listed : Form → List ℕ → ℕ → Result Listed Refusal
+way_listed form way room = listed_by (ltb room (way_length form (length way))) (length way + 1) (length way) 0

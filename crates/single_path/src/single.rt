@@ -1,32 +1,31 @@
 // The best reading (single_shortest_path and its backtrace in shortest_path.rs of rustfst), from the
 // distances and parents that relaxation leaves in a slot a node.
-ghost use Rattle.std.specs.Prelude.{◌≡◌, ℕ, ◌+◌, ◌*◌, ◌≤◌, ◌<◌, length, drop};
+ghost use Rattle.std.specs.Prelude.{◌≡◌, ◌+◌, ◌*◌, ◌≤◌, ◌<◌, length, drop};
 ghost use Rattle.std.proofs.lemmas.List.Edits.{sets};
-ghost use Rattle.sheet.specs.Words.{bytes_of_all};
+ghost use Rattle.sheet.specs.Words.{word_length, bytes_of_all};
+ghost use Rattle.sheet.specs.Sheet.{link_length, node_length};
+ghost use Rattle.slots.specs.Slots.{slot_length};
 ghost use Rattle.search.specs.ListMachine.{result_for};
 ghost use Rattle.shortest_distance.specs.Handed.{handed_over};
 ghost use Rattle.sheet.specs.Machine.{machine as machine_in};
 ghost use Rattle.single_path.specs.SingleWords.{total_value, best_below, Traced, way_back, Back};
-ghost use Rattle.single_path.specs.SingleWords.{way_links, way_nodes, way_from, way_listed};
+ghost use Rattle.single_path.specs.SingleWords.{way_links, way_nodes, way_from, way_length, way_listed};
 ghost use Rattle.list_answer.specs.ListAnswer.{listed_in, listed_over};
 
 use list_answer::Listed;
 use machine::climbing::Machine;
 use sheet::refusal::Refusal;
-use sheet::tr::{TRAILER, Trailer};
-use sheet::words::{are_bytes, put_word, put_words};
+use sheet::tr::{LINK, NODE, Trailer};
+use sheet::words::{WORD, are_bytes, put_word, put_words};
 use shortest_distance::parent::{Parent, parent_at};
 use slots::SLOT;
 
-// The bytes of an answer: for each link its record, a state and its number, and besides the final
-// state and the trailer.
-const PER_LINK: usize = 16 + 12 + 4;
-
-const BESIDES: usize = 12 + TRAILER;
+// The bytes that an answer has for each link: its record, a state and its number.
+const PER_LINK: usize = LINK + NODE + WORD;
 
 // The total of a node, its distance and its final weight, or infinite where it has none.
 fn total_at(machine: &Machine, v: u32, work: &[u32]) -> f32
-    requires { (v < machine.now.sheet.nodes) × (8 * v + 1 < length work.now) }
+    requires { (v < machine.now.sheet.nodes) × (slot_length * v + 1 < length work.now) }
     ensures { result ≡ total_value machine.now.sheet.bytes.now machine.now.sheet.links work.now v }
 {
     let Some(bits) = machine.sheet.final_bits(v) else {
@@ -37,7 +36,7 @@ fn total_at(machine: &Machine, v: u32, work: &[u32]) -> f32
 
 // The lowest node with the least total, where that is finite. A strict test keeps the lowest.
 fn best_end(machine: &Machine, work: &[u32]) -> Option<u32>
-    requires { 8 * machine.now.sheet.nodes ≤ length work.now }
+    requires { slot_length * machine.now.sheet.nodes ≤ length work.now }
     ensures { result ≡ (best_below machine.now.sheet.bytes.now machine.now.sheet.links work.now machine.now.sheet.nodes).end }
 {
     let mut best = None;
@@ -54,12 +53,12 @@ fn best_end(machine: &Machine, work: &[u32]) -> Option<u32>
 
 // Stores the states of a way of so many links, the final one first.
 fn put_states(at: usize, bits: u32, count: u32, res: &mut [u8])
-    requires { at + 12 * count + 12 ≤ length res.old }
+    requires { at + node_length * count + node_length ≤ length res.old }
     ensures { res.new ≡ sets res.old at (bytes_of_all (way_nodes bits count)) }
 {
     let last = [0, 1, bits];
     put_words(res, at, &last);
-    list_answer::put_states(count as usize, res, at + 12);
+    list_answer::put_states(count as usize, res, at + NODE);
 }
 
 // The way back from a node by way of the parents: its links, the last first. Its passes are loops: an
@@ -98,7 +97,7 @@ impl<'a> Way<'a> {
 
     // Stores its links.
     fn put_links(&self, res: &mut [u8])
-        requires { 16 * length (way_back self.now.work.now self.now.end self.now.end) ≤ length res.old }
+        requires { link_length * length (way_back self.now.work.now self.now.end self.now.end) ≤ length res.old }
         ensures { res.new
             ≡ sets res.old 0 (bytes_of_all (way_links self.now.machine.sheet.bytes.now 0 (way_back self.now.work.now self.now.end self.now.end))) }
     {
@@ -110,7 +109,7 @@ impl<'a> Way<'a> {
                 parent.link,
                 i,
                 res,
-                16 * (i as usize),
+                LINK * (i as usize),
             );
             v = parent.source;
             i += 1;
@@ -119,7 +118,7 @@ impl<'a> Way<'a> {
 
     // Stores the numbers of its links.
     fn put_numbers(&self, at: usize, res: &mut [u8])
-        requires { at + 4 * length (way_back self.now.work.now self.now.end self.now.end) ≤ length res.old }
+        requires { at + word_length * length (way_back self.now.work.now self.now.end self.now.end) ≤ length res.old }
         ensures { res.new
             ≡ sets res.old at (bytes_of_all (way_back self.now.work.now self.now.end self.now.end)) }
     {
@@ -128,35 +127,36 @@ impl<'a> Way<'a> {
         while let Some(parent) = self.parent(v) {
             put_word(res, next, parent.link);
             v = parent.source;
-            next += 4;
+            next += WORD;
         }
     }
 
     // Stores the answer for it, which has so many links.
     fn put(&self, count: u32, res: &mut [u8])
         requires counted { (count ≡ length (way_back self.now.work.now self.now.end self.now.end)) × (count ≤ self.now.end) }
-        requires room { 32 * count + 32 ≤ length res.old }
+        requires room { way_length self.now.machine.sheet.form count ≤ length res.old }
         ensures { res.new
-            ≡ sets res.old 0 (bytes_of_all (way_from self.now.machine.sheet.bytes.now self.now.machine.sheet.links self.now.work.now self.now.end)) }
+            ≡ sets res.old 0 (bytes_of_all (way_from self.now.machine.sheet.bytes.now self.now.machine.sheet.links self.now.machine.sheet.form self.now.work.now self.now.end)) }
     {
         let bits = self.machine.sheet.final_bits(self.end).unwrap_or(0);
-        let states = 16 * (count as usize);
-        let trailer_at = states + 12 * (count as usize) + 12;
-        let trailer = Trailer::of(count, count + 1, count);
+        let form = self.machine.sheet.form;
+        let states = LINK * (count as usize);
+        let trailer_at = states + NODE * (count as usize) + NODE;
+        let trailer = Trailer::of(count, count + 1, count, form);
         self.put_links(res);
         put_states(states, bits, count, res);
         trailer.put(res, trailer_at);
-        self.put_numbers(trailer_at + TRAILER, res);
+        self.put_numbers(trailer_at + form.trailer(), res);
     }
 
     // The way as a machine from its start to the end, where there is room.
     fn backtrace(&self, res: &mut [u8]) -> Result<Listed, Refusal>
-        ensures value { result ≡ way_listed (way_back self.now.work.now self.now.end self.now.end) (length res.old) }
+        ensures value { result ≡ way_listed self.now.machine.sheet.form (way_back self.now.work.now self.now.end self.now.end) (length res.old) }
         ensures res_after { res.new
-            ≡ handed_over (way_from self.now.machine.sheet.bytes.now self.now.machine.sheet.links self.now.work.now self.now.end) res.old }
+            ≡ handed_over (way_from self.now.machine.sheet.bytes.now self.now.machine.sheet.links self.now.machine.sheet.form self.now.work.now self.now.end) res.old }
     {
         let count = self.length();
-        if res.len() < PER_LINK * (count as usize) + BESIDES {
+        if res.len() < PER_LINK * (count as usize) + NODE + self.machine.sheet.form.trailer() {
             return Err(Refusal::Room);
         }
         self.put(count, res);
@@ -175,18 +175,18 @@ pub fn single_shortest_path(
     work: &mut [u32],
     res: &mut [u8],
 ) -> Result<Listed, Refusal>
-    requires { 8 * machine.now.sheet.nodes ≤ length work.old }
+    requires { slot_length * machine.now.sheet.nodes ≤ length work.old }
     ensures value { result
         ≡ listed_in (result_for (machine_in machine.now.sheet.bytes.now) 1) (length res.old) }
     ensures res_after { res.new
         ≡ listed_over (result_for (machine_in machine.now.sheet.bytes.now) 1) res.old }
     ensures work_len_unchanged { length work.new ≡ length work.old }
-    ensures work_unchanged { drop (8 * machine.now.sheet.nodes) work.new ≡ drop (8 * machine.now.sheet.nodes) work.old }
+    ensures work_unchanged { drop (slot_length * machine.now.sheet.nodes) work.new ≡ drop (slot_length * machine.now.sheet.nodes) work.old }
 {
     are_bytes(machine.sheet.bytes);
     shortest_distance::make(machine, work);
     let Some(end) = best_end(machine, work) else {
-        return list_answer::put_none(res);
+        return list_answer::put_none(res, machine.sheet.form);
     };
     let way = Way {
         machine: *machine,

@@ -2,7 +2,7 @@
 #![tactic(auto)]
 
 ghost use Rattle.std.specs.Prelude.{◌≡◌, ◌*◌, ◌≤◌, length};
-ghost use Rattle.slots.specs.Slots.{number_in, cleared};
+ghost use Rattle.slots.specs.Slots.{slot_length, number_in, cleared};
 
 // The words of a slot.
 pub const SLOT: usize = 8;
@@ -21,7 +21,7 @@ pub fn number_in(word: u32) -> Option<u32>
 // Leaves the first slots zero, so that nothing of a run remains. The count goes beside the area, which
 // is lent from C and may be longer.
 pub fn clear(work: &mut [u32], slots: u32)
-    requires { 8 * slots ≤ length work.old }
+    requires { slot_length * slots ≤ length work.old }
     ensures { work.new ≡ cleared slots work.old }
 {
     let end = SLOT * (slots as usize);

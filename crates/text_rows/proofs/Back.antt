@@ -18,6 +18,7 @@ use Rattle.tropical_weight.specs.Tropical.{fin}
 use Rattle.tropical_weight.specs.Grid as Grid
 use Rattle.tropical_weight.proofs.Exact.{bits_back}
 use Rattle.tropical_weight.proofs.Grid.{grid_bits-means, units_of-of_k}
+use Rattle.sheet.specs.declared.form.Form.{Form}
 use Rattle.sheet.specs.Below.{sum_below, list_below, all_below}
 use Rattle.sheet.specs.Machine.{bits_of}
 use Rattle.sheet.specs.Sheet.{Parts, link_count, node_count, ilabel, olabel, link_bits, next, count, mark, final_bits, well_marked, barred_bits, on_grid_bits, weight_fits, nodes_fit, nexts_fit, weights_fit}
@@ -33,6 +34,7 @@ use Rattle.text_rows.specs.RowsFor.{in_millionths, millionths, weight_for, link_
 use Rattle.text_rows.proofs.Segments.{segments, same-segments, sum_to, length-links}
 use Rattle.text_rows.proofs.Filled.{Named, named-under, segments-flat, by-threes, finals-two, in_pieces}
 use Rattle.text_rows.proofs.Fitting.{link_on, final-on}
+use Rattle.text_rows.proofs.HasRows.{own-start, last-there}
 use Rattle.text_rows.proofs.Judged.{Fours, fours-at, fours-segments, fours-rows, each_next, nat_abs-neg}
 
 -- ---- a weight's field back
@@ -45,22 +47,22 @@ units-back (negsuc k) = neg (15625 * suc k) (omega arith) ∙ ap (λ (x : ℕ). 
     neg (suc x) h = ap (λ (y : ℕ). neg_ℤ (pos (y * 64 / 1000000))) (let e : 1 + x ≡ suc x = omega arith in e)
 
 -- a field on the grid is that of so many units
-pub units_of_lem : (bits : ℕ) → bits < 4294967296 → on_grid_bits bits ≡ true → (nat_abs (Grid.units_of unit (of_bits binary32 bits)) ≤ weight_limit) × (bits_of (fin (Grid.units_of unit (of_bits binary32 bits))) ≡ bits)
+pub units_of_lem : (bits : ℕ) → bits < 4294967296 → on_grid_bits unit bits ≡ true → (nat_abs (Grid.units_of unit (of_bits binary32 bits)) ≤ weight_limit) × (bits_of unit (fin (Grid.units_of unit (of_bits binary32 bits))) ≡ bits)
 units_of_lem bits h e =
     let g = (grid_bits-means unit (omega arith) weight_limit (omega arith) bits h).0 e in
     let k = g.0 in
     let few : nat_abs k ≤ sum_limit = omega (arith, g.1) in
     let units : Grid.units_of unit (of_bits binary32 bits) ≡ k =
     ap (λ (b : ℕ). Grid.units_of unit (of_bits binary32 b)) (sym g.2) ∙ ap (Grid.units_of unit) (bits_back unit (omega arith) (fin k)) ∙ units_of-of_k unit (omega arith) k few in
-    (subst (λ (z : ℤ). nat_abs z ≤ weight_limit) (sym units) g.1, ap (λ (z : ℤ). bits_of (fin z)) units ∙ g.2)
+    (subst (λ (z : ℤ). nat_abs z ≤ weight_limit) (sym units) g.1, ap (λ (z : ℤ). bits_of unit (fin z)) units ∙ g.2)
 
-field_back : (bits : ℕ) → bits < 4294967296 → weight_fits bits ≡ true → field_of (weight_for bits) ≡ bits
+field_back : (bits : ℕ) → bits < 4294967296 → weight_fits unit bits ≡ true → field_of (weight_for bits) ≡ bits
 unfolding millionths
 field_back bits h e = go (eqb bits barred_bits) refl e
   where
-    go : (b : Bool) → eqb bits barred_bits ≡ b → b || on_grid_bits bits ≡ true → field_of (cond b barred (finite (millionths bits))) ≡ bits
-    go true q e = bits-inf ∙ sym (eqb-true bits barred_bits q)
-    go false q e = ap (λ (z : ℤ). bits_of (fin z)) (units-back (Grid.units_of unit (of_bits binary32 bits))) ∙ (units_of_lem bits h e).1
+    go : (b : Bool) → eqb bits barred_bits ≡ b → b || on_grid_bits unit bits ≡ true → field_of (cond b barred (finite (millionths bits))) ≡ bits
+    go true q e = bits-inf unit ∙ sym (eqb-true bits barred_bits q)
+    go false q e = ap (λ (z : ℤ). bits_of unit (fin z)) (units-back (Grid.units_of unit (of_bits binary32 bits))) ∙ (units_of_lem bits h e).1
 
 on-grid : (k : ℤ) → nat_abs k ≤ weight_limit → on_grid (in_millionths k) ≡ true
 on-grid (pos k) h = λ i. eq-eqb (15625 * k * 64 % 1000000) 0 (omega arith) i && le-leb (15625 * k * 64 / 1000000) weight_limit (omega arith) i
@@ -68,11 +70,11 @@ on-grid (negsuc k) h =
     (λ i. eqb (nat_abs-neg (15625 * suc k) i * 64 % 1000000) 0 && leb (nat_abs-neg (15625 * suc k) i * 64 / 1000000) weight_limit)
     ∙ λ i. eq-eqb (15625 * suc k * 64 % 1000000) 0 (omega arith) i && le-leb (15625 * suc k * 64 / 1000000) weight_limit (omega arith) i
 
-weight-passes : (bits : ℕ) → bits < 4294967296 → weight_fits bits ≡ true → weight_passes (weight_for bits) ≡ true
+weight-passes : (bits : ℕ) → bits < 4294967296 → weight_fits unit bits ≡ true → weight_passes (weight_for bits) ≡ true
 unfolding millionths
 weight-passes bits h e = go (eqb bits barred_bits) e
   where
-    go : (b : Bool) → b || on_grid_bits bits ≡ true → weight_passes (cond b barred (finite (millionths bits))) ≡ true
+    go : (b : Bool) → b || on_grid_bits unit bits ≡ true → weight_passes (cond b barred (finite (millionths bits))) ≡ true
     go true e = refl
     go false e = on-grid (Grid.units_of unit (of_bits binary32 bits)) (units_of_lem bits h e).0
 
@@ -208,7 +210,7 @@ named-finals n (final v w ∷ rs) h = (λ j. cond (ne_eqb v n (λ e. omega (arit
 -- ---- the rows of parts that fit
 module _ (p : Parts) (four : length p.links ≡ 4 * link_count p) (three : length p.nodes ≡ 3 * node_count p)
     (links-below : (i : ℕ) → get_or p.links i 0 < 4294967296) (nodes-below : (i : ℕ) → get_or p.nodes i 0 < 4294967296)
-    (nodes-fit : nodes_fit p ≡ true) (nexts-fit : nexts_fit p ≡ true) (weights-fit : weights_fit p ≡ true) (start-in : p.start < node_count p) where
+    (nodes-fit : nodes_fit p ≡ true) (nexts-fit : nexts_fit p ≡ true) (short : p.form ≡ Form.Short) (weights-fit : weights_fit p ≡ true) (start-in : p.start < node_count p) where
   abbrev N : ℕ
   N = node_count p
 
@@ -291,7 +293,7 @@ module _ (p : Parts) (four : length p.links ≡ 4 * link_count p) (three : lengt
       let one : 4 * l + 1 ≡ suc k = omega arith in
       let two : 4 * l + 2 ≡ suc (suc k) = omega arith in
       let more : 4 * l + 3 ≡ suc (suc (suc k)) = omega arith in
-      (λ i. get_or ls k 0 ∷ get_or ls (one i) 0 ∷ (field_back (link_bits p l) (links-below (4 * l + 2)) (link_on p weights-fit l h) ∙ ap (λ (x : ℕ). get_or ls x 0) two) i ∷ get_or ls (more i) 0 ∷ [])
+      (λ i. get_or ls k 0 ∷ get_or ls (one i) 0 ∷ (field_back (link_bits p l) (links-below (4 * l + 2)) (link_on p short weights-fit l h) ∙ ap (λ (x : ℕ). get_or ls x 0) two) i ∷ get_or ls (more i) 0 ∷ [])
       ∙ sym (ap (take 4) (drop-cons ls k 0 (omega (arith, four)) ∙ ap (λ (r : List ℕ). get_or ls k 0 ∷ r) (drop-cons ls (suc k) 0 (omega (arith, four))
       ∙ ap (λ (r : List ℕ). get_or ls (suc k) 0 ∷ r) (drop-cons ls (suc (suc k)) 0 (omega (arith, four))
       ∙ ap (λ (r : List ℕ). get_or ls (suc (suc k)) 0 ∷ r) (drop-cons ls (suc (suc (suc k))) 0 (omega (arith, four)))))))
@@ -383,8 +385,8 @@ module _ (p : Parts) (four : length p.links ≡ 4 * link_count p) (three : lengt
       go true e = λ i. sym (eqb-true (mark p v) 0 e) i ∷ sym (unmarked v h e) i ∷ []
       go false e = λ i. sym (marked v h e) i ∷ field_back (final_bits p v) (nodes-below (3 * v + 2)) on i ∷ []
         where
-          on : weight_fits (final_bits p v) ≡ true
-          on = sym (ap (λ (b : Bool). b || weight_fits (final_bits p v)) e) ∙ final-on p weights-fit v h
+          on : weight_fits unit (final_bits p v) ≡ true
+          on = sym (ap (λ (b : Bool). b || weight_fits unit (final_bits p v)) e) ∙ final-on p short weights-fit v h
 
   pub nodes-whole : segments N (λ v. count_from v rows ∷ mark_fields v rows) ≡ p.nodes
   nodes-whole = sym (by-threes (λ v. count_from v rows ∷ mark_fields v rows) (λ v. ap suc (finals-two v rows)) N p.nodes three each)
@@ -505,16 +507,16 @@ module _ (p : Parts) (four : length p.links ≡ 4 * link_count p) (three : lengt
       go (inl h) = absurd (last-named e (named-under (N - 1) rows h))
       go (inr h) = omega (arith, highest-under N rows (omega (arith, start-in)) named-rows)
 
-  -- The rows of a sheet that has rows convert to its links, its nodes and its start.
+  -- The rows of a sheet that has rows convert to its links, its nodes, its start and its form.
   pub parts_again : has_rows p ≡ true → parts_of_rows rows ≡ p
-  unfolding has_rows parts_of_rows
+  unfolding parts_of_rows
   parts_again e =
-      let a = both (ltb p.start N && has_own p p.start) (has_own p (N - 1) || is_led p (N - 1)) e in
-      let n = nodes-same a.1 in
+      let n = nodes-same (last-there p e) in
       λ i. record {
         links = (sym (segments-flat (nodes_in rows) (λ v. flat_map (link_from v) rows)) ∙ ap (λ (k : ℕ). segments k (λ v. flat_map (link_from v) rows)) n ∙ links-whole) i;
         nodes = (sym (segments-flat (nodes_in rows) (λ v. count_from v rows ∷ mark_fields v rows)) ∙ ap (λ (k : ℕ). segments k (λ v. count_from v rows ∷ mark_fields v rows)) n ∙ nodes-whole) i;
-        start = first-is (both (ltb p.start N) (has_own p p.start) a.0).1 i;
+        start = first-is (own-start p e) i;
+        form = sym short i;
       }
 
   -- ---- the rows' weights pass
@@ -524,13 +526,13 @@ module _ (p : Parts) (four : length p.links ≡ 4 * link_count p) (three : lengt
   weights-some v (suc c) h =
       ap weights_pass (flat-snoc (λ i. link_row_for p v (first_of p v + i) ∷ []) (list_below c (λ i. i)) c)
       ∙ weights-append (flat_map (λ i. link_row_for p v (first_of p v + i) ∷ []) (list_below c (λ i. i))) (link_row_for p v (first_of p v + c) ∷ []) (weights-some v c (omega arith))
-      (λ i. weight-passes (link_bits p (first_of p v + c)) (links-below (4 * (first_of p v + c) + 2)) (link_on p weights-fit (first_of p v + c) (omega arith)) i && true)
+      (λ i. weight-passes (link_bits p (first_of p v + c)) (links-below (4 * (first_of p v + c) + 2)) (link_on p short weights-fit (first_of p v + c) (omega arith)) i && true)
 
   weights-final : (v : ℕ) → v < N → weights_pass (final_row_for p v) ≡ true
   unfolding weights_pass
-  weights-final v h = go (eqb (mark p v) 0) (final-on p weights-fit v h)
+  weights-final v h = go (eqb (mark p v) 0) (final-on p short weights-fit v h)
     where
-      go : (b : Bool) → b || weight_fits (final_bits p v) ≡ true → weights_pass (cond b [] (final v (weight_for (final_bits p v)) ∷ [])) ≡ true
+      go : (b : Bool) → b || weight_fits unit (final_bits p v) ≡ true → weights_pass (cond b [] (final v (weight_for (final_bits p v)) ∷ [])) ≡ true
       go true e = refl
       go false e = λ i. weight-passes (final_bits p v) (nodes-below (3 * v + 2)) e i && true
 

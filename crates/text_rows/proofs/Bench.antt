@@ -1,4 +1,4 @@
--- Sheet A's rows, rows in any order, barred weights, and refusals, by computation. Assumes nothing.
+-- Sheet A's rows, rows in any order, barred weights, longer trailers, and refusals, by computation. Assumes nothing.
 use mathlib.Core.Path.{◌≡◌, refl}
 use mathlib.Core.List.{List, [], ◌∷◌, ◌++◌, map}
 use Prim.Native.Nat.{ℕ}
@@ -67,6 +67,14 @@ bare_start low = 0 ∷ 0 ∷ 0 ∷ 0 ∷ 0 ∷ 0 ∷ 0 ∷ 0 ∷ 0 ∷ 0 ∷ 0 �
 written_bare : (text_number (bare_start 0) 100 ≡ 9) × (text_number (bare_start 1) 100 ≡ 4)
 unfolding bare_start text_number text_of parts_of
 written_bare = (refl, refl)
+
+-- with the longer trailer, of unit 256 or 64: 9; of unit 128: 14; a weight off the grid besides: 4
+abbrev longer : List ℕ → ℕ → ℕ → List ℕ
+longer bytes low high = bytes ++ (low ∷ high ∷ 0 ∷ 0 ∷ [])
+
+written_longer : (text_number (longer sheet_a 0 1) 100 ≡ 9) × (text_number (longer sheet_a 64 0) 100 ≡ 9) × (text_number (longer sheet_a 128 0) 100 ≡ 14) × (text_number (longer (bare_start 1) 0 1) 100 ≡ 4)
+unfolding sheet_a bare_start text_number text_of parts_of
+written_longer = (refl, refl, refl, refl)
 
 -- '': 8; '0\n1': 8; '0\n\n': 8; '0 1 2\n': 8; '0\n1\n0 0\n': 8; '0 +1\n': 8; '0 1.\n': 8; '0.5\n': 8; '0 0.0000000\n': 8; '0\r\n': 8; '4294967296\n': 8; '4294967295 9\n': 1; '0 128.000001\n': 4; '0 99999999999999999999\n': 4; '0 129\n1 x\n': 8; '4294967294\n': 21
 -- no other spelling of infinity: '0 infinity\n': 8; '0 inf\n': 8; '0 INFINITY\n': 8; '0 -Infinity\n': 8; '0 Infinit\n': 8; '0 Infinity1\n': 8; '0 Infinity\n1 x\n': 8

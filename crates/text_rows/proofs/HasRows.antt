@@ -1,4 +1,4 @@
--- A sheet that has rows has a start. The sheet of any rows has rows: number 9 is only for sheets that no text converts to. Assumes nothing.
+-- A sheet that has rows has a start, and the shorter trailer. The sheet of any rows has rows: number 9 is only for sheets that no text converts to. Assumes nothing.
 use mathlib.Core.Path.{◌≡◌, refl, sym, ap, ◌∙◌, subst}
 use mathlib.Core.Logic.{◌⊎◌, inl, inr}
 use mathlib.Core.Bool.{Bool, true, false, not, ◌&&◌, ◌||◌, cond, false≢true, true≢false}
@@ -9,6 +9,7 @@ use native.Mathlib.Omega.{arith}
 use lib.Dec.{eqb, ltb}
 use lib.ListN.{length, get_or}
 use borrow.Author.Tests.{eq-eqb, ne_eqb, eqb-true, eqb-false, lt-ltb, ltb-true, not-true, not-false}
+use Rattle.sheet.specs.declared.form.Form.{Form}
 use Rattle.sheet.specs.Below.{all_below}
 use Rattle.sheet.specs.Sheet.{Parts, link_count, node_count, next, count, mark}
 use Rattle.sheet.proofs.Below.{all_below-at}
@@ -16,15 +17,36 @@ use Rattle.sheet.proofs.Apart.{both, or-either}
 use Rattle.text_rows.specs.Fields.{and_then, is_newline, onto_first, rows_of, ended}
 use Rattle.text_rows.specs.Rows.{Row, link, final, highest, first_node, row_of, all_rows, finals_once, read_rows}
 use Rattle.text_rows.specs.Convert.{field_of, link_from, count_from, mark_fields, nodes_in, parts_of_rows, or_no_rows}
-use Rattle.text_rows.specs.Written.{has_own, is_led, has_rows}
+use Rattle.text_rows.specs.Written.{is_short, has_own, is_led, has_rows}
 use Rattle.text_rows.proofs.Segments.{segments}
 use Rattle.text_rows.proofs.Filled.{Named, named}
-use Rattle.text_rows.proofs.Judged.{Fours, EachLink, fours-segments, fours-rows, well-marked, first-named, links-are, start_is, long-links, node-count, count-is, mark-is}
+use Rattle.text_rows.proofs.Judged.{Fours, EachLink, fours-segments, fours-rows, well-marked, first-named, links-are, start_is, form-is, long-links, node-count, count-is, mark-is}
 
-pub start-below : (p : Parts) → has_rows p ≡ true → p.start < node_count p
-unfolding has_rows
-start-below p e =
-    ltb-true p.start (node_count p) (both (ltb p.start (node_count p)) (has_own p p.start) (both (ltb p.start (node_count p) && has_own p p.start) (has_own p (node_count p - 1) || is_led p (node_count p - 1)) e).0).0
+module _ (p : Parts) (has : has_rows p ≡ true) where
+  -- what is asked, one by one
+  asked : (is_short p.form ≡ true) × (ltb p.start (node_count p) ≡ true) × (has_own p p.start ≡ true) × (has_own p (node_count p - 1) || is_led p (node_count p - 1) ≡ true)
+  unfolding has_rows
+  asked =
+      let a = both (is_short p.form && ltb p.start (node_count p) && has_own p p.start) (has_own p (node_count p - 1) || is_led p (node_count p - 1)) has in
+      let b = both (is_short p.form && ltb p.start (node_count p)) (has_own p p.start) a.0 in
+      let c = both (is_short p.form) (ltb p.start (node_count p)) b.0 in
+      (c.0, c.1, b.1, a.1)
+
+  pub start-below : p.start < node_count p
+  start-below = ltb-true p.start (node_count p) asked.1
+
+  pub own-start : has_own p p.start ≡ true
+  own-start = asked.2
+
+  pub last-there : has_own p (node_count p - 1) || is_led p (node_count p - 1) ≡ true
+  last-there = asked.3
+
+  pub form-short : p.form ≡ Form.Short
+  form-short = go p.form asked.0
+    where
+      go : (f : Form) → is_short f ≡ true → f ≡ Form.Short
+      go Form.Short e = refl
+      go (Form.Long u) e = absurd (false≢true e)
 
 -- ---- from all words of links back to the rows
 abbrev Whole : List ℕ → Type 0
@@ -179,7 +201,7 @@ module _ (rs : List Row) (rows : 1 ≤ length rs) where
   unfolding has_rows
   has-rows =
       let last : node_count p - 1 ≡ highest rs = omega (arith, node-count rs) in
-      λ i. lt-ltb p.start (node_count p) (omega (arith, node-count rs, start_is rs, first-named n rs (omega arith) (named rs))) i
+      λ i. is_short (form-is rs i) && lt-ltb p.start (node_count p) (omega (arith, node-count rs, start_is rs, first-named n rs (omega arith) (named rs))) i
       && (ap (λ (v : ℕ). has_own p v) (start_is rs) ∙ own_first) i && (ap (λ (v : ℕ). has_own p v || is_led p v) last ∙ last-own) i
 
 -- ---- of texts: one that is read has a row

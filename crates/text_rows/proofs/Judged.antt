@@ -15,8 +15,9 @@ use Rattle.tropical_weight.specs.Tropical.{fin}
 use lib.Ieee.{round, to_bits, of_bits}
 use Rattle.tropical_weight.specs.Grid.{grid_bits, of_k}
 use Rattle.tropical_weight.proofs.Grid.{grid_bits-means}
-use Rattle.sheet.specs.Below.{sum_below}
-use Rattle.sheet.specs.Sheet.{Parts, link_count, node_count, next, link_bits, count, mark, final_bits, well_marked, barred_bits, on_grid_bits, weight_fits, nodes_fit, start_fits, nexts_fit, weights_fit, verdict, records_fit, sheet_length, write_number}
+use Rattle.sheet.specs.declared.form.Form.{Form}
+use Rattle.sheet.specs.Below.{sum_below, all_below}
+use Rattle.sheet.specs.Sheet.{link_length, node_length, Parts, trailer_length, unit_of, unit_fits, link_count, node_count, next, link_bits, count, mark, final_bits, well_marked, barred_bits, on_grid_bits, weight_fits, nodes_fit, start_fits, nexts_fit, weights_fit, verdict, records_fit, sheet_length, write_number}
 use Rattle.sheet.proofs.Below.{all_below-of, sum_below-same}
 use Rattle.sheet.proofs.Apart.{both, or_left, or_right}
 use Rattle.sheet.proofs.Encoding.{bits-lt, bits-inf}
@@ -87,17 +88,17 @@ few-units (negsuc n) e =
     let l : nat_abs (negsuc n) * 64 / 1000000 ≤ weight_limit = leb-true (nat_abs (negsuc n) * 64 / 1000000) weight_limit (both (eqb (nat_abs (negsuc n) * 64 % 1000000) 0) (leb (nat_abs (negsuc n) * 64 / 1000000) weight_limit) e).1 in
     subst (λ (x : ℕ). x ≤ weight_limit) (ap (λ (x : ℕ). x * 64 / 1000000) m ∙ sym (nat_abs-neg ((1 + n) * 64 / 1000000))) l
 
-field_fits : (w : Weight) → weight_passes w ≡ true → weight_fits (field_of w) ≡ true
+field_fits : (w : Weight) → weight_passes w ≡ true → weight_fits unit (field_of w) ≡ true
 field_fits (finite w) e =
-    or_right (eqb (field_of (finite w)) barred_bits) (on_grid_bits (field_of (finite w))) ((grid_bits-means unit (omega arith) weight_limit (omega arith) (field_of (finite w)) (bits-lt (fin (units_of w)))).1 (units_of w, few-units w e, refl))
-field_fits barred e = or_left (eqb (field_of barred) barred_bits) (on_grid_bits (field_of barred)) (eq-eqb (field_of barred) barred_bits bits-inf)
+    or_right (eqb (field_of (finite w)) barred_bits) (on_grid_bits unit (field_of (finite w))) ((grid_bits-means unit (omega arith) weight_limit (omega arith) (field_of (finite w)) (bits-lt unit (omega arith) (fin (units_of w)))).1 (units_of w, few-units w e, refl))
+field_fits barred e = or_left (eqb (field_of barred) barred_bits) (on_grid_bits unit (field_of barred)) (eq-eqb (field_of barred) barred_bits (bits-inf unit))
 
 pub each_next : (n : ℕ) (rs : List Row) → Named n rs → EachLink (λ c d. d < n) rs
 each_next n [] h = tt
 each_next n (link s t i o w ∷ rs) h = (h.1, each_next n rs h.2)
 each_next n (final v w ∷ rs) h = each_next n rs h.1
 
-each-weight : (rs : List Row) → weights_pass rs ≡ true → EachLink (λ c d. weight_fits c ≡ true) rs
+each-weight : (rs : List Row) → weights_pass rs ≡ true → EachLink (λ c d. weight_fits unit c ≡ true) rs
 unfolding weights_pass
 each-weight [] e = tt
 each-weight (link s t i o w ∷ rs) e = let h = both (weight_passes w) (weights_pass rs) e in (field_fits w h.0, each-weight rs h.1)
@@ -114,14 +115,14 @@ well-marked v (final u w ∷ rs) = go (eqb u v) (well-marked v rs)
     go true e = refl
     go false e = e
 
-final-weight : (v : ℕ) (rs : List Row) → weights_pass rs ≡ true → eqb (get_or (mark_fields v rs) 0 0) 0 || weight_fits (get_or (mark_fields v rs) 1 0) ≡ true
+final-weight : (v : ℕ) (rs : List Row) → weights_pass rs ≡ true → eqb (get_or (mark_fields v rs) 0 0) 0 || weight_fits unit (get_or (mark_fields v rs) 1 0) ≡ true
 unfolding mark_fields weights_pass
 final-weight v [] e = refl
 final-weight v (link s t i o w ∷ rs) e = final-weight v rs (both (weight_passes w) (weights_pass rs) e).1
 final-weight v (final u w ∷ rs) e = go (eqb u v) (both (weight_passes w) (weights_pass rs) e) (final-weight v rs)
   where
-    go : (b : Bool) → (weight_passes w ≡ true) × (weights_pass rs ≡ true) → (weights_pass rs ≡ true → eqb (get_or (mark_fields v rs) 0 0) 0 || weight_fits (get_or (mark_fields v rs) 1 0) ≡ true)
-        → eqb (get_or (cond b (1 ∷ field_of w ∷ []) (mark_fields v rs)) 0 0) 0 || weight_fits (get_or (cond b (1 ∷ field_of w ∷ []) (mark_fields v rs)) 1 0) ≡ true
+    go : (b : Bool) → (weight_passes w ≡ true) × (weights_pass rs ≡ true) → (weights_pass rs ≡ true → eqb (get_or (mark_fields v rs) 0 0) 0 || weight_fits unit (get_or (mark_fields v rs) 1 0) ≡ true)
+        → eqb (get_or (cond b (1 ∷ field_of w ∷ []) (mark_fields v rs)) 0 0) 0 || weight_fits unit (get_or (cond b (1 ∷ field_of w ∷ []) (mark_fields v rs)) 1 0) ≡ true
     go true h later = field_fits w h.0
     go false h later = later h.1
 
@@ -149,6 +150,10 @@ module _ (rs : List Row) where
   pub start_is : p.start ≡ first_node rs
   unfolding parts_of_rows
   start_is = refl
+
+  pub form-is : p.form ≡ Form.Short
+  unfolding parts_of_rows
+  form-is = refl
 
   links-long : (u : ℕ) → lengths (λ v. flat_map (link_from v) rs) u ≡ 4 * sum_below u (λ v. count_from v rs)
   unfolding sum_below
@@ -184,7 +189,7 @@ module _ (rs : List Row) where
 
   pub records-hold : records_fit p ≡ fields_hold rs
   records-hold =
-      λ i. eq-eqb (length p.links % 4) 0 (omega (arith, long-links)) i && eq-eqb (length p.nodes % 3) 0 (omega (arith, long-nodes)) i && ltb (node-count i) (2 ^ 32) && ltb (16 * link-count i) (2 ^ 32)
+      λ i. eq-eqb (length p.links % 4) 0 (omega (arith, long-links)) i && eq-eqb (length p.nodes % 3) 0 (omega (arith, long-nodes)) i && ltb (node-count i) (2 ^ 32) && ltb (link_length * link-count i) (2 ^ 32)
 
   nodes-fit : nodes_fit p ≡ true
   unfolding nodes_fit
@@ -210,18 +215,19 @@ module _ (rs : List Row) where
   weights-fit : weights_pass rs ≡ true → weights_fit p ≡ true
   unfolding weights_fit
   weights-fit e =
-      λ i. all_below-of (link_count p) (λ l. weight_fits (link_bits p l)) (fours-of (λ c d. weight_fits c ≡ true) (each-weight rs e)) i
-      && all_below-of (node_count p) (λ v. eqb (mark p v) 0 || weight_fits (final_bits p v)) (λ v h. each v (omega (arith, node-count))) i
+      ap (λ (f : Form). all_below (link_count p) (λ l. weight_fits (unit_of f) (link_bits p l)) && all_below (node_count p) (λ v. eqb (mark p v) 0 || weight_fits (unit_of f) (final_bits p v))) form-is
+      ∙ λ i. all_below-of (link_count p) (λ l. weight_fits unit (link_bits p l)) (fours-of (λ c d. weight_fits unit c ≡ true) (each-weight rs e)) i
+      && all_below-of (node_count p) (λ v. eqb (mark p v) 0 || weight_fits unit (final_bits p v)) (λ v h. each v (omega (arith, node-count))) i
     where
-      each : (v : ℕ) → v < n → eqb (mark p v) 0 || weight_fits (final_bits p v) ≡ true
-      each v h = (λ i. eqb (mark-is v h i) 0 || weight_fits (final_bits-is v h i)) ∙ final-weight v rs e
+      each : (v : ℕ) → v < n → eqb (mark p v) 0 || weight_fits unit (final_bits p v) ≡ true
+      each v h = (λ i. eqb (mark-is v h i) 0 || weight_fits unit (final_bits-is v h i)) ∙ final-weight v rs e
 
   pub length-is : sheet_length p ≡ length_of rs
-  length-is = λ i. 16 * link-count i + 12 * node-count i + 20
+  length-is = λ i. link_length * link-count i + node_length * node-count i + trailer_length (form-is i)
 
   pub verdict-is : (b : Bool) → weights_pass rs ≡ true → verdict b p ≡ cond b 0 1
   unfolding verdict
-  verdict-is true e = (λ i. cond (not (nodes-fit i)) 1 (cond (not (start_fits_lem i)) 2 (cond (not (nexts-fit i)) 3 (cond (not (weights-fit e i)) 4 0))))
+  verdict-is true e = (λ i. cond (not (nodes-fit i)) 1 (cond (not (unit_fits (form-is i))) 14 (cond (not (start_fits_lem i)) 2 (cond (not (nexts-fit i)) 3 (cond (not (weights-fit e i)) 4 0)))))
   verdict-is false e = refl
 
   -- 1 and 21 are the writer's; 4 is the text's, whose weights need not be whole numbers of units

@@ -8,6 +8,7 @@ use native.Mathlib.Omega.{arith}
 use lib.Dec.{ltb, eqb}
 use lib.IntN.{pos}
 use borrow.Author.Tests.{ltb-true}
+use Rattle.tropical_weight.specs.Limits.{unit}
 use Rattle.sheet.proofs.Round.{Below}
 use Rattle.sheet.proofs.Encoding.{bits-lt}
 use Rattle.decimals.specs.Decimal.{digits_of}
@@ -113,7 +114,7 @@ words-segments zero f h = tt
 words-segments (suc n) f h = words_append (segments n f) (f n) (words-segments n f h) (h n)
 
 pub field_lt : (w : Weight) → field_of w < 2 ^ 32
-field_lt w = bits-lt (weighs w)
+field_lt w = bits-lt unit (omega arith) (weighs w)
 
 link-words : (v : ℕ) (rs : List Row) → AllFit rs → Words (flat_map (link_from v) rs)
 unfolding flat_map

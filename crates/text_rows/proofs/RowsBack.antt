@@ -11,8 +11,9 @@ use lib.IntN.{pos}
 use lib.ListN.{length, get_or, take, drop, length-append}
 use lib.Seq.{take-append_seam}
 use borrow.Author.Tests.{eqb-true, le-ltb}
+use Rattle.sheet.specs.declared.form.Form.{Form}
 use Rattle.sheet.specs.Below.{list_below}
-use Rattle.sheet.specs.Sheet.{Parts, link_count, node_count, ilabel, olabel, link_bits, next, count, mark, final_bits, nodes_fit, start_fits, nexts_fit, weights_fit, verdict, parts_of, sizes_fit, read_number, sheet_of, sheet_length, write_number, stated_links, stated_nodes}
+use Rattle.sheet.specs.Sheet.{link_length, node_length, Parts, form_of, trailer_size, unit_fits, link_count, node_count, ilabel, olabel, link_bits, next, count, mark, final_bits, nodes_fit, start_fits, nexts_fit, weights_fit, verdict, parts_of, sizes_fit, read_number, sheet_of, sheet_length, write_number, stated_links, stated_nodes}
 use Rattle.sheet.proofs.Apart.{both}
 use Rattle.sheet.proofs.Refusals.{first-zero}
 use Rattle.sheet.proofs.Fields.{length-words, read-fields, read_fits, length-read}
@@ -21,12 +22,12 @@ use Rattle.text_rows.specs.Fields.{Weight, finite, and_then, rows_of, ended, fie
 use Rattle.text_rows.specs.Rows.{Row, link, final, link_by, final_by, row_by, row_of, all_rows, finals_once, read_rows}
 use Rattle.text_rows.specs.Convert.{parts_of_rows, or_no_rows, sheet_of_rows, sheet_over, rows_number, fields_hold}
 use Rattle.decimals.specs.Decimal.{decimal}
-use Rattle.text_rows.specs.Written.{field_text, and_number, and_weight, link_row, final_row, first_of, node_rows, text_of, has_own, is_led, has_rows, text_number, text_over}
+use Rattle.text_rows.specs.Written.{field_text, and_number, and_weight, link_row, final_row, first_of, node_rows, text_of, is_short, has_own, is_led, has_rows, text_number, text_over}
 use Rattle.text_rows.specs.RowsFor.{millionths, weight_for, link_row_for, final_row_for, node_rows_for, rows_for}
 use Rattle.text_rows.proofs.Texts.{Plain, Lined, lined-append, lined-plain, plain-numeric, numeric-decimal, long-decimal, number-back, weight-back, plain-weight, long-weight, one_field, fields-more, Reads, reads_none, reads-append, reads-line, reads_all, Ends, ends-append, ends-line, ends-all}
 use Rattle.text_rows.proofs.Back.{own-rows, rows-once, parts_again, weights-rows}
 use Rattle.text_rows.proofs.Judged.{number_of_rows, rows-number}
-use Rattle.text_rows.proofs.HasRows.{start-below}
+use Rattle.text_rows.proofs.HasRows.{start-below, own-start, form-short}
 
 -- ---- one row
 plain-decimal : (n : ℕ) → Plain (decimal n)
@@ -100,7 +101,7 @@ no_text = refl
 -- ---- all rows of parts that fit
 module _ (p : Parts) (four : length p.links ≡ 4 * link_count p) (three : length p.nodes ≡ 3 * node_count p)
     (links-below : (i : ℕ) → get_or p.links i 0 < 4294967296) (nodes-below : (i : ℕ) → get_or p.nodes i 0 < 4294967296)
-    (nodes-fit : nodes_fit p ≡ true) (nexts-fit : nexts_fit p ≡ true) (weights-fit : weights_fit p ≡ true) (start-in : p.start < node_count p) (few : node_count p < 4294967296) where
+    (nodes-fit : nodes_fit p ≡ true) (nexts-fit : nexts_fit p ≡ true) (short : p.form ≡ Form.Short) (weights-fit : weights_fit p ≡ true) (start-in : p.start < node_count p) (few : node_count p < 4294967296) where
   abbrev N : ℕ
   N = node_count p
 
@@ -164,14 +165,10 @@ module _ (p : Parts) (four : length p.links ≡ 4 * link_count p) (three : lengt
       ∙ ap {B = Option (List Row)} (λ (o : Option (List Row)). and_then o (λ qs. Some (rows_for p ++ qs))) no_text ∙ ap Some (append-nil (rows_for p))
 
   module _ (has : has_rows p ≡ true) where
-    own : has_own p p.start ≡ true
-    unfolding has_rows
-    own = (both (ltb p.start N) (has_own p p.start) (both (ltb p.start N && has_own p p.start) (has_own p (N - 1) || is_led p (N - 1)) has).0).1
-
     some-rows : 1 ≤ length (rows_for p)
     unfolding rows_for
     some-rows =
-        omega (arith, length-append (node_rows_for p p.start) (flat_map (λ v. cond (eqb v p.start) [] (node_rows_for p v)) (list_below N (λ v. v))), own-rows p four three links-below nodes-below nodes-fit nexts-fit weights-fit start-in own)
+        omega (arith, length-append (node_rows_for p p.start) (flat_map (λ v. cond (eqb v p.start) [] (node_rows_for p v)) (list_below N (λ v. v))), own-rows p four three links-below nodes-below nodes-fit nexts-fit short weights-fit start-in (own-start p has))
 
     text-ended : ended (text_of p) ≡ true
     text-ended = go ends-text
@@ -188,23 +185,24 @@ module _ (p : Parts) (four : length p.links ≡ 4 * link_count p) (three : lengt
     rows-read =
         ap (λ (b : Bool). cond b (and_then (all_rows (rows_of (text_of p))) (λ rs. cond (finals_once rs) (Some rs) None)) None) text-ended
         ∙ ap {B = Option (List Row)} (λ (o : Option (List Row)). and_then o (λ rs. cond (finals_once rs) (Some rs) None)) all_read
-        ∙ ap (λ (b : Bool). cond b (Some (rows_for p)) None) (rows-once p four three links-below nodes-below nodes-fit nexts-fit weights-fit start-in)
+        ∙ ap (λ (b : Bool). cond b (Some (rows_for p)) None) (rows-once p four three links-below nodes-below nodes-fit nexts-fit short weights-fit start-in)
 
     -- They convert to its parts.
     pub parts-read : parts_of_rows (or_no_rows (read_rows (text_of p))) ≡ p
-    parts-read = ap (λ (o : Option (List Row)). parts_of_rows (or_no_rows o)) rows-read ∙ parts_again p four three links-below nodes-below nodes-fit nexts-fit weights-fit start-in has
+    parts-read = ap (λ (o : Option (List Row)). parts_of_rows (or_no_rows o)) rows-read ∙ parts_again p four three links-below nodes-below nodes-fit nexts-fit short weights-fit start-in has
 
 -- ---- of bytes
 pub accepted : (l : Bool) (p : Parts) → verdict l p ≡ 0 → (nodes_fit p ≡ true) × (nexts_fit p ≡ true) × (weights_fit p ≡ true)
 unfolding verdict
-accepted l p e = go (l && nodes_fit p) refl (start_fits (node_count p) p.start) (nexts_fit p) (weights_fit p) e
+accepted l p e = go (l && nodes_fit p) refl (unit_fits p.form) (start_fits (node_count p) p.start) (nexts_fit p) (weights_fit p) e
   where
-    go : (a : Bool) → l && nodes_fit p ≡ a → (b c d : Bool) → ◌≡◌ {A = ℕ} (cond (not a) 1 (cond (not b) 2 (cond (not c) 3 (cond (not d) 4 0)))) 0 → (nodes_fit p ≡ true) × (c ≡ true) × (d ≡ true)
-    go false q b c d e = absurd (omega arith)
-    go true q false c d e = absurd (omega arith)
-    go true q true false d e = absurd (omega arith)
-    go true q true true false e = absurd (omega arith)
-    go true q true true true e = ((both l (nodes_fit p) q).1, refl, refl)
+    go : (a : Bool) → l && nodes_fit p ≡ a → (u b c d : Bool) → ◌≡◌ {A = ℕ} (cond (not a) 1 (cond (not u) 14 (cond (not b) 2 (cond (not c) 3 (cond (not d) 4 0))))) 0 → (nodes_fit p ≡ true) × (c ≡ true) × (d ≡ true)
+    go false q u b c d e = absurd (omega arith)
+    go true q false b c d e = absurd (omega arith)
+    go true q true false c d e = absurd (omega arith)
+    go true q true true false d e = absurd (omega arith)
+    go true q true true true false e = absurd (omega arith)
+    go true q true true true true e = ((both l (nodes_fit p) q).1, refl, refl)
 
 -- what a number 0 of the call that writes rows says
 pub written-number : (bytes : List ℕ) (room : ℕ) → text_number bytes room ≡ 0 → (read_number bytes ≡ 0) × (has_rows (parts_of bytes) ≡ true)
@@ -214,6 +212,16 @@ written-number bytes room e = let x = first-zero (read_number bytes) _ e in (x.0
     go : (b : Bool) → ◌≡◌ {A = ℕ} (cond (not b) 9 (cond (ltb room (length (text_of (parts_of bytes)))) 21 0)) 0 → b ≡ true
     go true h = refl
     go false h = absurd (omega (arith, h))
+
+-- A sheet that is accepted and ends in the longer trailer has none.
+pub longer-none : (bytes : List ℕ) (u room : ℕ) → form_of bytes ≡ Form.Long u → read_number bytes ≡ 0 → text_number bytes room ≡ 9
+unfolding text_number has_rows parts_of
+longer-none bytes u room long zero_number =
+    ap (λ (k : ℕ). cond (not (eqb k 0)) k (cond (not (has_rows (parts_of bytes))) 9 (cond (ltb room (length (text_of (parts_of bytes)))) 21 0))) zero_number
+    ∙ ap (λ (b : Bool). cond (not b) 9 (cond (ltb room (length (text_of (parts_of bytes)))) 21 0)) none
+  where
+    none : has_rows (parts_of bytes) ≡ false
+    none = let p = parts_of bytes in ap (λ (f : Form). is_short f && ltb p.start (node_count p) && has_own p p.start && (has_own p (node_count p - 1) || is_led p (node_count p - 1))) long
 
 module _ (bytes : List ℕ) (below : Below 256 bytes) (zero_number : read_number bytes ≡ 0) (has : has_rows (parts_of bytes) ≡ true) where
   abbrev p : Parts
@@ -229,7 +237,7 @@ module _ (bytes : List ℕ) (below : Below 256 bytes) (zero_number : read_number
 
   three-of : length p.nodes ≡ 3 * node_count p
   unfolding parts_of
-  three-of = omega (arith, length-words bytes (16 * stated_links bytes) (3 * stated_nodes bytes))
+  three-of = omega (arith, length-words bytes (link_length * stated_links bytes) (3 * stated_nodes bytes))
 
   links-in : (i : ℕ) → get_or p.links i 0 < 4294967296
   unfolding parts_of
@@ -237,23 +245,24 @@ module _ (bytes : List ℕ) (below : Below 256 bytes) (zero_number : read_number
 
   nodes-in : (i : ℕ) → get_or p.nodes i 0 < 4294967296
   unfolding parts_of
-  nodes-in = words-below (3 * stated_nodes bytes) bytes (16 * stated_links bytes) below
+  nodes-in = words-below (3 * stated_nodes bytes) bytes (link_length * stated_links bytes) below
 
   few-nodes : node_count p < 4294967296
-  few-nodes = subst (λ (k : ℕ). k < 4294967296) (sym (read-fields bytes).nodes-are) (word_lt bytes (length bytes - 20 + 4 * 2) below)
+  few-nodes = subst (λ (k : ℕ). k < 4294967296) (sym (read-fields bytes).nodes-are) (word_lt bytes (length bytes - trailer_size bytes + 4 * 2) below)
 
   -- A sheet that is accepted and has rows, written as text, is read as its rows,
   pub rows_back : read_rows (text_of p) ≡ Some (rows_for p)
-  rows_back = rows-read p four-of three-of links-in nodes-in fit.0 fit.1 fit.2 (start-below p has) few-nodes has
+  rows_back = rows-read p four-of three-of links-in nodes-in fit.0 fit.1 (form-short p has) fit.2 (start-below p has) few-nodes has
 
   -- and they convert to that very sheet.
   pub sheet-back : sheet_of_rows (text_of p) ≡ bytes
   unfolding sheet_of_rows
-  sheet-back = ap sheet_of (parts-read p four-of three-of links-in nodes-in fit.0 fit.1 fit.2 (start-below p has) few-nodes has) ∙ bytes_back bytes below (read_fits bytes zero_number)
+  sheet-back = ap sheet_of (parts-read p four-of three-of links-in nodes-in fit.0 fit.1 (form-short p has) fit.2 (start-below p has) few-nodes has) ∙ bytes_back bytes below (read_fits bytes zero_number)
 
   -- ---- the converter refuses them only for want of room
   size_is : sheet_length p ≡ length bytes
-  size_is = (λ i. 16 * (read-fields bytes).links-are i + 12 * (read-fields bytes).nodes-are i + 20) ∙ sym (length-read bytes (read_fits bytes zero_number))
+  unfolding parts_of
+  size_is = (λ i. link_length * (read-fields bytes).links-are i + node_length * (read-fields bytes).nodes-are i + trailer_size bytes) ∙ sym (length-read bytes (read_fits bytes zero_number))
 
   write_again : (room : ℕ) → write_number p room ≡ cond (ltb room (length bytes)) 21 0
   unfolding write_number
@@ -264,9 +273,9 @@ module _ (bytes : List ℕ) (below : Below 256 bytes) (zero_number : read_number
   pub text-number : (room : ℕ) → rows_number (text_of p) room ≡ cond (ltb room (length bytes)) 21 0
   text-number room =
       rows-number (text_of p) room ∙ ap (λ (o : Option (List Row)). number_of_rows o room) rows_back
-      ∙ ap (λ (b : Bool). cond (fields_hold (rows_for p) && not b) 4 (write_number (parts_of_rows (rows_for p)) room)) (weights-rows p four-of three-of links-in nodes-in fit.0 fit.1 fit.2 (start-below p has))
+      ∙ ap (λ (b : Bool). cond (fields_hold (rows_for p) && not b) 4 (write_number (parts_of_rows (rows_for p)) room)) (weights-rows p four-of three-of links-in nodes-in fit.0 fit.1 (form-short p has) fit.2 (start-below p has))
       ∙ never (fields_hold (rows_for p)) (write_number (parts_of_rows (rows_for p)) room)
-      ∙ ap (λ (q : Parts). write_number q room) (parts_again p four-of three-of links-in nodes-in fit.0 fit.1 fit.2 (start-below p has) has)
+      ∙ ap (λ (q : Parts). write_number q room) (parts_again p four-of three-of links-in nodes-in fit.0 fit.1 (form-short p has) fit.2 (start-below p has) has)
       ∙ write_again room
     where
       never : (a : Bool) (x : ℕ) → cond (a && not true) 4 x ≡ x

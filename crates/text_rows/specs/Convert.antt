@@ -1,16 +1,18 @@
 -- The sheet of rows, and the number that converting them answers. Definitions only.
 use Rattle.std.specs.Prelude.{ℕ, ◌+◌, ◌*◌, ◌^◌, Bool, not, ◌&&◌, cond, ltb, eqb, length, Option, None, Some}
 use mathlib.Core.List.{List, [], ◌∷◌, flat_map}
+use Rattle.tropical_weight.specs.Limits.{unit}
+use Rattle.sheet.specs.declared.form.Form.{Form}
 use Rattle.sheet.specs.Below.{list_below}
 use Rattle.sheet.specs.Refusals.{answer_over}
-use Rattle.sheet.specs.Sheet.{Parts, sheet_of, trailer_length}
+use Rattle.sheet.specs.Sheet.{Parts, link_length, node_length, short_trailer, sheet_of}
 use Rattle.sheet.specs.Machine.{bits_of}
 use Rattle.text_rows.specs.Fields.{Weight}
 use Rattle.text_rows.specs.Rows.{Row, link, final, read_rows, first_node, highest, weights_pass, weighs}
 
--- the field of a weight
+-- the field of a weight, in 64ths
 abbrev pub field_of : Weight → ℕ
-field_of w = bits_of (weighs w)
+field_of w = bits_of unit (weighs w)
 
 -- a node's links, in row order, in the fields of a sheet
 abbrev pub link_from : ℕ → Row → List ℕ
@@ -44,21 +46,22 @@ links_in (r ∷ rs) = is_link r + links_in rs
 abbrev pub nodes_in : List Row → ℕ
 nodes_in rs = highest rs + 1
 
--- nodes run to the highest number named, a node's links in row order
+-- nodes run to the highest number named, a node's links in row order; the trailer is the shorter one
 unfoldable pub parts_of_rows : List Row → Parts
 unfolding highest flat_map list_below count_from mark_fields
 parts_of_rows rs = record {
   links = flat_map (λ v. flat_map (link_from v) rs) (list_below (nodes_in rs) (λ v. v));
   nodes = flat_map (λ v. count_from v rs ∷ mark_fields v rs) (list_below (nodes_in rs) (λ v. v));
   start = first_node rs;
+  form = Form.Short;
 }
 
 abbrev pub length_of : List Row → ℕ
-length_of rs = 16 * links_in rs + 12 * nodes_in rs + trailer_length
+length_of rs = link_length * links_in rs + node_length * nodes_in rs + short_trailer
 
--- ---- the call: 8, then the sheet refusals 1 and 4 (2 and 3 cannot come), then 21
+-- ---- the call: 8, then the sheet refusals 1 and 4 (14, 2 and 3 cannot come), then 21
 abbrev pub fields_hold : List Row → Bool
-fields_hold rs = ltb (nodes_in rs) (2 ^ 32) && ltb (16 * links_in rs) (2 ^ 32)
+fields_hold rs = ltb (nodes_in rs) (2 ^ 32) && ltb (link_length * links_in rs) (2 ^ 32)
 
 abbrev pub number_by : Option (List Row) → ℕ → ℕ
 number_by None room = 8

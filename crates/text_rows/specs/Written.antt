@@ -1,5 +1,5 @@
 -- The rows of a sheet as text, and which sheets have rows. Definitions only.
-use Rattle.std.specs.Prelude.{ℕ, zero, suc, ◌+◌, ◌-◌, ◌*◌, ◌/◌, ◌%◌, Bool, ◌&&◌, ◌||◌, eqb, ℤ, pos, negsuc, length}
+use Rattle.std.specs.Prelude.{ℕ, zero, suc, ◌+◌, ◌-◌, ◌*◌, ◌/◌, ◌%◌, Bool, true, false, ◌&&◌, ◌||◌, eqb, ℤ, pos, negsuc, length}
 use Rattle.std.proofs.Math.Bool.{not, cond}
 use mathlib.Core.List.{List, [], ◌∷◌, ◌++◌, flat_map}
 use Rattle.std.proofs.Math.Dec.{ltb}
@@ -9,6 +9,7 @@ use Rattle.io.specs.Digits.{last_digits}
 use Rattle.decimals.specs.Decimal.{decimal}
 use Rattle.tropical_weight.specs.Limits.{unit}
 use Rattle.tropical_weight.specs.Grid as Grid
+use Rattle.sheet.specs.declared.form.Form.{Form}
 use Rattle.sheet.specs.Below.{all_below, sum_below, list_below}
 use Rattle.sheet.specs.Refusals.{answer_over}
 use Rattle.sheet.specs.Sheet.{Parts, barred_bits, link_count, node_count, ilabel, olabel, link_bits, next, count, mark, final_bits, parts_of, read_number}
@@ -48,6 +49,11 @@ and_number n = 9 ∷ decimal n
 abbrev pub and_weight : ℕ → List ℕ
 and_weight bits = cond (eqb bits 0) [] (9 ∷ field_text bits)
 
+-- whether a sheet ends in the shorter trailer: text rows serve no other
+abbrev pub is_short : Form → Bool
+is_short Form.Short = true
+is_short (Form.Long u) = false
+
 module _ (p : Parts) where
   -- link l of node v
   abbrev pub link_row : ℕ → ℕ → List ℕ
@@ -80,11 +86,12 @@ module _ (p : Parts) where
   unfolding all_below
   is_led v = not (all_below (link_count p) (λ l. not (eqb (next p l) v)))
 
+  -- None if the trailer is the longer one, the start is absent or has no link and no mark, or the last node has no link, no mark and no link to it.
   unfoldable pub has_rows : Bool
   unfolding is_led
-  has_rows = ltb p.start (node_count p) && has_own p.start && (has_own (node_count p - 1) || is_led (node_count p - 1))
+  has_rows = is_short p.form && ltb p.start (node_count p) && has_own p.start && (has_own (node_count p - 1) || is_led (node_count p - 1))
 
--- ---- the call: 1 to 4, then 9, then 21
+-- ---- the call: 1, 14 and 2 to 4, then 9, then 21
 unfoldable pub text_number : List ℕ → ℕ → ℕ
 unfolding read_number parts_of has_rows text_of
 text_number bytes room =

@@ -9,16 +9,12 @@ use lib.Ieee as Ieee
 use lib.Ieee.Bits.{is_true, is_false, of_bits-to_bits}
 use lib.Ieee.Exact.{HasValue, round_exact}
 use lib.Ieee.Fits.{round-fits, inf-fits, and_i, and_l, and_r, eq→eqb}
-use Rattle.tropical_weight.specs.Limits.{unit, finest, sum_limit}
+use Rattle.tropical_weight.specs.Limits.{finest, sum_limit}
 use Rattle.tropical_weight.specs.Tropical.{Tropical, fin, inf, lt_t, eq_t, one, ◌⊕◌, ◌⊗◌, Within}
 use Rattle.tropical_weight.specs.Grid.{of_k, of_t}
 use Rattle.tropical_weight.specs.Single.{lesser, Computes, Decides}
 use Rattle.tropical_weight.proofs.Semiring.{eq_t-eq, eq-eq_t}
 use Rattle.tropical_weight.proofs.Values.{value-unique, add-values, lt-values, eq-values, same_test}
-
--- the unit of document 01 is one that the laws cover
-pub covered : unit ≤ finest
-covered = lit≤ tt
 
 -- ---- the value
 -- 2 ^ 149 of single precision's smallest values are 1

@@ -10,3 +10,4 @@ pub mod Fields
 pub mod Units
 pub mod Table
 pub mod ShiftTable
+pub mod Finer

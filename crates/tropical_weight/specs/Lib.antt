@@ -2,3 +2,4 @@ pub mod Limits
 pub mod Tropical
 pub mod Grid
 pub mod Single
+pub mod Units

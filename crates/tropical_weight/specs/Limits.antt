@@ -2,11 +2,11 @@
 -- The laws are proved over any unit 2 ^ j with j up to `finest`, and over any limits on nodes and weights whose product is `sum_limit`.
 use Rattle.std.specs.Prelude.{ℕ, ◌^◌}
 
--- a weight is a whole number of 64ths: the unit is 1 / 2 ^ unit
+-- 64ths, the unit of the shorter trailer and of text rows: it is 1 / 2 ^ unit
 abbrev pub unit : ℕ
 unit = 6
 
--- the finest unit that the laws cover is 1 / 2 ^ finest
+-- 256ths, the finest unit that the laws cover: it is 1 / 2 ^ finest
 abbrev pub finest : ℕ
 finest = 8
 

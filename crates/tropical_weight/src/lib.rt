@@ -7,25 +7,28 @@
 ghost use Rattle.std.specs.Prelude.{◌≡◌, ℕ, ◌<◌, ◌≤◌, from_bits, to_bits, unsigned_abs};
 ghost use Rattle.std.specs.Float.{binary32};
 ghost use Rattle.std.specs.Float.Ieee.{add, lt};
-ghost use Rattle.tropical_weight.specs.Limits.{unit, finest, weight_limit, sum_limit};
+ghost use Rattle.tropical_weight.specs.Limits.{finest, weight_limit, sum_limit};
 ghost use Rattle.tropical_weight.specs.Tropical as Tropical;
 ghost use Rattle.tropical_weight.specs.Tropical.{◌⊕◌, ◌⊗◌, lt_t};
 ghost use Rattle.tropical_weight.specs.Grid.{of_k, of_t, grid_bits};
+ghost use Rattle.tropical_weight.specs.Units.{places};
 ghost use Rattle.tropical_weight.specs.Single.{lesser, Number, number_bits, Computes, Decides, Approx, Costs};
 
 pub mod shifts;
+pub mod unit;
 
 use shifts::GridShifts;
 use std::num::saturating_f32_to_i32;
+use unit::Unit;
 
-// The unit is 1 / 2 ^ UNIT: weights are whole numbers of 64ths.
+// 64ths, the unit of text rows and of old controllers: it is 1 / 2 ^ UNIT.
 pub const UNIT: u32 = 6;
 
-// How many units are 1.
+// How many 64ths are 1.
 pub const UNITS: u32 = 1 << UNIT;
 
-// One unit.
-const UNIT_WEIGHT: f32 = 1.0 / (UNITS as f32);
+// The finest unit is 1 / 2 ^ FINEST.
+pub const FINEST: u32 = 8;
 
 // The bits of positive infinity.
 pub const INFINITY: u32 = 0x7f80_0000;
@@ -89,10 +92,10 @@ pub fn approx_equal(a: f32, b: f32, delta: f32) -> bool
 
 // The grid test: whether `bits` is the pattern of a whole number of units within the limit. NaN,
 // the infinities and negative zero are off the grid.
-pub fn on_grid(bits: u32) -> bool
-    ensures { result ≡ grid_bits unit weight_limit bits }
+pub fn on_grid(unit: Unit, bits: u32) -> bool
+    ensures { result ≡ grid_bits (places unit) weight_limit bits }
 {
-    GridShifts::new().on_grid(bits)
+    GridShifts::new(unit).on_grid(bits)
 }
 
 // The value of a bit pattern; a NaN's is a NaN, of no particular pattern. The test goes by the bits, since
@@ -135,18 +138,18 @@ pub fn to_number_bits(value: f32) -> u32
 }
 
 // The cost in units, as an i32: cut toward zero, held to the range, and 0 for a NaN.
-pub fn cost(weight: f32) -> i32
-    ensures { Costs unit weight result }
+pub fn cost(unit: Unit, weight: f32) -> i32
+    ensures { Costs (places unit) weight result }
 {
-    saturating_f32_to_i32(weight * (UNITS as f32))
+    saturating_f32_to_i32(weight * (unit.count() as f32))
 }
 
 // The weight of so many units: exact up to 2^24 of them.
-pub fn from_units(units: i32) -> f32
+pub fn from_units(unit: Unit, units: i32) -> f32
     requires { unsigned_abs units ≤ sum_limit }
-    ensures { result ≡ of_k unit units }
+    ensures { result ≡ of_k (places unit) units }
 {
-    (units as f32) * UNIT_WEIGHT
+    (units as f32) * unit.weight()
 }
 
 // The magnitude of a cost, which a u32 holds at every i32. No function here calls it, but it is public.

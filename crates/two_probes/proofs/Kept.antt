@@ -6,22 +6,29 @@ use Prim.Native.Nat.{ℕ, zero, suc, ◌+◌, ◌-◌, ◌*◌, ◌/◌, ◌%◌
 use native.Mathlib.Nat.{mul-zero, mod-lt, div-lt_iff_lt-mul}
 use native.Mathlib.Omega.{arith}
 use lib.ListN.{length, get_or, length-map}
-use Rattle.tropical_weight.specs.Limits.{link_limit}
-use Rattle.sheet.specs.Machine.{Machine, machine, leaving}
+use borrow.Author.Tests.{eq-eqb}
+use Rattle.tropical_weight.specs.Limits.{finest, link_limit}
+use Rattle.sheet.specs.Sheet.{unit_of}
+use Rattle.sheet.specs.Machine.{Machine, unit_in, machine, leaving}
 use Rattle.sheet.proofs.Below.{split_at}
+use Rattle.sheet.proofs.Forms.{covered}
+use Rattle.sheet.proofs.AcceptedSheet.{form-of-bytes}
 use Rattle.machine.specs.declared.climbing.Machine.{Machine as Given}
 use Rattle.machine.specs.Readings.{link, final}
 use Rattle.machine.proofs.Lists.{get_d_map}
-use Rattle.machine.proofs.Machines.{machine-fields}
+use Rattle.machine.proofs.Machines.{machine-fields, unit-of}
 use Rattle.sorted_keys.specs.Sorted.{FirstAtLeast, Rising, InOrder, Climbing}
 use Rattle.sorted_keys.proofs.Orders.{order-at}
 use Rattle.product.specs.Product.{Pair, nodes, source_for, pairs, link_for, final_for, product}
 use Rattle.product.specs.Keys.{pair_key, pair_first, pair_second, pair_node, pair_keys}
 use Rattle.product.specs.Halves.{no_pair, pair_at}
 use Rattle.product.proofs.Pairs.{Meets}
-use Rattle.product.proofs.Fields.{product-links, product-link, product-final, meets_at}
+use Rattle.product.proofs.Fields.{product-links, product-link, product-final, product-form, meets_at}
 use Rattle.link_pairs.proofs.Finding.{pair-keys-climb}
 use Rattle.two_probes.specs.declared.both.Both.{Both}
+use Rattle.two_probes.specs.Outcome.{second_number}
+use Rattle.two_probes.specs.Held.{allowed_by, unit_by}
+use Rattle.two_probes.proofs.Outcomes.{second-passed}
 use Rattle.two_probes.proofs.Records.{leaving-between}
 
 -- a number below a product, by the second factor: its two halves
@@ -48,12 +55,32 @@ pairs-rise m n =
     let keys = pair_keys (machine m.sheet.bytes.now) (machine n.sheet.bytes.now) in
     order-at keys (climbing-order keys (pair-keys-climb (machine m.sheet.bytes.now) (machine n.sheet.bytes.now) f.climbs g.climbs (omega (arith, f.nodes-are, f.few-nodes)) (omega (arith, g.nodes-are, g.few-nodes)) (omega (arith, f.links-are, f.few-links)) (omega (arith, g.links-are, g.few-links))))
 
+-- two machines of one unit pass the tests of both sheets
+pub second-passes : (m n : Given) → unit_of m.sheet.form ≡ unit_of n.sheet.form → second_number m.sheet.bytes.now n.sheet.bytes.now ≡ 0
+second-passes m n e = second-passed m.sheet.bytes.now n.sheet.bytes.now n.climbs (eq-eqb _ _ (sym (ap unit_of (form-of-bytes m.sheet)) ∙ e ∙ ap unit_of (form-of-bytes n.sheet)))
+
 module _ (x : Both) where
   abbrev pub a : Machine
   a = machine x.first.sheet.bytes.now
 
   abbrev pub b : Machine
   b = machine x.second.sheet.bytes.now
+
+  -- each is of the one unit
+  pub first-unit : unit_of x.first.sheet.form ≡ unit_by x
+  first-unit = sym (unit-of x.first.sheet)
+
+  pub second-unit : unit_in b ≡ unit_by x
+  second-unit = unit-of x.second.sheet ∙ sym x.one_unit ∙ first-unit
+
+  pub second-zero : second_number x.first.sheet.bytes.now x.second.sheet.bytes.now ≡ 0
+  second-zero = second-passes x.first x.second x.one_unit
+
+  pub unit-covered : unit_by x ≤ finest
+  unit-covered = covered a.form
+
+  pub allowed-unit : unit_in (allowed_by x) ≡ unit_by x
+  allowed-unit = ap unit_of (product-form a b)
 
   pub many-links : length x.pairs.keys.now ≡ length (pairs a b)
   unfolding pair_keys

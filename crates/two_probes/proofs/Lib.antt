@@ -1,5 +1,5 @@
 pub mod Records
-pub mod Kept
 pub mod Outcomes
+pub mod Kept
 pub mod Promises
 pub mod Bench

@@ -1,30 +1,67 @@
 -- The outcome by the number of the first test that fails. Assumes nothing.
 use mathlib.Core.Path.{◌≡◌, refl, sym, ap, ◌∙◌}
 use mathlib.Core.Logic.{inl}
-use mathlib.Core.Bool.{Bool, not, cond}
+use mathlib.Core.Bool.{Bool, true, false, not, cond}
 use mathlib.Core.List.{List}
 use Prim.Native.Nat.{ℕ, ◌≤◌, ◌<◌}
 use lib.Dec.{ltb, eqb}
 use lib.ListN.{length}
 use lib.Seq.{sets}
-use borrow.Author.Tests.{lt-ltb, le-ltb}
+use native.Mathlib.Omega.{arith}
+use borrow.Author.Tests.{lt-ltb, le-ltb, eqb-true}
 use Rattle.std.specs.Prelude.{Ok, Err}
 use Rattle.sheet.specs.declared.refusal.Refusal.{Refusal}
 use Rattle.sheet.specs.Refusals.{number_of}
+use Rattle.sheet.specs.Sheet.{unit_of, form_of}
 use Rattle.sheet.specs.Machine.{machine}
 use Rattle.sheet.proofs.Refusals.{answer-made, answer-none, over-refused, over-stored, Known, known, known-cond, first-passed, first-failed}
 use Rattle.machine.specs.Input.{input_number}
 use Rattle.machine.proofs.Machines.{input-known}
 use Rattle.product.specs.Refusals.{product_number}
 use Rattle.product.proofs.Numbers.{product-known}
-use Rattle.two_probes.specs.Outcome.{answer_of, both_number, both_answer, both_over}
+use Rattle.two_probes.specs.Outcome.{answer_of, one_unit, second_number, both_number, both_answer, both_over}
+
+-- ---- the second sheet's number: its 1, then 14 where the units differ, then its own
+module _ (first second : List ℕ) where
+  pub second-known : Known (second_number first second)
+  unfolding second_number
+  second-known =
+      known-cond (eqb (input_number second) 1) 1 _ (known Refusal.Layout)
+      (known-cond (one_unit first second) (input_number second) 14 (input-known second) (known Refusal.Unit))
+
+  -- of one unit its own
+  pub second-own : one_unit first second ≡ true → second_number first second ≡ input_number second
+  unfolding second_number
+  second-own e = ap (λ (b : Bool). cond (eqb (input_number second) 1) 1 (cond b (input_number second) 14)) e ∙ go (eqb (input_number second) 1) refl
+    where
+      go : (b : Bool) → eqb (input_number second) 1 ≡ b → cond b 1 (input_number second) ≡ input_number second
+      go true q = sym (eqb-true (input_number second) 1 q)
+      go false q = refl
+
+  -- of two 1 or 14
+  pub second-other : one_unit first second ≡ false → second_number first second ≡ cond (eqb (input_number second) 1) 1 14
+  unfolding second_number
+  second-other e = ap (λ (b : Bool). cond (eqb (input_number second) 1) 1 (cond b (input_number second) 14)) e
+
+  pub second-passed : input_number second ≡ 0 → one_unit first second ≡ true → second_number first second ≡ 0
+  second-passed i e = second-own e ∙ i
+
+  -- 0 where it passes its tests, and the units are one
+  pub second-zero : second_number first second ≡ 0 → (input_number second ≡ 0) × (unit_of (form_of first) ≡ unit_of (form_of second))
+  unfolding second_number
+  second-zero e = go (eqb (input_number second) 1) (one_unit first second) refl e
+    where
+      go : (b t : Bool) → one_unit first second ≡ t → cond b 1 (cond t (input_number second) 14) ≡ 0 → (input_number second ≡ 0) × (unit_of (form_of first) ≡ unit_of (form_of second))
+      go true t q h = absurd (omega (arith, h))
+      go false true q h = (h, eqb-true (unit_of (form_of first)) (unit_of (form_of second)) q)
+      go false false q h = absurd (omega (arith, h))
 
 module _ (first second : List ℕ) (room : ℕ) where
   pub number-known : Known (both_number first second room)
   unfolding both_number
   number-known =
       known-cond (not (eqb (input_number first) 0)) (input_number first) _ (input-known first)
-      (known-cond (not (eqb (input_number second) 0)) (input_number second) _ (input-known second)
+      (known-cond (not (eqb (second_number first second) 0)) (second_number first second) _ (second-known first second)
       (known-cond (not (eqb (product_number (machine first) (machine second)) 0)) (product_number (machine first) (machine second)) _ (product-known (machine first) (machine second))
       (known-cond (ltb room (length (answer_of first second))) 21 0 (known Refusal.Room) (inl refl))))
 
@@ -33,15 +70,15 @@ module _ (first second : List ℕ) (room : ℕ) where
   number-first r e = first-failed (input_number first) _ r e
 
   module _ (i : input_number first ≡ 0) where
-    pub number-second : (r : Refusal) → input_number second ≡ number_of r → both_number first second room ≡ number_of r
+    pub number-second : (r : Refusal) → second_number first second ≡ number_of r → both_number first second room ≡ number_of r
     unfolding both_number
-    number-second r e = first-passed (input_number first) _ i ∙ first-failed (input_number second) _ r e
+    number-second r e = first-passed (input_number first) _ i ∙ first-failed (second_number first second) _ r e
 
-    module _ (j : input_number second ≡ 0) where
-      -- two sheets that pass tests 1 to 6: by the product's number, then by the room
+    module _ (j : second_number first second ≡ 0) where
+      -- two sheets of one unit that pass tests 1, 14 and 2 to 6: by the product's number, then by the room
       pub number-both : both_number first second room ≡ (let k = product_number (machine first) (machine second) in cond (not (eqb k 0)) k (cond (ltb room (length (answer_of first second))) 21 0))
       unfolding both_number
-      number-both = first-passed (input_number first) _ i ∙ first-passed (input_number second) _ j
+      number-both = first-passed (input_number first) _ i ∙ first-passed (second_number first second) _ j
 
       pub number-product : (r : Refusal) → product_number (machine first) (machine second) ≡ number_of r → both_number first second room ≡ number_of r
       number-product r e = number-both ∙ first-failed (product_number (machine first) (machine second)) _ r e

@@ -22,27 +22,27 @@ use Rattle.machine.specs.Readings.{no_link, link}
 use Rattle.product.specs.Fits.{final_fits}
 use Rattle.product.specs.Joins.{join_below}
 use Rattle.product.proofs.Joins.{flat-below, join-same}
-use Rattle.two_probes.specs.Held.{field_of, node_words}
+use Rattle.two_probes.specs.Held.{field_of, node_record}
 
 -- ---- the links, and the nodes, one after the other
-pub links-joined : (m : Machine) → join_below (length m.links) (λ q. link_fields (link m q)) ≡ flat_map link_fields m.links
-links-joined m = sym (flat-below link_fields (length m.links) (link m)) ∙ ap (flat_map link_fields) (all_back (link m) m.links no_link refl (λ i h. refl))
+pub links-joined : (j : ℕ) (m : Machine) → join_below (length m.links) (λ q. link_fields j (link m q)) ≡ flat_map (link_fields j) m.links
+links-joined j m = sym (flat-below (link_fields j) (length m.links) (link m)) ∙ ap (flat_map (link_fields j)) (all_back (link m) m.links no_link refl (λ i h. refl))
 
 join-front : {A : Type 0} (n : ℕ) (f : ℕ → List A) → join_below (suc n) f ≡ f 0 ++ join_below n (λ i. f (suc i))
 unfolding join_below
 join-front zero f = sym (append-nil (f 0))
 join-front {A} (suc n) f = ap (λ (l : List A). l ++ f (suc n)) (join-front n f) ∙ append_assoc (f 0) (join_below n (λ i. f (suc i))) (f (suc n))
 
-abbrev node_at : List Link → ℕ → List (Maybe Tropical) → ℕ → List ℕ
-node_at ks v fs u = leaving ks (v + u) ∷ final_fields (get_or fs u none)
+abbrev node_at : ℕ → List Link → ℕ → List (Maybe Tropical) → ℕ → List ℕ
+node_at j ks v fs u = leaving ks (v + u) ∷ final_fields j (get_or fs u none)
 
-nodes-from : (ks : List Link) (v : ℕ) (fs : List (Maybe Tropical)) → join_below (length fs) (node_at ks v fs) ≡ node_fields ks v fs
+nodes-from : (j : ℕ) (ks : List Link) (v : ℕ) (fs : List (Maybe Tropical)) → join_below (length fs) (node_at j ks v fs) ≡ node_fields j ks v fs
 unfolding join_below node_fields
-nodes-from ks v [] = refl
-nodes-from ks v (f ∷ fs) =
-    join-front (length fs) (node_at ks v (f ∷ fs))
-    ∙ (λ i. (leaving ks (add-none i) ∷ final_fields f) ++ join-same (length fs) (λ u. node_at ks v (f ∷ fs) (suc u)) (node_at ks (suc v) fs) (λ u j. leaving ks (one_on u j) ∷ final_fields (get_or fs u none)) i)
-    ∙ ap (λ (l : List ℕ). (leaving ks v ∷ final_fields f) ++ l) (nodes-from ks (suc v) fs)
+nodes-from j ks v [] = refl
+nodes-from j ks v (f ∷ fs) =
+    join-front (length fs) (node_at j ks v (f ∷ fs))
+    ∙ (λ i. (leaving ks (add-none i) ∷ final_fields j f) ++ join-same (length fs) (λ u. node_at j ks v (f ∷ fs) (suc u)) (node_at j ks (suc v) fs) (λ u k. leaving ks (one_on u k) ∷ final_fields j (get_or fs u none)) i)
+    ∙ ap (λ (l : List ℕ). (leaving ks v ∷ final_fields j f) ++ l) (nodes-from j ks (suc v) fs)
   where
     add-none : v + 0 ≡ v
     add-none = omega arith
@@ -50,8 +50,8 @@ nodes-from ks v (f ∷ fs) =
     one_on : (u : ℕ) → v + suc u ≡ suc v + u
     one_on u = omega arith
 
-pub nodes-joined : (m : Machine) → join_below (length m.finals) (node_words m) ≡ node_fields m.links 0 m.finals
-nodes-joined m = join-same (length m.finals) (node_words m) (node_at m.links 0 m.finals) (λ u i. leaving m.links (at u i) ∷ final_fields (get_or m.finals u none)) ∙ nodes-from m.links 0 m.finals
+pub nodes-joined : (j : ℕ) (m : Machine) → join_below (length m.finals) (node_record j m) ≡ node_fields j m.links 0 m.finals
+nodes-joined j m = join-same (length m.finals) (node_record j m) (node_at j m.links 0 m.finals) (λ u i. leaving m.links (at u i) ∷ final_fields j (get_or m.finals u none)) ∙ nodes-from j m.links 0 m.finals
   where
     at : (u : ℕ) → u ≡ 0 + u
     at u = omega arith
@@ -73,27 +73,27 @@ records-more l middle at w i place f e m p =
     ∙ sets-words l at (join_below i f) (f i) place (p ∙ ap (λ (n : ℕ). at + 4 * n) (sym (length-joined w i f e)))
     ∙ ap (λ (k : ℕ). sets l at (bytes_of_all (join_below k f))) (sym (add-one i))
 
-pub length-final : (f : Maybe Tropical) → length (final_fields f) ≡ 2
-length-final none = refl
-length-final (some w) = refl
+pub length-final : (j : ℕ) (f : Maybe Tropical) → length (final_fields j f) ≡ 2
+length-final j none = refl
+length-final j (some w) = refl
 
 -- ---- a final weight's fields, by the option of its field
-pub field-none : (f : Maybe Tropical) → field_of f ≡ None → 0 ∷ 0 ∷ [] ≡ final_fields f
-field-none none e = refl
-field-none (some w) e = let z : ◌≡◌ {A = ℕ} 0 1 = cc in absurd (omega arith)
+pub field-none : (j : ℕ) (f : Maybe Tropical) → field_of j f ≡ None → 0 ∷ 0 ∷ [] ≡ final_fields j f
+field-none j none e = refl
+field-none j (some w) e = let z : ◌≡◌ {A = ℕ} 0 1 = cc in absurd (omega arith)
 
-pub field-some : (f : Maybe Tropical) (k : ℕ) → field_of f ≡ Some k → 1 ∷ k ∷ [] ≡ final_fields f
-field-some none k e = let z : ◌≡◌ {A = ℕ} 0 1 = cc in absurd (omega arith)
-field-some (some w) k e = let z : Some k ≡ Some _ = sym e in cc
+pub field-some : (j : ℕ) (f : Maybe Tropical) (k : ℕ) → field_of j f ≡ Some k → 1 ∷ k ∷ [] ≡ final_fields j f
+field-some j none k e = let z : ◌≡◌ {A = ℕ} 0 1 = cc in absurd (omega arith)
+field-some j (some w) k e = let z : Some k ≡ Some _ = sym e in cc
 
 -- and whether it passes test 4
-pub fits-none : (f : Maybe Tropical) → field_of f ≡ None → final_fits f ≡ true
-fits-none none e = refl
-fits-none (some w) e = let z : ◌≡◌ {A = ℕ} 0 1 = cc in absurd (omega arith)
+pub fits-none : (j : ℕ) (f : Maybe Tropical) → field_of j f ≡ None → final_fits j f ≡ true
+fits-none j none e = refl
+fits-none j (some w) e = let z : ◌≡◌ {A = ℕ} 0 1 = cc in absurd (omega arith)
 
-pub fits-some : (f : Maybe Tropical) (k : ℕ) → field_of f ≡ Some k → final_fits f ≡ weight_fits k
-fits-some none k e = let z : ◌≡◌ {A = ℕ} 0 1 = cc in absurd (omega arith)
-fits-some (some w) k e = let z : bits_of w ≡ k = cc in ap weight_fits z
+pub fits-some : (j : ℕ) (f : Maybe Tropical) (k : ℕ) → field_of j f ≡ Some k → final_fits j f ≡ weight_fits j k
+fits-some j none k e = let z : ◌≡◌ {A = ℕ} 0 1 = cc in absurd (omega arith)
+fits-some j (some w) k e = let z : bits_of j w ≡ k = cc in ap (weight_fits j) z
 
 -- ---- how many links leave v: they stand from place `low` up to place `high`
 pub leaving-between : (ks : List Link) (v low high : ℕ) → high ≤ length ks → low ≤ high

@@ -3,3 +3,4 @@ pub mod Room
 pub mod Numbered
 pub mod ReadBack
 pub mod Parts
+pub mod InUnit

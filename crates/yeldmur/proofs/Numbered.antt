@@ -10,7 +10,7 @@ use Rattle.sheet.specs.declared.refusal.Refusal.{Refusal}
 use Rattle.sheet.specs.declared.tr.Link.{Link}
 use Rattle.sheet.specs.declared.tr.Node.{Node}
 use Rattle.sheet.specs.Refusals.{number_in}
-use Rattle.sheet.specs.Machine.{Machine, link_fields}
+use Rattle.sheet.specs.Machine.{Machine, unit_in, link_fields}
 use Rattle.machine.specs.Readings.{link}
 use Rattle.sheet_fields.specs.declared.counts.SheetCounts.{SheetCounts}
 use Rattle.sheet_fields.specs.Fields.{fields_of_node, LinkOf, NodeOf}
@@ -29,9 +29,9 @@ module _ (number count : ℕ) (fields old : List ℕ) where
   past h = sym (ap (λ (b : Bool). cond b (0 ∷ fields) (31 ∷ old)) (le-ltb number count h))
 
 module _ (m : Machine) (number : ℕ) (old : List ℕ) where
-  pub link-numbered : (s : Option Link) → LinkOf m number s → link_told s old ≡ numbered number (length m.links) (link_fields (link m number)) old
-  link-numbered (Some k) h = ap (λ (ws : List ℕ). 0 ∷ ws) h.1 ∙ among number (length m.links) (link_fields (link m number)) old h.0
-  link-numbered None h = past number (length m.links) (link_fields (link m number)) old h
+  pub link-numbered : (s : Option Link) → LinkOf m number s → link_told s old ≡ numbered number (length m.links) (link_fields (unit_in m) (link m number)) old
+  link-numbered (Some k) h = ap (λ (ws : List ℕ). 0 ∷ ws) h.1 ∙ among number (length m.links) (link_fields (unit_in m) (link m number)) old h.0
+  link-numbered None h = past number (length m.links) (link_fields (unit_in m) (link m number)) old h
 
   pub node-numbered : (s : Option Node) → NodeOf m number s → node_told s old ≡ numbered number (length m.finals) (fields_of_node m number) old
   node-numbered (Some n) h = ap (λ (ws : List ℕ). 0 ∷ ws) h.1 ∙ among number (length m.finals) (fields_of_node m number) old h.0

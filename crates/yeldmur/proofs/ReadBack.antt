@@ -9,6 +9,7 @@ use Rattle.sheet.specs.Machine.{Machine, machine}
 use Rattle.machine.specs.Readings.{reading_of, reading_cost}
 use Rattle.search.specs.Listed.{list_of}
 use Rattle.std.specs.Prelude.{Result, Ok, Err}
+use Rattle.sheet.specs.declared.form.Form.TheVariants as Form
 use Rattle.sheet.specs.declared.refusal.Refusal.{Refusal}
 use Rattle.sheet.specs.Refusals.{answer, number_in}
 use Rattle.sheet.proofs.Refusals.{number-told, number-positive}
@@ -23,10 +24,10 @@ use Rattle.yeldmur.specs.Told.{value_told, told_reading, CountTold, ReadingTold}
 -- ---- how many readings
 module _ (result : List ℕ) (n states links : ℕ) where
   pub counted-all : (told : Result ℕ Refusal) (r count old : ℕ) → told ≡ count_answer result n states links → CountsList result n states links told → (r, count) ≡ value_told told old
-      → (r ≡ count_number result n states links) × (((r, count) ≡ value_told (count_answer result n states links) old) × CountTold result n states links r count)
+      → (r ≡ count_number Form.Short result n states links) × (((r, count) ≡ value_told (count_answer result n states links) old) × CountTold result n states links r count)
   counted-all told r count old is list e =
       let whole = e ∙ ap (λ (t : Result ℕ Refusal). value_told t old) is in (
-        value-number (count_in result states links n) (count_number result n states links) old (count-known result n states links) whole,
+        value-number (count_in result states links n) (count_number Form.Short result n states links) old (count-known Form.Short result n states links) whole,
         (whole, λ sheet below h. let z = e ∙ ap (λ (t : Result ℕ Refusal). value_told t old) (list sheet below h) in (ap (λ (x : ℕ × ℕ). x.0) z, ap (λ (x : ℕ × ℕ). x.1) z)),
       )
 
@@ -50,7 +51,7 @@ module _ (sheet : List ℕ) (n : ℕ) (result : List ℕ) (states links k : ℕ)
   -- of the list's own result
   listed : (r count : ℕ) (cost : ℤ) (end c : ℕ) (z : ℤ) (v : ℕ) → (r, count, cost, end) ≡ told_reading told c z v → ReadingTold sheet n result states links k old r count cost end run
   listed r count cost end c z v e h b room =
-      let way = get_or (list_of n states links result) k [] in
+      let way = get_or (list_of m.form n states links result) k [] in
       let t = reads h b room in
       let x = e ∙ ap (λ (t : Result Told Refusal). told_reading t c z v) t.0 in
       let front = ap (take (length way)) t.1 ∙ stored-front old way room in

@@ -10,6 +10,7 @@ use lib.ListN.{length}
 use borrow.Author.Tests.{ne_eqb}
 use Rattle.std.specs.Prelude.{Option, None, Some, Result, Ok, Err, MatchResult, IsOkAnd}
 use Rattle.tropical_weight.specs.Limits.{list_limit}
+use Rattle.sheet.specs.declared.form.Form.{Form}
 use Rattle.sheet.specs.declared.refusal.Refusal.{Refusal}
 use Rattle.sheet.specs.Refusals.{number_of, answer, number_in}
 use Rattle.sheet.specs.Answers.{written}
@@ -74,10 +75,10 @@ pub list-known : (bytes : List ℕ) (n words room : ℕ) → Known (list_number 
 unfolding list_number
 list-known bytes n words room = tested-known bytes n (areas_number bytes n words room) (areas-known (ltb (words / 8) (slots_needed bytes n)) (ltb room (length (answer_of bytes n))))
 
-pub count-known : (result : List ℕ) (n states links : ℕ) → Known (count_number result n states links)
+pub count-known : (form : Form) (result : List ℕ) (n states links : ℕ) → Known (count_number form result n states links)
 unfolding count_number
-count-known result n states links =
-    known-cond (ltb list_limit n) 7 (cond (not (is_list result states links n)) 30 0) (known Refusal.Count) (known-cond (not (is_list result states links n)) 30 0 (known Refusal.NoAnswer) (inl refl))
+count-known form result n states links =
+    known-cond (ltb list_limit n) 7 (cond (not (is_list form result states links n)) 30 0) (known Refusal.Count) (known-cond (not (is_list form result states links n)) 30 0 (known Refusal.NoAnswer) (inl refl))
 
 held-known : (o : Maybe (List ℕ)) (room : ℕ) → Known (room_number o room)
 held-known none room = known Refusal.NoAnswer
@@ -88,7 +89,7 @@ unfolding reading_number
 reading-known sheet n result states links k room =
     let last = room_number (held_reading (machine sheet) result n states links k) room in
     tested-known sheet n (held_number (machine sheet) result n states links k room)
-    (known-cond (not (is_list result states links n)) 30 (cond (leb (count_in result states links n) k) 31 last) (known Refusal.NoAnswer)
+    (known-cond (not (is_list (machine sheet).form result states links n)) 30 (cond (leb (count_in result states links n) k) 31 last) (known Refusal.NoAnswer)
     (known-cond (leb (count_in result states links n) k) 31 last (known Refusal.Absent) (held-known (held_reading (machine sheet) result n states links k) room)))
 
 -- ---- what is told

@@ -16,7 +16,7 @@ ListFor sheet n told result = Keeps (machine sheet) n told.nodes told.links told
 
 -- the costs of the readings on it, in their order
 abbrev pub costs_listed : List ℕ → ℕ → Listed → List ℕ → List Tropical
-costs_listed sheet n told result = map (reading_cost (machine sheet)) (map (reading_of (machine sheet)) (list_of n told.nodes told.links result))
+costs_listed sheet n told result = map (reading_cost (machine sheet)) (map (reading_of (machine sheet)) (list_of (machine sheet).form n told.nodes told.links result))
 
 -- Of three such results for any n, on a sheet and on the two parts that an area holds: the whole's costs are the n least sums of one cost from each part's list, or all of them where there are fewer.
 abbrev pub PartLists : List ℕ → ℕ → Counts → List ℕ → Type 0

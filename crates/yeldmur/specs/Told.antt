@@ -7,12 +7,15 @@ use Rattle.machine.specs.Readings.{reading_of, reading_cost}
 use Rattle.search.specs.Listed.{list_of}
 use Rattle.list_answer.specs.declared.Listed.{Listed}
 use Rattle.preheat_bake.specs.declared.counts.Counts.{Counts}
+use Rattle.sheet.specs.declared.form.Form.{Form}
 use Rattle.sheet.specs.declared.refusal.Refusal.{Refusal}
 use Rattle.sheet.specs.declared.tr.Link.{Link}
 use Rattle.sheet.specs.declared.tr.Node.{Node}
 use Rattle.sheet.specs.Refusals.{number_of}
+use Rattle.sheet.specs.Sheet.{unit_of, unit_fits}
 use Rattle.sheet_fields.specs.declared.counts.SheetCounts.{SheetCounts}
-use Rattle.sheet_fields.specs.Fields.{link_words, node_words}
+use Rattle.sheet_fields.specs.Fields.{link_record, node_record}
+use Rattle.read_distance.specs.Told.{distance_told}
 use Rattle.read_back.specs.declared.reading.Told.{Told}
 use Rattle.read_back.specs.Promise.{IsAnswer}
 
@@ -38,7 +41,7 @@ told_reading (Err r) count cost end = (number_of r, count, cost, end)
 
 -- Of the result of the call for lists it is never refused: it tells as many readings as the list holds,
 abbrev pub CountTold : List ℕ → ℕ → ℕ → ℕ → ℕ → ℕ → Type 0
-CountTold result n states links r count = (sheet : List ℕ) → ((i : ℕ) → get_or sheet i 0 < 256) → IsAnswer sheet n result states links → (r ≡ 0) × (count ≡ length (list_of n states links result))
+CountTold result n states links r count = (sheet : List ℕ) → ((i : ℕ) → get_or sheet i 0 < 256) → IsAnswer sheet n result states links → (r ≡ 0) × (count ≡ length (list_of (machine sheet).form n states links result))
 
 -- and of each that there is room for, its links, its cost and its end.
 pub record IsListed (sheet old way : List ℕ) (r count : ℕ) (cost : ℤ) (end : ℕ) (run : List ℕ) : Type 0 where
@@ -50,14 +53,18 @@ pub record IsListed (sheet old way : List ℕ) (r count : ℕ) (cost : ℤ) (end
 
 abbrev pub ReadingTold : List ℕ → ℕ → List ℕ → ℕ → ℕ → ℕ → List ℕ → ℕ → ℕ → ℤ → ℕ → List ℕ → Type 0
 ReadingTold sheet n result states links k old r count cost end run =
-    let way = get_or (list_of n states links result) k [] in
-    IsAnswer sheet n result states links → k < length (list_of n states links result) → length way ≤ length old → IsListed sheet old way r count cost end run
+    let way = get_or (list_of (machine sheet).form n states links result) k [] in
+    IsAnswer sheet n result states links → k < length (list_of (machine sheet).form n states links result) → length way ≤ length old → IsListed sheet old way r count cost end run
 
 -- of a node's distance, whether it is reached, and the cost, or 0
 abbrev pub node_distance_told : Result (Option ℤ) Refusal → ℕ → ℤ → ℕ × ℕ × ℤ
 node_distance_told (Ok (Some k)) reached cost = (0, 1, k)
 node_distance_told (Ok None) reached cost = (0, 0, pos 0)
 node_distance_told (Err r) reached cost = (number_of r, reached, cost)
+
+-- the distance that is told in units of 1 / unit, 64 or 256, or 14 for another unit
+abbrev pub distance_in : List ℕ → ℕ → ℕ → ℕ → Result (Option ℤ) Refusal
+distance_in result values node unit = cond (unit_fits (Form.Long unit)) (distance_told (unit_of (Form.Long unit)) result values node) (Err Refusal.Unit)
 
 -- of a sheet, its counts and its start
 abbrev pub counts_told : Result SheetCounts Refusal → ℕ → ℕ → ℕ → ℕ → ℕ × ℕ × ℕ × ℕ × ℕ
@@ -66,11 +73,11 @@ counts_told (Err r) nodes links finals start = (number_of r, nodes, links, final
 
 -- of a link and of a node, their fields
 abbrev pub link_told : Option Link → List ℕ → List ℕ
-link_told (Some k) old = 0 ∷ link_words k
+link_told (Some k) old = 0 ∷ link_record k
 link_told None old = 31 ∷ old
 
 abbrev pub node_told : Option Node → List ℕ → List ℕ
-node_told (Some n) old = 0 ∷ node_words n
+node_told (Some n) old = 0 ∷ node_record n
 node_told None old = 31 ∷ old
 
 -- these are told of a number below the count

@@ -1,14 +1,16 @@
 // Yeldmur for C and Rust: sheets read and written, rows of text turned into sheets and back, distances,
 // lists of the cheapest readings, what two sheets both allow, and the two parts of a sheet, in areas that
 // the caller lends. Each function returns 0 or the number of the refusal, and then the numbers behind its
-// references keep their values.
+// references keep their values. Where 1 to 4, 1 to 6 or 1 to 7 are named, 14 is among them, right after 1.
 #![tactic(auto)]
 
-ghost use Rattle.std.specs.Prelude.{◌≡◌, cond, List, [], ◌∷◌, ℕ, ◌≤◌, ◌<◌, eqb, length};
+ghost use Rattle.std.specs.Prelude.{◌≡◌, cond, List, [], ◌∷◌, ℕ, ◌^◌, ◌≤◌, ◌<◌, eqb, length};
 ghost use Rattle.tropical_weight.specs.Limits.{node_limit, link_limit, list_limit};
-ghost use Rattle.sheet.specs.Sheet.{read_number, write_number};
+ghost use Rattle.tropical_weight.specs.Limits as Limits;
+ghost use Rattle.sheet.specs.declared.form.Form.TheVariants as Form;
+ghost use Rattle.sheet.specs.Sheet.{long_trailer, read_number, write_number};
 ghost use Rattle.sheet.specs.Answers.{parts, written, written_over, ReadBack};
-ghost use Rattle.sheet.specs.Machine.{machine as machine_for, link_fields};
+ghost use Rattle.sheet.specs.Machine.{machine as machine_for, unit_in, link_fields};
 ghost use Rattle.sheet.specs.Reading.{next_link};
 ghost use Rattle.machine.specs.Readings.{link as link_of};
 ghost use Rattle.machine.specs.Distance.{distance as distance_for};
@@ -18,6 +20,7 @@ ghost use Rattle.two_probes.specs.Promise.{Allowed, Reasons};
 ghost use Rattle.preheat_bake.specs.Outcome.{split_number, split_answer, split_over};
 ghost use Rattle.preheat_bake.specs.Promise.{Parted, Reasons as SplitReasons};
 ghost use Rattle.sheet_fields.specs.Counts.{counts_of};
+ghost use Rattle.sheet_fields.specs.Units.{unit_told};
 ghost use Rattle.sheet_fields.specs.Nodes.{next_node};
 ghost use Rattle.sheet_fields.specs.Fields.{fields_of_node};
 ghost use Rattle.read_distance.specs.Told.{distance_told};
@@ -31,7 +34,7 @@ ghost use Rattle.shortest_path.specs.Outcome.{slots_needed, tested_number, list_
 ghost use Rattle.shortest_path.specs.Promise.{Keeps};
 ghost use Rattle.read_back.specs.Answers.{count_number, count_answer, reading_number, reading_answer, run_after};
 ghost use Rattle.read_back.specs.Promise.{IsTrue};
-ghost use Rattle.yeldmur.specs.Told.{value_told, listed_told, split_told, told_reading, CountTold, ReadingTold, node_distance_told, counts_told, link_told, node_told, numbered};
+ghost use Rattle.yeldmur.specs.Told.{value_told, listed_told, split_told, told_reading, CountTold, ReadingTold, node_distance_told, distance_in, counts_told, link_told, node_told, numbered};
 ghost use Rattle.yeldmur.specs.PartLists.{PartLists};
 ghost use Rattle.list_answer.specs.ListAnswer.{slots_of};
 ghost use Rattle.yeldmur.specs.Areas.{measured_number, bytes_of, bytes_enough, Enough, counts_number, finals_of, Serves};
@@ -40,10 +43,14 @@ use machine::climbing::Machine;
 use machine::counted::Counted;
 use machine::limits::within_limits;
 use sheet::accepted::Sheet;
+use sheet::form::{Form, LONG_TRAILER};
 use sheet::refusal::Refusal;
+use sheet::tr::{LINK, NODE};
+use sheet::words::WORD;
 use tropical_weight::LIST_LIMIT;
+use tropical_weight::unit::Unit;
 
-// Tests 1 to 4 of a byte string as a sheet.
+// Tests 1, 14 and 2 to 4 of a byte string as a sheet.
 #[unsafe(no_mangle)]
 pub extern "C" fn yeldmur_read_sheet(sheet: &[u8]) -> u32
     ensures { result ≡ read_number sheet.now }
@@ -68,7 +75,8 @@ fn tell<T: Copy>(answer: Result<T, Refusal>, value: &mut T) -> u32
     }
 }
 
-// Writes the sheet of these links, four words each, and nodes, three words each: tests 1 to 4 and 21.
+// Writes the sheet of these links, four words each, and nodes, three words each, of weights in 64ths, with
+// the shorter trailer: tests 1 to 4 and 21.
 #[unsafe(no_mangle)]
 pub extern "C" fn yeldmur_write_sheet(
     links: &[u32],
@@ -77,12 +85,31 @@ pub extern "C" fn yeldmur_write_sheet(
     res: &mut [u8],
     size: &mut u64,
 ) -> u32
-    ensures value { result ≡ write_number (parts links.now nodes.now start) (length res.old) }
-    ensures size_after { (result, size.new) ≡ value_told (written (parts links.now nodes.now start) (length res.old)) size.old }
-    ensures res_after { res.new ≡ written_over (parts links.now nodes.now start) res.old }
-    ensures read_back { result ≡ 0 → ReadBack (parts links.now nodes.now start) size.new res.new }
+    ensures value { result ≡ write_number (parts links.now nodes.now start Form.Short) (length res.old) }
+    ensures size_after { (result, size.new) ≡ value_told (written (parts links.now nodes.now start Form.Short) (length res.old)) size.old }
+    ensures res_after { res.new ≡ written_over (parts links.now nodes.now start Form.Short) res.old }
+    ensures read_back { result ≡ 0 → ReadBack (parts links.now nodes.now start Form.Short) size.new res.new }
 {
-    let written = sheet::write::write(links, nodes, start, res);
+    let written = sheet::write::write(links, nodes, start, Form::Short, res);
+    tell(written.map(|n| n as u64), size)
+}
+
+// The same with the longer trailer, of weights in the unit, 64 or 256: tests 1, 14, 2 to 4 and 21.
+#[unsafe(no_mangle)]
+pub extern "C" fn yeldmur_write_sheet_in(
+    links: &[u32],
+    nodes: &[u32],
+    start: u32,
+    unit: u32,
+    res: &mut [u8],
+    size: &mut u64,
+) -> u32
+    ensures value { result ≡ write_number (parts links.now nodes.now start (Form.Long unit)) (length res.old) }
+    ensures size_after { (result, size.new) ≡ value_told (written (parts links.now nodes.now start (Form.Long unit)) (length res.old)) size.old }
+    ensures res_after { res.new ≡ written_over (parts links.now nodes.now start (Form.Long unit)) res.old }
+    ensures read_back { result ≡ 0 → ReadBack (parts links.now nodes.now start (Form.Long unit)) size.new res.new }
+{
+    let written = sheet::write::write(links, nodes, start, Form::Long(unit), res);
     tell(written.map(|n| n as u64), size)
 }
 
@@ -108,7 +135,7 @@ pub extern "C" fn yeldmur_rows_sheet_bytes(text: &[u8], bytes: &mut u64) -> u32
     tell(answer.map(|n| n as u64), bytes)
 }
 
-// Turns a sheet into rows of text, which turn into that very sheet: 1 to 4, 9 and 21.
+// Turns a sheet into rows of text, which turn into that very sheet: 1, 14, 2 to 4, 9 and 21.
 #[unsafe(no_mangle)]
 pub extern "C" fn yeldmur_sheet_to_rows(sheet: &[u8], res: &mut [u8], size: &mut u64) -> u32
     ensures value { result ≡ text_number sheet.now (length res.old) }
@@ -121,7 +148,7 @@ pub extern "C" fn yeldmur_sheet_to_rows(sheet: &[u8], res: &mut [u8], size: &mut
     tell(answer.map(|n| n as u64), size)
 }
 
-// The bytes of the rows of a sheet: 1 to 4 and 9.
+// The bytes of the rows of a sheet: 1, 14, 2 to 4 and 9.
 #[unsafe(no_mangle)]
 pub extern "C" fn yeldmur_sheet_rows_bytes(sheet: &[u8], bytes: &mut u64) -> u32
     ensures bytes_after { (result, bytes.new) ≡ value_told (text_measured sheet.now) bytes.old }
@@ -131,8 +158,8 @@ pub extern "C" fn yeldmur_sheet_rows_bytes(sheet: &[u8], bytes: &mut u64) -> u32
     tell(answer.map(|n| n as u64), bytes)
 }
 
-// The sheet of what two sheets both allow: 1 to 6 of the first, 1 to 6 of the second, then 10, 11, 12
-// and 21.
+// The sheet of what two sheets both allow: 1 to 6 of the first, 1 to 6 of the second, whose 14 is also
+// another unit than the first's, then 10, 11, 12 and 21.
 #[unsafe(no_mangle)]
 pub extern "C" fn yeldmur_two_probes(
     first: &[u8],
@@ -235,7 +262,7 @@ pub extern "C" fn yeldmur_readings(
     links: u32,
     count: &mut u32,
 ) -> u32
-    ensures value { result ≡ count_number res.now n states links }
+    ensures value { result ≡ count_number Form.Short res.now n states links }
     ensures count_after { (result, count.new) ≡ value_told (count_answer res.now n states links) count.old }
     ensures count_told { CountTold res.now n states links result count.new }
 {
@@ -244,7 +271,7 @@ pub extern "C" fn yeldmur_readings(
 }
 
 // Reading k, from 0, of the list for n of a sheet, from its result: the numbers of its links, its cost in
-// units and the node where it ends. 1 to 7, 30, 31, 30 and 21.
+// the sheet's own units and the node where it ends. 1 to 7, 30, 31, 30 and 21.
 #[unsafe(no_mangle)]
 pub extern "C" fn yeldmur_reading(
     sheet: &[u8],
@@ -275,17 +302,20 @@ pub extern "C" fn yeldmur_reading(
     }
 }
 
-// The bytes that a list for n takes at the most.
-fn bytes_enough(nodes: u32, links: u32, finals: u32, n: u32) -> u32
-    requires { (nodes ≤ node_limit) × (links ≤ link_limit) × (finals ≤ nodes) × (n ≤ list_limit) }
-    ensures { result ≡ bytes_of nodes links finals n }
+// The bytes of a link of a result, with its word.
+const LISTED_LINK: u32 = (LINK + WORD) as u32;
+
+// The bytes that a list for n takes at the most, with a trailer of so many bytes.
+fn bytes_enough(nodes: u32, links: u32, finals: u32, n: u32, trailer: u32) -> u32
+    requires { (nodes ≤ node_limit) × (links ≤ link_limit) × (finals ≤ nodes) × (n ≤ list_limit) × (trailer ≤ long_trailer) }
+    ensures { result ≡ bytes_of trailer nodes links finals n }
 {
     match n {
-        0 => 20,
-        1 => 32 * nodes + 20,
+        0 => trailer,
+        1 => ((NODE as u32) + LISTED_LINK) * nodes + trailer,
         _ => {
             let entries = 1 + finals + n * (links + 1);
-            12 * (entries + 1) + 20 * (entries + n) + 20
+            (NODE as u32) * (entries + 1) + LISTED_LINK * (entries + n) + trailer
         }
     }
 }
@@ -297,9 +327,36 @@ fn finals_of(nodes: u32, finals: u32) -> u32
     nodes.min(finals)
 }
 
-// The areas for a list for n of every accepted sheet with at most so many nodes, links and final nodes:
-// the work slots and bytes of one that has just these. Tests 5 and 7. Those for n = 1 are enough for
-// the distances.
+// The slots and bytes for a list for n of a sheet with such counts and a trailer of so many bytes: 5 and 7.
+fn areas_by(
+    nodes: u32,
+    links: u32,
+    finals: u32,
+    n: u32,
+    trailer: u32,
+    slots: &mut u64,
+    bytes: &mut u64,
+) -> u32
+    requires { (finals ≤ nodes) × (trailer ≤ long_trailer) }
+    ensures value { result ≡ counts_number nodes links n }
+    ensures few { result ≡ 0 → n ≤ list_limit }
+    ensures slots_after { slots.new ≡ cond (eqb result 0) (slots_of nodes links finals n) slots.old }
+    ensures bytes_after { bytes.new ≡ cond (eqb result 0) (bytes_of trailer nodes links finals n) bytes.old }
+{
+    if let Err(refusal) = within_limits(nodes, links) {
+        return u32::from(refusal);
+    }
+    if LIST_LIMIT < n {
+        return u32::from(Refusal::Count);
+    }
+    *slots = u64::from(list_answer::slots_needed(nodes, links, finals, n));
+    *bytes = u64::from(bytes_enough(nodes, links, finals, n, trailer));
+    0
+}
+
+// The areas for a list for n of every accepted sheet, of either form, with at most so many nodes, links and
+// final nodes: the work slots and bytes of one that has just these, and the longer trailer. Tests 5 and 7.
+// Those for n = 1 are enough for the distances.
 #[unsafe(no_mangle)]
 pub extern "C" fn yeldmur_areas_of(
     nodes: u32,
@@ -311,19 +368,11 @@ pub extern "C" fn yeldmur_areas_of(
 ) -> u32
     ensures value { result ≡ counts_number nodes links n }
     ensures slots_after { slots.new ≡ cond (eqb result 0) (slots_of nodes links (finals_of nodes finals) n) slots.old }
-    ensures bytes_after { bytes.new ≡ cond (eqb result 0) (bytes_of nodes links (finals_of nodes finals) n) bytes.old }
+    ensures bytes_after { bytes.new ≡ cond (eqb result 0) (bytes_of long_trailer nodes links (finals_of nodes finals) n) bytes.old }
     ensures serves { result ≡ 0 → Serves nodes links finals n slots.new bytes.new }
 {
-    if let Err(refusal) = within_limits(nodes, links) {
-        return u32::from(refusal);
-    }
-    if LIST_LIMIT < n {
-        return u32::from(Refusal::Count);
-    }
     let marked = finals_of(nodes, finals);
-    *slots = u64::from(list_answer::slots_needed(nodes, links, marked, n));
-    *bytes = u64::from(bytes_enough(nodes, links, marked, n));
-    0
+    areas_by(nodes, links, marked, n, LONG_TRAILER as u32, slots, bytes)
 }
 
 // The areas that a list for n of a sheet is made in: the work slots that it needs, of eight words, and
@@ -339,26 +388,26 @@ pub extern "C" fn yeldmur_areas(sheet: &[u8], n: u32, slots: &mut u64, bytes: &m
     match Machine::new(sheet) {
         Ok(m) => {
             let finals = Counted::new(&m).finals;
-            yeldmur_areas_of(m.sheet.nodes, m.sheet.links, finals, n, slots, bytes)
+            let trailer = m.sheet.form.trailer() as u32;
+            areas_by(
+                m.sheet.nodes,
+                m.sheet.links,
+                finals,
+                n,
+                trailer,
+                slots,
+                bytes,
+            )
         }
         Err(refusal) => u32::from(refusal),
     }
 }
 
-// The distance of a node, from the result of yeldmur_shortest_distance, which told so many values: 30,
-// 31 and 30.
-#[unsafe(no_mangle)]
-pub extern "C" fn yeldmur_distance(
-    res: &[u8],
-    values: u32,
-    node: u32,
-    reached: &mut u32,
-    cost: &mut i32,
-) -> u32
-    ensures cost_after { (result, reached.new, cost.new) ≡ node_distance_told (distance_told res.now values node) reached.old cost.old }
-    ensures by_index { (sheet : List ℕ) → Holds sheet values res.now → node < values → (result, reached.new, cost.new) ≡ node_distance_told (as_told (distance_for (machine_for sheet) node)) reached.old cost.old }
+// A distance as it is told, by numbers.
+fn tell_distance(told: Result<Option<i32>, Refusal>, reached: &mut u32, cost: &mut i32) -> u32
+    ensures { (result, reached.new, cost.new) ≡ node_distance_told told reached.old cost.old }
 {
-    match read_distance::distance_at(res, values, node) {
+    match told {
         Ok(Some(units)) => {
             *reached = 1;
             *cost = units;
@@ -373,7 +422,61 @@ pub extern "C" fn yeldmur_distance(
     }
 }
 
-// Tests 1 to 4 of a byte string as a sheet, and its counts: N, T and F, and its start.
+// The distance of a node in 64ths, from the result of yeldmur_shortest_distance on a sheet of that unit,
+// which told so many values: 30, 31 and 30.
+#[unsafe(no_mangle)]
+pub extern "C" fn yeldmur_distance(
+    res: &[u8],
+    values: u32,
+    node: u32,
+    reached: &mut u32,
+    cost: &mut i32,
+) -> u32
+    ensures cost_after { (result, reached.new, cost.new) ≡ node_distance_told (distance_told Limits.unit res.now values node) reached.old cost.old }
+    ensures by_index { (sheet : List ℕ) → Holds sheet values res.now → Limits.unit ≡ unit_in (machine_for sheet) → node < values → (result, reached.new, cost.new) ≡ node_distance_told (as_told (distance_for (machine_for sheet) node)) reached.old cost.old }
+{
+    tell_distance(
+        read_distance::distance_at(res, values, node, Unit::Of64),
+        reached,
+        cost,
+    )
+}
+
+// The same in the unit, 64 or 256, of the sheet, which yeldmur_unit tells; before all else 14 for another
+// unit.
+#[unsafe(no_mangle)]
+pub extern "C" fn yeldmur_distance_in(
+    res: &[u8],
+    values: u32,
+    node: u32,
+    unit: u32,
+    reached: &mut u32,
+    cost: &mut i32,
+) -> u32
+    ensures cost_after { (result, reached.new, cost.new) ≡ node_distance_told (distance_in res.now values node unit) reached.old cost.old }
+    ensures by_index { (sheet : List ℕ) → Holds sheet values res.now → unit ≡ 2 ^ unit_in (machine_for sheet) → node < values → (result, reached.new, cost.new) ≡ node_distance_told (as_told (distance_for (machine_for sheet) node)) reached.old cost.old }
+{
+    let form = Form::Long(unit);
+    if !form.fits() {
+        return u32::from(Refusal::Unit);
+    }
+    tell_distance(
+        read_distance::distance_at(res, values, node, form.unit()),
+        reached,
+        cost,
+    )
+}
+
+// The unit of a sheet, 64 or 256: tests 1, 14 and 2 to 4.
+#[unsafe(no_mangle)]
+pub extern "C" fn yeldmur_unit(sheet: &[u8], unit: &mut u32) -> u32
+    ensures value { result ≡ read_number sheet.now }
+    ensures unit_after { (result, unit.new) ≡ value_told (unit_told sheet.now) unit.old }
+{
+    tell(sheet_fields::unit::unit(sheet), unit)
+}
+
+// Tests 1, 14 and 2 to 4 of a byte string as a sheet, and its counts: N, T and F, and its start.
 #[unsafe(no_mangle)]
 pub extern "C" fn yeldmur_sheet_counts(
     sheet: &[u8],
@@ -408,7 +511,7 @@ pub extern "C" fn yeldmur_link(
     next: &mut u32,
 ) -> u32
     ensures next_after { result ∷ ilabel.new ∷ olabel.new ∷ weight_bits.new ∷ next.new ∷ [] ≡ link_told (next_link sheet.now number) (ilabel.old ∷ olabel.old ∷ weight_bits.old ∷ next.old ∷ []) }
-    ensures next_after_2 { read_number sheet.now ≡ 0 → result ∷ ilabel.new ∷ olabel.new ∷ weight_bits.new ∷ next.new ∷ [] ≡ numbered number (length (machine_for sheet.now).links) (link_fields (link_of (machine_for sheet.now) number)) (ilabel.old ∷ olabel.old ∷ weight_bits.old ∷ next.old ∷ []) }
+    ensures next_after_2 { read_number sheet.now ≡ 0 → result ∷ ilabel.new ∷ olabel.new ∷ weight_bits.new ∷ next.new ∷ [] ≡ numbered number (length (machine_for sheet.now).links) (link_fields (unit_in (machine_for sheet.now)) (link_of (machine_for sheet.now) number)) (ilabel.old ∷ olabel.old ∷ weight_bits.old ∷ next.old ∷ []) }
 {
     match sheet::reader::link_or_end(sheet, number as usize) {
         Some(link) => {

@@ -3,15 +3,17 @@
 use oracle::bytes;
 use oracle::cases::Case;
 use oracle::finite::finite;
-use oracle::machine::Machine;
+use oracle::machine::{Form, Machine};
 use oracle::random::Random;
 use oracle::reference::{self, List};
 
+use crate::back;
 use crate::calls::{self, outcome, Answer, Areas};
 use crate::checker;
 use crate::parts::Parts;
 use crate::sizes;
 use crate::tally::Tally;
+use crate::units;
 use crate::writer;
 use yeldmur::ffi;
 
@@ -65,7 +67,11 @@ pub fn compare(tally: &mut Tally, random: &mut Random, case: &Case) {
     let sheet = bytes::sheet(&case.machine);
     tally.sheets += 1;
     tally.barred += case.machine.is_barred() as u64;
+    if let Form::Long(unit) = case.machine.form {
+        *tally.longer.entry(unit).or_default() += 1;
+    }
     tally.check("read", &sheet, ffi::read_sheet(&sheet) == 0);
+    units::compare(tally, &sheet);
     writer::compare(tally, random, &Parts::of(&case.machine));
     compare_distances(tally, random, &sheet, &case.machine);
     let mut asked = vec![1, case.n as u32, random.below(65) as u32];
@@ -86,12 +92,14 @@ fn compare_distances(tally: &mut Tally, random: &mut Random, sheet: &[u8], machi
         let call = format!("distances, {areas:?}");
         tally.count(&call, sheet, &left.faults(sheet, &expected));
     }
+    back::compare_distances(tally, machine, &answer);
 }
 
 fn compare_list(tally: &mut Tally, random: &mut Random, sheet: &[u8], machine: &Machine, n: u32) {
     let whole = reference::list(machine, n as usize);
     let listed = whole.words.len();
-    let answer = answered(&finite(whole, n as usize));
+    let list = finite(whole, n as usize);
+    let answer = answered(&list);
     let slots = checker::list_slots(sheet, n);
     tally.lists += 1;
     tally.cut += ((answer.counts[1] as usize) < listed) as u64;
@@ -103,4 +111,5 @@ fn compare_list(tally: &mut Tally, random: &mut Random, sheet: &[u8], machine: &
         tally.count(&call, sheet, &left.faults(sheet, &expected));
     }
     sizes::compare(tally, sheet, n, Some(answer.bytes.len()));
+    back::compare_readings(tally, machine, n, &list, &answer);
 }

@@ -5,12 +5,12 @@ use oracle::machine::{BARRED, LINKS, NODES};
 use oracle::random::Random;
 use oracle::reference::NONE;
 
-use crate::parts::Parts;
+use crate::parts::{Parts, START};
 
 /// Weight bits off the grid: NaN, infinities, of which the positive one is accepted where there is a
 /// weight, negative zero, the least above 0, 1/128, 128 and a sixty-fourth, 128 and a bit, and the
-/// largest.
-pub const OFF_GRID: [u32; 10] = [
+/// largest; and those off one of the two grids: 1/256, 32 and a 256th, 1/512, and 128.
+pub const OFF_GRID: [u32; 14] = [
     0x7FC0_0000,
     0x7F80_0001,
     0x7F80_0000,
@@ -21,6 +21,10 @@ pub const OFF_GRID: [u32; 10] = [
     0x4300_0400,
     0x4300_0001,
     0x7F7F_FFFF,
+    0x3B80_0000,
+    0x4200_0400,
+    0x3B00_0000,
+    0x4300_0000,
 ];
 
 /// Values for a field that holds `old` in a sheet of so many nodes.
@@ -37,6 +41,9 @@ pub fn values(old: u32, nodes: u32) -> Vec<u32> {
         nodes + 1,
         NONE,
         NONE - 1,
+        64,
+        128,
+        256,
     ];
     [near.as_slice(), &OFF_GRID].concat()
 }
@@ -48,14 +55,15 @@ fn any(random: &mut Random, length: usize) -> Option<usize> {
 
 /// Breaks some fields.
 pub fn break_fields(random: &mut Random, parts: &mut Parts) {
-    match random.below(10) {
+    match random.below(11) {
         0..=2 => any_field(random, parts),
         3 => trailer(random, parts),
         4 => weight(random, parts),
         5 => next_node(random, parts),
-        6 => parts.trailer[4] = random.pick(&[parts.nodes.len() as u32, NONE - 1, 1 << 31]),
+        6 => parts.trailer[START] = random.pick(&[parts.nodes.len() as u32, NONE - 1, 1 << 31]),
         7 => mark(random, parts),
         8 => wrap_counts(random, parts),
+        9 => unit(random, parts),
         _ => wrap_trailer(random, parts),
     }
 }
@@ -79,8 +87,37 @@ fn any_field(random: &mut Random, parts: &mut Parts) {
 
 fn trailer(random: &mut Random, parts: &mut Parts) {
     let nodes = parts.nodes.len() as u32;
-    let at = random.below(5);
+    let at = random.below(parts.trailer.len());
     set(random, &mut parts.trailer[at], nodes);
+}
+
+/// Another trailer, the weights as they are: the shorter one, or one of either unit or none.
+fn unit(random: &mut Random, parts: &mut Parts) {
+    let any = random.word() as u32;
+    let near = random.pick(&[
+        0,
+        1,
+        63,
+        65,
+        128,
+        255,
+        257,
+        320,
+        512,
+        64 << 8,
+        1 << 31,
+        NONE,
+    ]);
+    let units = [
+        None,
+        Some(64),
+        Some(256),
+        Some(256),
+        Some(near),
+        Some(near),
+        Some(any),
+    ];
+    *parts = parts.clone().with_unit(random.pick(&units));
 }
 
 /// A link's weight, or a node's final weight, which test 1 concerns where the mark is 0.
@@ -162,16 +199,52 @@ pub fn grow(random: &mut Random, parts: &mut Parts) {
         // the links of the last node stay behind those of the one before
         let own: usize = parts.nodes[last][0] as usize;
         let at = parts.links.len() - own;
-        let new = vec![[7, 7, 64f32.to_bits(), last as u32]; more];
+        let new = vec![[7, 7, 16f32.to_bits(), last as u32]; more];
         parts.links.splice(at..at, new);
         parts.nodes[last - 1][0] += more as u32;
     }
     parts.lay_out();
 }
 
+/// A sheet between the two layouts: a word more or less about its trailer, the trailer's fields moved on by one, or
+/// the fields of the other trailer, at its place, where its counts make the length right.
+pub fn between(random: &mut Random, parts: &Parts) -> Vec<u8> {
+    let mut words = [
+        parts.link_words(),
+        parts.node_words(),
+        parts.trailer.clone(),
+    ]
+    .concat();
+    let at = words.len() - parts.trailer.len();
+    let word = random.pick(&[64, 256, 64, 256, 0, NONE, parts.trailer[START]]);
+    match random.below(6) {
+        0 => words.push(word),
+        1 => drop(words.pop()),
+        2 => words.insert(at, word),
+        3 => drop(words.remove(at)),
+        4 => words[at..].rotate_right(1),
+        _ => overlay(parts, &mut words, word),
+    }
+    words.into_iter().flat_map(u32::to_le_bytes).collect()
+}
+
+/// A link less and a node more take four bytes less, so that the longer trailer fits; and the other way about.
+fn overlay(parts: &Parts, words: &mut Vec<u32>, unit: u32) {
+    let (links, nodes) = (parts.links.len() as u32, parts.nodes.len() as u32);
+    let (links, nodes, unit) = match parts.unit() {
+        None => (links.wrapping_sub(1), nodes + 1, Some(unit)),
+        Some(_) => (links + 1, nodes.wrapping_sub(1), None),
+    };
+    let start = parts.trailer[START];
+    let mut trailer = vec![0, links.wrapping_mul(16), nodes, links, start];
+    trailer.extend(unit);
+    words.truncate(words.len().saturating_sub(trailer.len()));
+    words.extend(trailer);
+}
+
 /// Takes bytes away or adds some, at either end.
 pub fn change_length(random: &mut Random, sheet: &mut Vec<u8>) {
-    let count = random.pick(&[1, 2, 3, 4, 12, 16, 19, 20, 28]);
+    let count = random.pick(&[1, 2, 3, 4, 12, 16, 19, 20, 23, 24, 28]);
     let short = count.min(sheet.len());
     match random.below(4) {
         0 => drop(sheet.drain(..short)),

@@ -2,6 +2,7 @@
 //! those of the Rust, and on damaged ones, whose refusals must be those of the requirements.
 
 mod accepted;
+mod back;
 mod calls;
 mod checker;
 mod damage;
@@ -10,6 +11,7 @@ mod parts;
 mod refused;
 mod sizes;
 mod tally;
+mod units;
 mod writer;
 
 use std::process::ExitCode;
@@ -24,11 +26,11 @@ const USAGE: &str = "usage: compare SEED COUNT
 fn compared(seed: u64, count: usize) -> Tally {
     let mut tally = Tally::default();
     let mut random = Random::new(!seed);
-    for case in Cases::barred(seed).take(count) {
+    for case in Cases::of_both_forms(seed).take(count) {
         accepted::compare(&mut tally, &mut random, &case);
     }
     refused::compare_each_field(&mut tally, &mut random);
-    for case in Cases::barred(seed ^ 1 << 63).take(count) {
+    for case in Cases::of_both_forms(seed ^ 1 << 63).take(count) {
         refused::compare_damaged(&mut tally, &mut random, &case);
     }
     tally

@@ -1,14 +1,19 @@
 //! A sheet in its fields, so that each of them can be broken.
 
-use oracle::machine::Machine;
+use oracle::machine::{Form, Machine};
 use oracle::reference::NONE;
 
 #[derive(Clone)]
 pub struct Parts {
     pub links: Vec<[u32; 4]>,
     pub nodes: Vec<[u32; 3]>,
-    pub trailer: [u32; 5],
+    /// Five fields, or six where the last is the unit.
+    pub trailer: Vec<u32>,
 }
+
+/// The start's place in the trailer, and the unit's in the longer one.
+pub const START: usize = 4;
+pub const UNIT: usize = 5;
 
 impl Parts {
     pub fn of(machine: &Machine) -> Self {
@@ -23,8 +28,11 @@ impl Parts {
                     [node.links.len() as u32, node.end.is_some() as u32, bits]
                 })
                 .collect(),
-            trailer: [0, 0, 0, 0, machine.start.unwrap_or(NONE)],
+            trailer: vec![0, 0, 0, 0, machine.start.unwrap_or(NONE)],
         };
+        if let Form::Long(unit) = machine.form {
+            parts.trailer.push(unit);
+        }
         parts.lay_out();
         parts
     }
@@ -32,13 +40,25 @@ impl Parts {
     /// Makes the trailer's offsets and counts those of the lists.
     pub fn lay_out(&mut self) {
         let links = self.links.len() as u32;
-        let start = self.trailer[4];
-        self.trailer = [0, 16 * links, self.nodes.len() as u32, links, start];
+        let fields = [0, 16 * links, self.nodes.len() as u32, links];
+        drop(self.trailer.splice(..START, fields));
+    }
+
+    /// The unit that the longer trailer states.
+    pub fn unit(&self) -> Option<u32> {
+        self.trailer.get(UNIT).copied()
+    }
+
+    /// The same under another trailer.
+    pub fn with_unit(mut self, unit: Option<u32>) -> Self {
+        self.trailer.truncate(UNIT);
+        self.trailer.extend(unit);
+        self
     }
 
     /// How many fields there are.
     pub fn len(&self) -> usize {
-        4 * self.links.len() + 3 * self.nodes.len() + 5
+        4 * self.links.len() + 3 * self.nodes.len() + self.trailer.len()
     }
 
     /// A field by its place in the sheet.
@@ -63,7 +83,7 @@ impl Parts {
     }
 
     pub fn bytes(&self) -> Vec<u8> {
-        let words = [self.link_words(), self.node_words(), self.trailer.to_vec()].concat();
+        let words = [self.link_words(), self.node_words(), self.trailer.clone()].concat();
         words.into_iter().flat_map(u32::to_le_bytes).collect()
     }
 }

@@ -4,7 +4,7 @@
 use oracle::bench::sheet_a;
 use oracle::bytes;
 use oracle::cases::Case;
-use oracle::machine::{Link, Machine, Node};
+use oracle::machine::{Form, Link, Machine, Node};
 use oracle::random::Random;
 
 use crate::accepted;
@@ -14,6 +14,7 @@ use crate::damage;
 use crate::parts::Parts;
 use crate::sizes;
 use crate::tally::Tally;
+use crate::units;
 use crate::writer;
 use yeldmur::ffi;
 
@@ -51,6 +52,7 @@ fn areas(random: &mut Random, slots: usize, answer: Option<&Answer>) -> Areas {
 fn compare(tally: &mut Tally, random: &mut Random, sheet: &[u8], n: u32) {
     let number = ffi::read_sheet(sheet);
     tally.check("read", sheet, number == checker::read(sheet));
+    units::compare(tally, sheet);
     compare_distances(tally, random, sheet);
     compare_list(tally, random, sheet, n);
 }
@@ -105,6 +107,9 @@ pub fn compare_damaged(tally: &mut Tally, random: &mut Random, case: &Case) {
     writer::compare(tally, random, &parts);
     let mut sheet = parts.bytes();
     if random.once_in(16) {
+        sheet = damage::between(random, &parts);
+    }
+    if random.once_in(16) {
         damage::change_length(random, &mut sheet);
     }
     if random.once_in(100) {
@@ -115,7 +120,17 @@ pub fn compare_damaged(tally: &mut Tally, random: &mut Random, case: &Case) {
 
 /// Breaks each field of some small sheets by itself in every way, and each two of them in some.
 pub fn compare_each_field(tally: &mut Tally, random: &mut Random) {
-    for machine in [sheet_a(), two_nodes(), Machine::default()] {
+    let forms = [
+        (sheet_a(), Form::Short),
+        (sheet_a(), Form::Long(256)),
+        (two_nodes(), Form::Short),
+        (two_nodes(), Form::Long(64)),
+        (two_nodes(), Form::Long(256)),
+        (Machine::default(), Form::Short),
+        (Machine::default(), Form::Long(256)),
+    ];
+    for (machine, form) in forms {
+        let machine = Machine { form, ..machine };
         let parts = Parts::of(&machine);
         let nodes = parts.nodes.len() as u32;
         let mut with = |broken: &[(usize, u32)]| {
@@ -163,5 +178,6 @@ fn two_nodes() -> Machine {
     Machine {
         nodes,
         start: Some(0),
+        form: Form::Short,
     }
 }

@@ -1,6 +1,6 @@
 //! The call that tells how long the areas must be.
 
-use crate::checker;
+use crate::checker::{self, LONG};
 use crate::tally::Tally;
 use yeldmur::ffi;
 
@@ -17,7 +17,9 @@ pub fn compare(tally: &mut Tally, sheet: &[u8], n: u32, answer: Option<usize>) {
     let told = match expected {
         0 => {
             let enough = answer.is_none_or(|length| length as u64 <= sizes[1]);
-            let same = of_counts(sheet, n) == sizes;
+            // the counts tell no trailer, and what they give is enough for the longer one
+            let less = (LONG - checker::trailer_bytes(sheet)) as u64;
+            let same = of_counts(sheet, n) == [sizes[0], sizes[1] + less];
             sizes[0] == checker::list_slots(sheet, n) as u64 && enough && same
         }
         _ => sizes == [SIZE; 2],

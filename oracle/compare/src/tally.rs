@@ -10,6 +10,8 @@ pub struct Tally {
     pub sheets: u64,
     /// Those with a barred link or end.
     pub barred: u64,
+    /// Those with the longer trailer, by their unit.
+    pub longer: BTreeMap<u32, u64>,
     pub lists: u64,
     /// Those whose infinite readings, which the Rust lists, were left out.
     pub cut: u64,
@@ -44,23 +46,26 @@ impl Tally {
     }
 }
 
+fn counted(counts: &BTreeMap<u32, u64>) -> String {
+    let each = counts.iter().map(|(k, count)| format!("{k}: {count}"));
+    each.collect::<Vec<_>>().join(", ")
+}
+
 impl fmt::Display for Tally {
     fn fmt(&self, f: &mut fmt::Formatter) -> fmt::Result {
         let damaged: u64 = self.damaged.values().sum();
-        let numbers = self
-            .damaged
-            .iter()
-            .map(|(k, count)| format!("{k}: {count}"));
         write!(
             f,
-            "{} sheets, {} of them barred in part, {} lists of {} values of n, {} without the Rust's infinite readings, {} distances, {damaged} damaged sheets by number ({}), {} calls, {} differences",
+            "{} sheets, {} of them barred in part, {} with the longer trailer ({}), {} lists of {} values of n, {} without the Rust's infinite readings, {} distances, {damaged} damaged sheets by number ({}), {} calls, {} differences",
             self.sheets,
             self.barred,
+            self.longer.values().sum::<u64>(),
+            counted(&self.longer),
             self.lists,
             self.asked.len(),
             self.cut,
             self.distances,
-            numbers.collect::<Vec<_>>().join(", "),
+            counted(&self.damaged),
             self.calls,
             self.differences
         )

@@ -3,7 +3,9 @@
 // each test program uses a part of this
 #![allow(dead_code)]
 
-use yeldmur::{units, Link, Sheet, BARRED};
+pub mod drawn;
+
+use yeldmur::{units, Link, Refusal, Sheet, Trailer, Unit, BARRED};
 
 /// The word for no start and no input link.
 pub const NONE: u32 = 0xFFFF_FFFF;
@@ -69,7 +71,7 @@ pub fn readings(sheet: &Sheet, n: u32) -> Vec<(i32, Vec<u32>)> {
         .collect()
 }
 
-/// The cost and the end of a run by the sheet's own links, which must hang together from the start to a final node, with nothing barred;
+/// The cost in the sheet's unit and the end of a run by the sheet's own links, which must hang together from the start to a final node, with nothing barred;
 /// else none.
 pub fn walked(sheet: &Sheet, run: &[u32]) -> Option<(i32, u32)> {
     let (mut node, mut cost) = (sheet.start()?, 0);
@@ -79,9 +81,34 @@ pub fn walked(sheet: &Sheet, run: &[u32]) -> Option<(i32, u32)> {
             return None;
         }
         node = link.next;
-        cost += units(link.weight)?;
+        cost += units(link.weight, sheet.unit())?;
     }
-    Some((cost + units(sheet.final_weight(node)?)?, node))
+    Some((cost + units(sheet.final_weight(node)?, sheet.unit())?, node))
+}
+
+/// A sheet with the shorter trailer, or with the longer and this unit.
+pub fn write(
+    links: &[Link],
+    finals: &[Option<f32>],
+    start: Option<u32>,
+    said: Option<Unit>,
+) -> Result<Sheet, Refusal> {
+    match said {
+        None => Sheet::write(links, finals, start),
+        Some(unit) => Sheet::write_in(links, finals, start, unit),
+    }
+}
+
+/// The unit that a sheet's trailer says, if it says one.
+pub fn said(sheet: &Sheet) -> Option<Unit> {
+    (sheet.trailer() == Trailer::Long).then(|| sheet.unit())
+}
+
+/// A sheet of its links, nodes and start again, with its own trailer.
+pub fn again(sheet: &Sheet) -> Sheet {
+    let links: Vec<Link> = sheet.links().collect();
+    let finals: Vec<Option<f32>> = sheet.finals().collect();
+    write(&links, &finals, sheet.start(), said(sheet)).unwrap()
 }
 
 /// A chain of so many nodes, with one weight on every link and on the last node.
@@ -110,16 +137,29 @@ impl Random {
         (self.word() % u64::from(limit)) as u32
     }
 
+    /// A trailer: the shorter, or the longer with either unit.
+    pub fn said(&mut self) -> Option<Unit> {
+        [None, Some(Unit::Of64), Some(Unit::Of256)][self.below(3) as usize]
+    }
+
     pub fn weight(&mut self, spread: u32) -> f32 {
-        (self.below(2 * spread + 1) as f32 - spread as f32) / 64.0
+        self.weight_in(spread, Unit::Of64)
+    }
+
+    pub fn weight_in(&mut self, spread: u32, unit: Unit) -> f32 {
+        (self.below(2 * spread + 1) as f32 - spread as f32) / unit.count() as f32
     }
 
     /// A weight that is barred one time in four.
     pub fn weight_or_barred(&mut self, spread: u32) -> f32 {
+        self.weight_or_barred_in(spread, Unit::Of64)
+    }
+
+    pub fn weight_or_barred_in(&mut self, spread: u32, unit: Unit) -> f32 {
         if self.below(4) == 0 {
             BARRED
         } else {
-            self.weight(spread)
+            self.weight_in(spread, unit)
         }
     }
 }

@@ -7,7 +7,8 @@ use lib.Dec.{ltb}
 use lib.ListN.{length}
 use borrow.Author.Tests.{lt-ltb, le-ltb}
 use Rattle.sheet.specs.Below.{all_below}
-use Rattle.sheet.specs.Words.{word}
+use Rattle.sheet.specs.Words.{word_length, word}
+use Rattle.sheet.specs.Sheet.{link_length}
 use Rattle.sheet.specs.Records.{first_link}
 use Rattle.sheet.specs.Machine.{machine}
 use Rattle.sheet.proofs.Below.{split_at, all_below-at, all_below-of, all_below-more, all_below-fails}
@@ -28,7 +29,7 @@ module _ (m : Machine) (before c : ℕ) (counted : before ≡ first_link m.sheet
   few = omega (arith, at-seam, seam-in c (machine m.sheet.bytes.now), (machine-fields m).links-are)
 
   -- a link before the seam is judged by the word that says where it leads
-  judged : (l next : ℕ) → l < before → next ≡ word m.sheet.bytes.now (16 * l + 12) → stays c (machine m.sheet.bytes.now) l ≡ not (ltb c next)
+  judged : (l next : ℕ) → l < before → next ≡ word m.sheet.bytes.now (link_length * l + 3 * word_length) → stays c (machine m.sheet.bytes.now) l ≡ not (ltb c next)
   judged l next h e =
       let f = machine-fields m in
       let w = machine m.sheet.bytes.now in
@@ -36,7 +37,7 @@ module _ (m : Machine) (before c : ℕ) (counted : before ≡ first_link m.sheet
       λ i. not (lt-ltb (link w l).source c (below-seam c w f.climbs l (omega (arith, h, at-seam))) i && ltb c (sym leads i))
 
   -- and one that leads above c is found
-  fails : (l next : ℕ) → l < before → next ≡ word m.sheet.bytes.now (16 * l + 12) → c < next → false ≡ none_past c (machine m.sheet.bytes.now)
+  fails : (l next : ℕ) → l < before → next ≡ word m.sheet.bytes.now (link_length * l + 3 * word_length) → c < next → false ≡ none_past c (machine m.sheet.bytes.now)
   unfolding none_past
   fails l next h e past =
       let w = machine m.sheet.bytes.now in

@@ -1,7 +1,8 @@
-use Rattle.std.proofs.Common.{◌≡◌, ◌≤◌, T, ℤ, pos, negsuc, nat_abs, refl, ap, ◌∙◌, lit≤, le→leb, lt→ltb, rules}
-use lib.Ieee.{binary32, round, mul, of_int, of_bits, in_float}
-use Rattle.tropical_weight.specs.Limits.{unit, sum_limit}
-use Rattle.tropical_weight.specs.Grid.{of_k}
+use Rattle.std.proofs.Common.{◌≤◌, T, ℤ, pos, negsuc, nat_abs, ap, ◌∙◌, le→leb, lt→ltb, rules}
+use lib.Ieee.{binary32, mul, of_int, in_float}
+use Rattle.tropical_weight.specs.Limits.{sum_limit}
+use Rattle.tropical_weight.specs.Units.{places}
+use Rattle.tropical_weight.proofs.Finer.{covered}
 use Rattle.tropical_weight.proofs.Units.{of-units}
 use Rattle.tropical_weight.proofs.from_units.Goals as goal
 
@@ -14,10 +15,7 @@ has (negsuc n) l = lt→ltb n sum_limit l
 pub int_to_float-result : goal.int_to_float-result
 int_to_float-result c = search (rules, has c.args.units c.requires)
 
--- the code's constant is one unit
-one_unit : of_bits binary32 0x3c80_0000 ≡ of_k unit (pos 1)
-unfolding of_bits of_k round
-one_unit = refl
-
 pub returns : goal.returns
-returns c = search (rules, ap (mul binary32 (of_int binary32 c.args.units)) one_unit ∙ of-units unit (lit≤ tt) c.args.units c.requires)
+returns c =
+    let u = c.args.unit in
+    search (rules, ap (mul binary32 (of_int binary32 c.args.units)) c.weight.ensures ∙ of-units (places u) (covered u) c.args.units c.requires)

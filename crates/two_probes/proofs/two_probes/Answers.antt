@@ -8,14 +8,16 @@ use borrow.Author.Rules.{rules}
 use Rattle.std.specs.Prelude.{Result, Err}
 use Rattle.sheet.specs.declared.refusal.Refusal.{Refusal}
 use Rattle.sheet.specs.Refusals.{number_of}
+use Rattle.sheet.specs.Sheet.{unit_of, form_of}
 use Rattle.sheet.specs.Machine.{machine}
 use Rattle.sheet.proofs.Round.{Below}
 use Rattle.machine.specs.Input.{input_number}
 use Rattle.product.specs.Refusals.{labelled}
 use Rattle.product.proofs.Numbers.{number-labels}
-use Rattle.two_probes.specs.Outcome.{both_number, both_answer, both_over}
+use Rattle.two_probes.specs.Outcome.{second_number, both_number, both_answer, both_over}
 use Rattle.two_probes.specs.Promise.{Promised}
-use Rattle.two_probes.proofs.Outcomes.{number-first, number-second, number-product, refused-answer, refused-over}
+use Rattle.sheet.proofs.AcceptedSheet.{form-of-bytes}
+use Rattle.two_probes.proofs.Outcomes.{second-zero, number-first, number-second, number-product, refused-answer, refused-over}
 use Rattle.two_probes.proofs.Promises.{promised}
 use Rattle.two_probes.proofs.two_probes.Goals as goal
 
@@ -50,9 +52,9 @@ returns-in_err-b c =
     let m = c.in_ok-a.a in
     let e = c.in_err-b.field-0.0 in
     let same : m.sheet.bytes.now ≡ first = search rules in
-    let number : number_of e ≡ input_number second = search rules in
+    let number : number_of e ≡ second_number m.sheet.bytes.now second = search rules in
     let made : c.from_residual-in_err-b.result ≡ Err e = search rules in
-    let t = told first second old (λ i. omega (arith, c.type_inv.first i)) e (number-second first second (length old) (sym (ap input_number same) ∙ m.climbs) e (sym number)) c.from_residual-in_err-b.result made in
+    let t = told first second old (λ i. omega (arith, c.type_inv.first i)) e (number-second first second (length old) (sym (ap input_number same) ∙ m.climbs) e (ap (λ (l : List ℕ). second_number l second) (sym same) ∙ sym number)) c.from_residual-in_err-b.result made in
     record { value = t.value; res_after = t.res_after; promised = t.promised }
 
 pub returns-then-not-both_labelled : goal.returns-then-not-both_labelled
@@ -64,10 +66,20 @@ returns-then-not-both_labelled c =
     let old = c.args.res.now in
     let same : m.sheet.bytes.now ≡ first = search rules in
     let also : n.sheet.bytes.now ≡ second = search rules in
+    let passed : second_number m.sheet.bytes.now second ≡ 0 = search rules in
     let failed = (λ i. labelled (machine (sym same i)) && labelled (machine (sym also i))) ∙ sym c.both_labelled.ensures ∙ c.if-not-both_labelled.true in
-    let number = number-product first second (length old) (sym (ap input_number same) ∙ m.climbs) (sym (ap input_number also) ∙ n.climbs) Refusal.Labels (number-labels (machine first) (machine second) failed) in
+    let number = number-product first second (length old) (sym (ap input_number same) ∙ m.climbs) (ap (λ (l : List ℕ). second_number l second) (sym same) ∙ passed) Refusal.Labels (number-labels (machine first) (machine second) failed) in
     let t = told first second old (λ i. omega (arith, c.type_inv.first i)) Refusal.Labels number (Err Refusal.Labels) refl in
     record { value = t.value; res_after = t.res_after; promised = t.promised }
+
+pub write_both-requires-clause-units : goal.write_both-requires-clause-units
+write_both-requires-clause-units c =
+    let m = c.in_ok-a.a in
+    let n = c.in_ok-b.b in
+    let second = c.args.second.now in
+    let also : n.sheet.bytes.now ≡ second = search rules in
+    let passed : second_number m.sheet.bytes.now second ≡ 0 = search rules in
+    ap unit_of (form-of-bytes m.sheet) ∙ (second-zero m.sheet.bytes.now second passed).1 ∙ ap unit_of (ap form_of (sym also) ∙ sym (form-of-bytes n.sheet))
 
 pub returns : goal.returns
 returns c =

@@ -5,7 +5,7 @@ use lib.ListN.{length}
 use Rattle.std.specs.Prelude.{Option}
 use Rattle.sheet.specs.declared.tr.Link.{Link}
 use Rattle.sheet.specs.Sheet.{read_number}
-use Rattle.sheet.specs.Machine.{machine, link_fields}
+use Rattle.sheet.specs.Machine.{machine, unit_in, link_fields}
 use Rattle.sheet.specs.Reading.{next_link}
 use Rattle.machine.specs.Readings.{link}
 use Rattle.sheet_fields.proofs.Passed.{link-told}
@@ -15,7 +15,7 @@ use Rattle.yeldmur.proofs.yeldmur_link.Goals as goal
 
 -- an answer told by numbers, with what it is of an accepted sheet
 answer : (sheet : List ℕ) (number : ℕ) (old : List ℕ) (s : Option Link) → s ≡ next_link sheet number → (x : List ℕ) → x ≡ link_told s old
-    → (x ≡ link_told (next_link sheet number) old) × (read_number sheet ≡ 0 → x ≡ numbered number (length (machine sheet).links) (link_fields (link (machine sheet) number)) old)
+    → (x ≡ link_told (next_link sheet number) old) × (read_number sheet ≡ 0 → x ≡ numbered number (length (machine sheet).links) (link_fields (unit_in (machine sheet)) (link (machine sheet) number)) old)
 answer sheet number old s e x is =
     let told = is ∙ ap (λ (s : Option Link). link_told s old) e in
     (told, λ read. told ∙ link-numbered (machine sheet) number old (next_link sheet number) (link-told sheet read number))

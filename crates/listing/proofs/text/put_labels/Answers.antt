@@ -7,6 +7,7 @@ use lib.ListN.{take, get_or}
 use Rattle.sheet.specs.Words.{word}
 use Rattle.listing.specs.Text.{label_text, labels_of}
 use Rattle.listing.proofs.Labels.{labels-more}
+use Rattle.sheet.specs.Sheet.{link_length}
 use Rattle.listing.proofs.text.put_labels.Goals as goal
 
 pub loop-l-init : goal.loop-l-init
@@ -20,7 +21,7 @@ loop-l-preserved c =
     let turn = c.loop-l in
     let front = flat_map label_text (labels_of sheet (take turn.l-index run)) in record {
       text =
-          c.put_label.ensures.text ∙ (λ i. turn.invariant.text i ++ label_text (c.word.ensures i)) ∙ append_assoc c.args.page.now front (label_text (word sheet (16 * get_or run turn.l-index 0)))
+          c.put_label.ensures.text ∙ (λ i. turn.invariant.text i ++ label_text (c.word.ensures i)) ∙ append_assoc c.args.page.now front (label_text (word sheet (link_length * get_or run turn.l-index 0)))
           ∙ ap (λ (t : List ℕ). c.args.page.now ++ t) (labels-more sheet run turn.l-index (omega arith));
       bound = omega (arith, turn.invariant.bound, c.put_label.ensures.upper_bound);
     }

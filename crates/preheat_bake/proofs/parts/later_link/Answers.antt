@@ -3,10 +3,11 @@ use mathlib.Core.List.{[], ◌∷◌}
 use Prim.Native.Nat.{ℕ, ◌+◌, ◌-◌}
 use native.Mathlib.Omega.{arith}
 use Rattle.sheet.specs.declared.tr.Link.{Link}
+use Rattle.sheet.specs.Sheet.{unit_of}
 use Rattle.sheet.specs.Machine.{link_fields}
 use Rattle.machine.specs.Readings.{link}
 use Rattle.narrowing.specs.Parts.{from_node}
-use Rattle.narrowing.proofs.Seam.{above-seam, second-link}
+use Rattle.narrowing.proofs.Seam.{above-seam, second-form, second-link}
 use Rattle.preheat_bake.specs.Held.{whole}
 use Rattle.preheat_bake.proofs.Whole.{fields, climbs, at-seam}
 use Rattle.preheat_bake.proofs.parts.later_link.Goals as goal
@@ -32,4 +33,4 @@ returns c =
     let w = c.link_bits-bits.ensures.word ∙ f.link-bits x.bytes l h in
     let n = ap (λ (r : Link). r.nextstate) r ∙ f.next-at l h in
     let is = second-link x.node (whole x) (climbs x) c.args.i (omega (arith, h, f.links-are, at-seam x)) ∙ ap (λ (k : ℕ). from_node x.node (link (whole x) (k + c.args.i))) (sym (at-seam x)) in
-    (λ j. i j ∷ o j ∷ w j ∷ (n j - x.node) ∷ []) ∙ sym (ap link_fields is)
+    (λ j. i j ∷ o j ∷ w j ∷ (n j - x.node) ∷ []) ∙ (λ j. link_fields (unit_of (sym (second-form x.node (whole x)) j)) (sym is j))

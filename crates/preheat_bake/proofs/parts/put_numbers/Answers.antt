@@ -5,7 +5,7 @@ use native.Mathlib.Numerals.{add-one}
 use lib.ListN.{length}
 use lib.Seq.{sets}
 use Rattle.sheet.specs.Below.{list_below}
-use Rattle.sheet.specs.Words.{bytes_of_all}
+use Rattle.sheet.specs.Words.{word_length, bytes_of_all}
 use Rattle.sheet.proofs.Below.{length-list_below}
 use Rattle.sheet.proofs.Bytes.{bytes_of_all-one, sets-words}
 use Rattle.preheat_bake.proofs.parts.put_numbers.Goals as goal
@@ -21,8 +21,8 @@ loop-i-preserved c =
     let at = c.args.at in
     let from = c.args.from in
     let f : ℕ → ℕ = λ i. from + i in
-    let place : at + 4 * turn.i ≡ at + 4 * length (list_below turn.i f) = ap (λ (n : ℕ). at + 4 * n) (sym (length-list_below turn.i f)) in
+    let place : at + word_length * turn.i ≡ at + word_length * length (list_below turn.i f) = ap (λ (n : ℕ). at + word_length * n) (sym (length-list_below turn.i f)) in
     c.put_word.ensures
-    ∙ (λ i. sets (turn.invariant i) (at + 4 * turn.i) (sym (bytes_of_all-one (from + turn.i)) i))
-    ∙ sets-words c.args.res.now at (list_below turn.i f) ((from + turn.i) ∷ []) (at + 4 * turn.i) place
+    ∙ (λ i. sets (turn.invariant i) (at + word_length * turn.i) (sym (bytes_of_all-one (from + turn.i)) i))
+    ∙ sets-words c.args.res.now at (list_below turn.i f) ((from + turn.i) ∷ []) (at + word_length * turn.i) place
     ∙ ap (λ (n : ℕ). sets c.args.res.now at (bytes_of_all (list_below n f))) (sym (add-one turn.i))

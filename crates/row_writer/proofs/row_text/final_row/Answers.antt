@@ -9,7 +9,7 @@ use Rattle.row_writer.proofs.Accepted.{ended, final-on}
 use Rattle.row_writer.proofs.row_text.final_row.Goals as goal
 
 pub put_weight-requires-clause-bits_value : goal.put_weight-requires-clause-bits_value
-put_weight-requires-clause-bits_value c = final-on c.args.sheet.now c.args.v c.in-Some.bits c.requires (sym c.final_bits.ensures.part ∙ c.in-Some.is)
+put_weight-requires-clause-bits_value c = final-on c.args.sheet.now c.requires.short c.args.v c.in-Some.bits c.requires.within (sym c.final_bits.ensures.part ∙ c.in-Some.is)
 
 pub returns-clause-text : goal.returns-clause-text
 returns-clause-text c =

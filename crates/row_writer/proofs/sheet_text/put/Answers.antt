@@ -19,7 +19,7 @@ put_text-next-requires c =
     let p = parts_of node.sheet.bytes.now in
     let n = c.count-i-end in
     let row = row_from p node.node node.first in
-    omega (arith, c.loop-i.invariant.ends, ap length (c.bytes.ensures.value ∙ c.link_row-row.ensures.text), next_fits row c.loop-i.i n.result (omega arith), length-node p node.node node.first n.result (source-first node) n.ensures.part, c.requires)
+    omega (arith, c.loop-i.invariant.ends, ap length (c.bytes.ensures.value ∙ c.link_row-row.ensures.text), next_fits row c.loop-i.i n.result (omega arith), length-node p node.node node.first n.result (source-first node) n.ensures.part, c.requires.text_in_bounds)
 
 pub loop-i-preserved : goal.loop-i-preserved
 loop-i-preserved c =
@@ -32,7 +32,7 @@ put_text-requires c =
     let node = c.args.source.now in
     let p = parts_of node.sheet.bytes.now in
     let all : c.loop-i.i ≡ count p node.node = omega (arith, c.count-i-end.ensures.part) in
-    omega (arith, c.loop-i.invariant.ends, ap length (c.bytes-2.ensures.value ∙ c.final_row.ensures.text), length-node p node.node node.first c.loop-i.i (source-first node) all, c.requires)
+    omega (arith, c.loop-i.invariant.ends, ap length (c.bytes-2.ensures.value ∙ c.final_row.ensures.text), length-node p node.node node.first c.loop-i.i (source-first node) all, c.requires.text_in_bounds)
 
 pub returns : goal.returns
 returns c =

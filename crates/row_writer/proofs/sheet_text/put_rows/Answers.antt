@@ -15,7 +15,7 @@ use Rattle.text_rows.specs.Written.{has_rows, node_rows}
 use Rattle.text_rows.proofs.HasRows.{start-below}
 use Rattle.row_writer.specs.OtherRows.{other_rows}
 use Rattle.row_writer.proofs.Stored.{puts_none}
-use Rattle.row_writer.proofs.Accepted.{nodes-are, start_is}
+use Rattle.row_writer.proofs.Accepted.{nodes-are, start_is, short-of}
 use Rattle.row_writer.proofs.Measured.{rows-same, texts, texts-none, texts-more, text-is, start_fits_lem, other_fits}
 use Rattle.row_writer.proofs.sheet_text.put_rows.Goals as goal
 
@@ -45,8 +45,11 @@ returns-in_default c = absurd (omega (arith, start-in c.args.sheet.now c.require
 start-rows : (s : Sheet) (r : Source) → (r.sheet ≡ s) × (r.node ≡ s.start) → node_rows (parts_of r.sheet.bytes.now) r.node ≡ node_rows (parts_of s.bytes.now) (parts_of s.bytes.now).start
 start-rows s r e = rows-same r.sheet s r.node (parts_of s.bytes.now).start e.0 (e.1 ∙ start_is s)
 
-pub put-next-requires : goal.put-next-requires
-put-next-requires c =
+pub put-next-requires-clause-short : goal.put-next-requires-clause-short
+put-next-requires-clause-short c = short-of c.args.sheet.now c.in-Some.start.sheet c.requires.rows c.in-Some.ensures.same.0
+
+pub put-next-requires-clause-text_in_bounds : goal.put-next-requires-clause-text_in_bounds
+put-next-requires-clause-text_in_bounds c =
     let s = c.args.sheet.now in
     omega (arith, ap length (start-rows s c.in-Some.start c.in-Some.ensures.same), start_fits_lem (parts_of s.bytes.now), c.requires.text_in_bounds)
 
@@ -59,8 +62,11 @@ loop-source-init c =
       puts = puts-same (sym (ap (texts other) (ap (λ (t : Sources). t.node) same ∙ made.1) ∙ texts-none other)) (puts_none _ c.put-next.result);
     }
 
-pub put-next-requires-then-source-start : goal.put-next-requires-then-source-start
-put-next-requires-then-source-start c =
+pub put-next-requires-then-source-start-clause-short : goal.put-next-requires-then-source-start-clause-short
+put-next-requires-then-source-start-clause-short c = short-of c.args.sheet.now c.in-Some-source.source.sheet c.requires.rows (c.in-Some-source.ensures.steps.1 ∙ c.loop-source.invariant.same)
+
+pub put-next-requires-then-source-start-clause-text_in_bounds : goal.put-next-requires-then-source-start-clause-text_in_bounds
+put-next-requires-then-source-start-clause-text_in_bounds c =
     let s = c.args.sheet.now in
     let p = parts_of s.bytes.now in
     let it = c.loop-source.source-iterator in

@@ -10,7 +10,7 @@ use Rattle.sheet.specs.Sheet.{node_count, parts_of}
 use Rattle.sheet.proofs.NodeSources.{first-within}
 use Rattle.text_rows.specs.Written.{node_rows}
 use Rattle.text_rows.proofs.HasRows.{start-below}
-use Rattle.row_writer.proofs.Accepted.{nodes-are}
+use Rattle.row_writer.proofs.Accepted.{nodes-are, short-of}
 use Rattle.row_writer.proofs.Measured.{length-text, sum_more, rows-same}
 use Rattle.row_writer.proofs.sheet_text.text_length.Goals as goal
 
@@ -27,12 +27,15 @@ loop-source-init c =
       most = omega arith;
     }
 
+pub length_of-size-requires : goal.length_of-size-requires
+length_of-size-requires c = short-of c.args.sheet.now c.in-Some.source.sheet c.requires (c.in-Some.ensures.steps.1 ∙ c.loop-source.invariant.same)
+
 pub overflow_add-size : goal.overflow_add-size
 overflow_add-size c =
     let it = c.loop-source.source-iterator in
     let s = it.sheet in
     let steps = c.in-Some.ensures.steps in
-    omega (arith, c.loop-source.invariant.most, c.length_of-size.ensures.upper_bound, counts-same c.in-Some.source.sheet s c.in-Some.source.node it.node steps.1 steps.2, it.begins, first-within s.bytes.now s.links s.nodes s.start s.accepted s.stated it.node steps.0)
+    omega (arith, c.loop-source.invariant.most, c.length_of-size.ensures.upper_bound, counts-same c.in-Some.source.sheet s c.in-Some.source.node it.node steps.1 steps.2, it.begins, first-within s.bytes.now s.links s.nodes s.start s.form s.accepted s.stated it.node steps.0)
 
 pub loop-source-preserved : goal.loop-source-preserved
 loop-source-preserved c =

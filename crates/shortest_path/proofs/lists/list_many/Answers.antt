@@ -20,27 +20,28 @@ use Rattle.list_answer.specs.ListAnswer.{slots_for, listed_in, listed_over}
 use Rattle.n_shortest.specs.declared.n_best.Places.{Places}
 use Rattle.n_shortest.specs.SearchWords.{Words, after_w, begun_w}
 use Rattle.list_machine.specs.TrimWords.{kept_count, list_answer, list_after, Listable}
+use Rattle.slots.specs.Slots.{slot_length}
 use Rattle.distance.specs.Held.{Distance, reached_in}
 use Rattle.shortest_path.proofs.Joining.{Sizes, sizes, start_is, begins, going, none-there, listed-done, answers, leaves}
 use Rattle.shortest_path.proofs.lists.list_many.Goals as goal
 
 -- the trailer of a machine's sheet
 abbrev stated : Machine → Trailer
-stated m = let s = m.sheet in trailer_in s.links s.nodes s.start
+stated m = let s = m.sheet in trailer_in s.links s.nodes s.start s.form
 
 -- what is asked of n and of the part
 abbrev Enough : Machine → ℕ → ℕ → Type 0
-Enough m n room = (2 ≤ n) × (n ≤ list_limit) × (8 * slots_for (machine_of (parts_of m.sheet.bytes.now)) n ≤ room)
+Enough m n room = (2 ≤ n) × (n ≤ list_limit) × (slot_length * slots_for (machine_of (parts_of m.sheet.bytes.now)) n ≤ room)
 
 abbrev Counted : Machine → ℕ → Type 0
 Counted m finals = let s = m.sheet in finals ≡ final_count s.bytes.now s.links s.nodes
 
 -- where the slots of nodes and links begin
 abbrev heads : Machine → ℕ → ℕ → ℕ
-heads m finals n = 8 * (1 + finals + n * (m.sheet.links + 1))
+heads m finals n = slot_length * (1 + finals + n * (m.sheet.links + 1))
 
 abbrev chains : Machine → ℕ → ℕ → ℕ
-chains m finals n = heads m finals n + 8 * (m.sheet.nodes + 1)
+chains m finals n = heads m finals n + slot_length * (m.sheet.nodes + 1)
 
 few : (m : Machine) (finals n room : ℕ) → Counted m finals → Enough m n room → let s = m.sheet in Sizes s.nodes s.links finals n room
 few m finals n room counted h = sizes m.sheet.bytes.now m.climbs (stated m) m.sheet.stated finals counted n h.0 h.1 room h.2
@@ -152,7 +153,7 @@ returns-clause-value c =
     let made = c.n_shortest_path-c in
     let whole : ◌≡◌ {A = Words} (record { part = made.new.part; counts = made.result }) (ended m args.counted.now.finals args.n c.reverse.new.part) = λ i. record { part = made.ensures.part_after i; counts = made.ensures.value i } in
     let long = length args.res.now in
-    c.write_list.ensures.value ∙ ap (λ (w : Words). list_answer w.counts.listed (kept_count w.counts.entries w.counts.listed w.part) w.counts.taken long) whole
+    c.write_list.ensures.value ∙ ap (λ (w : Words). list_answer m.sheet.form w.counts.listed (kept_count w.counts.entries w.counts.listed w.part) w.counts.taken long) whole
     ∙ answers m.sheet.bytes.now m.climbs (stated m) m.sheet.stated args.counted.now.finals c.args.counted.now.counted args.n h.0 h.1 c.are_bytes.ensures c.measure.new.part c.reverse.new.part (omega (arith, h.2, c.measure.auto.part)) back there long
 
 pub returns-clause-res_after : goal.returns-clause-res_after
@@ -164,5 +165,5 @@ returns-clause-res_after c =
     let there = ap reached_in (sym c.distance_at.ensures) ∙ reached-by _ _ false c.is_none.ensures c.if-is_none.false in
     let made = c.n_shortest_path-c in
     let whole : ◌≡◌ {A = Words} (record { part = made.new.part; counts = made.result }) (ended m args.counted.now.finals args.n c.reverse.new.part) = λ i. record { part = made.ensures.part_after i; counts = made.ensures.value i } in
-    c.write_list.ensures.res_after ∙ ap (λ (w : Words). list_after m.sheet.bytes.now m.sheet.links w.part w.counts.entries w.counts.listed args.res.now) whole
+    c.write_list.ensures.res_after ∙ ap (λ (w : Words). list_after m.sheet.bytes.now m.sheet.links m.sheet.form w.part w.counts.entries w.counts.listed args.res.now) whole
     ∙ leaves m.sheet.bytes.now m.climbs (stated m) m.sheet.stated args.counted.now.finals c.args.counted.now.counted args.n h.0 h.1 c.are_bytes.ensures c.measure.new.part c.reverse.new.part (omega (arith, h.2, c.measure.auto.part)) back there args.res.now

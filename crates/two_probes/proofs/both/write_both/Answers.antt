@@ -13,7 +13,7 @@ use Rattle.sorted_keys.specs.Sorted.{Rising}
 use Rattle.product.specs.Product.{nodes, pairs}
 use Rattle.product.proofs.Numbers.{number-nodes, number-links}
 use Rattle.link_pairs.specs.Found.{PairsFound}
-use Rattle.two_probes.proofs.Kept.{pairs-rise}
+use Rattle.two_probes.proofs.Kept.{second-passes, pairs-rise}
 use Rattle.two_probes.proofs.Outcomes.{number-product, refused-answer, refused-over}
 use Rattle.two_probes.proofs.both.write_both.Goals as goal
 
@@ -32,7 +32,7 @@ returns-then-nodes-gt-NODE_LIMIT c =
     let first = m.sheet.bytes.now in
     let second = n.sheet.bytes.now in
     let old = c.args.res.now in
-    let k = number-product first second (length old) m.climbs n.climbs Refusal.Product (number-nodes (machine first) (machine second) c.requires (omega (arith, many-nodes m n, c.if-nodes-gt-NODE_LIMIT.true))) in
+    let k = number-product first second (length old) m.climbs (second-passes m n c.requires.units) Refusal.Product (number-nodes (machine first) (machine second) c.requires.labels (omega (arith, many-nodes m n, c.if-nodes-gt-NODE_LIMIT.true))) in
     record { value = refused-answer first second old Refusal.Product k; res_after = refused-over first second old Refusal.Product k }
 
 pub returns-in_default : goal.returns-in_default
@@ -43,7 +43,7 @@ returns-in_default c =
     let second = n.sheet.bytes.now in
     let old = c.args.res.now in
     let many : link_limit < length (pairs (machine first) (machine second)) = (subst (PairsFound (machine first) (machine second) c.find_pairs.new.pairs) c.in_default.is c.find_pairs.ensures).placed in
-    let k = number-product first second (length old) m.climbs n.climbs Refusal.Product (number-links (machine first) (machine second) c.requires (omega (arith, many-nodes m n, c.if-nodes-gt-NODE_LIMIT.false)) many) in
+    let k = number-product first second (length old) m.climbs (second-passes m n c.requires.units) Refusal.Product (number-links (machine first) (machine second) c.requires.labels (omega (arith, many-nodes m n, c.if-nodes-gt-NODE_LIMIT.false)) many) in
     record { value = refused-answer first second old Refusal.Product k; res_after = refused-over first second old Refusal.Product k }
 
 pub invariant_of-found : goal.invariant_of-found
@@ -63,7 +63,8 @@ invariant_of-both c =
     let b = machine n.sheet.bytes.now in
     let found = (subst (PairsFound a b c.find_pairs.new.pairs) c.in-Some.is c.find_pairs.ensures).placed in
     record {
-      labels = c.requires;
+      one_unit = c.requires.units;
+      labels = c.requires.labels;
       few_nodes = omega (arith, c.if-nodes-gt-NODE_LIMIT.false);
       few_links = omega (arith, found.0, length-take c.in-Some.count c.find_pairs.new.pairs);
       found = found.2;

@@ -28,12 +28,12 @@ loop-i-preserved c =
     let args = c.args in
     let self = args.self.now in
     let part = self.part.now in
-    let words = link_words self.bytes.now self.links part in
+    let words = link_words self.sheet.bytes.now self.sheet.links part in
     let call = c.put_stated-next in
     let first : 0 < turn.i = omega arith in
     let back : turn.i ≡ turn.i + 1 - 1 = omega arith in record {
       place = omega (arith, call.ensures.value, turn.invariant.place, count_next turn.i part first, ap (mark_count part) back);
       so_far =
-          stored_next args.res.now turn.res call.new.res args.at (words (turn.i - 1)) (stated_words self.bytes.now self.links part turn.i) turn.next turn.invariant.so_far call.ensures.res_after (omega (arith, turn.invariant.place, length-links self.bytes.now self.links part (turn.i - 1)))
-          ∙ ap (λ (l : List ℕ). sets args.res.now args.at (bytes_of_all l)) (sym (links-next self.bytes.now self.links part turn.i first) ∙ ap words back);
+          stored_next args.res.now turn.res call.new.res args.at (words (turn.i - 1)) (stated_words self.sheet.bytes.now self.sheet.links part turn.i) turn.next turn.invariant.so_far call.ensures.res_after (omega (arith, turn.invariant.place, length-links self.sheet.bytes.now self.sheet.links part (turn.i - 1)))
+          ∙ ap (λ (l : List ℕ). sets args.res.now args.at (bytes_of_all l)) (sym (links-next self.sheet.bytes.now self.sheet.links part turn.i first) ∙ ap words back);
     }

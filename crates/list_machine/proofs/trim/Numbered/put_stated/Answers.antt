@@ -10,4 +10,4 @@ pub returns-then-self-i-eq0-clause-res_after : goal.returns-then-self-i-eq0-clau
 returns-then-self-i-eq0-clause-res_after c =
     let args = c.args in
     let old = args.res.now in
-    sym (ap (λ (l : List ℕ). sets old args.at (bytes_of_all l)) (stated-off args.self.now.part.now args.i args.self.now.bytes.now args.self.now.links c.if-self-i-eq0.true) ∙ sets-none old args.at)
+    sym (ap (λ (l : List ℕ). sets old args.at (bytes_of_all l)) (stated-off args.self.now.part.now args.i args.self.now.sheet.bytes.now args.self.now.sheet.links c.if-self-i-eq0.true) ∙ sets-none old args.at)

@@ -23,17 +23,17 @@ returns-in_err-within_limits-clause-number c =
     let e = c.in_err-within_limits.field-0.0 in
     let same : s.bytes.now ≡ c.args.bytes.now = search rules in
     let made : c.from_residual-in_err-within_limits.result ≡ Err e = search rules in
-    ap number_in made ∙ sym (past-refused s.bytes.now s.links s.nodes s.start s.accepted s.stated e (sym c.within_limits.ensures.number ∙ c.in_err-within_limits.was)) ∙ ap input_number same
+    ap number_in made ∙ sym (past-refused s.bytes.now s.links s.nodes s.start s.form s.accepted s.stated e (sym c.within_limits.ensures.number ∙ c.in_err-within_limits.was)) ∙ ap input_number same
 
 pub returns-then-not-links_climb-clause-number : goal.returns-then-not-links_climb-clause-number
 returns-then-not-links_climb-clause-number c =
     let s = c.in_ok-sheet.sheet in
     let same : s.bytes.now ≡ c.args.bytes.now = search rules in
     let few : (s.nodes ≤ node_limit) × (s.links ≤ link_limit) = search rules in
-    sym (climbs-not s.bytes.now s.links s.nodes s.start s.accepted s.stated few.0 few.1 (sym c.links_climb.ensures ∙ c.if-not-links_climb.true)) ∙ ap input_number same
+    sym (climbs-not s.bytes.now s.links s.nodes s.start s.form s.accepted s.stated few.0 few.1 (sym c.links_climb.ensures ∙ c.if-not-links_climb.true)) ∙ ap input_number same
 
 pub invariant_of-result : goal.invariant_of-result
 invariant_of-result c =
     let s = c.in_ok-sheet.sheet in
     let few : (s.nodes ≤ node_limit) × (s.links ≤ link_limit) = search rules in
-    record { climbs = climbs-all s.bytes.now s.links s.nodes s.start s.accepted s.stated few.0 few.1 (sym c.links_climb.ensures ∙ c.if-not-links_climb.false) }
+    record { climbs = climbs-all s.bytes.now s.links s.nodes s.start s.form s.accepted s.stated few.0 few.1 (sym c.links_climb.ensures ∙ c.if-not-links_climb.false) }

@@ -5,7 +5,7 @@ use native.Mathlib.Omega.{arith}
 use borrow.Author.Tests.{eq-eqb}
 use Rattle.n_shortest.specs.declared.n_best.Places.{Places}
 use Rattle.n_shortest.specs.declared.entry.Entry.TheVariants.{Finished}
-use Rattle.slots.specs.Slots.{nothing}
+use Rattle.slots.specs.Slots.{slot_length, nothing}
 use Rattle.search_slots.specs.Slots.{head_word}
 use Rattle.n_shortest.specs.SearchWords.{put_w}
 use Rattle.n_shortest.specs.Goes.{words_of}
@@ -22,8 +22,8 @@ put-requires c =
     let l = subst (λ w. Linked s.places a.x a.cost (words_of s) w e.fan) (sym made.words) (linked s.places a.x a.cost s.most (head_word s.part.now s.places.nodes a.v) (words_of s) e.fan s.sized e.chain (omega (arith, e.free))) in
     let end : a.v ≡ s.places.end = c.if-v-self.true ∙ ap (λ (p : Places). p.end) made.kept.places in
     let one = ap {B = ℕ} (λ (b : Bool). cond b 1 0) (eq-eqb a.v s.places.end end) in
-    let free : 8 * (c.put_links.new.self.counts.entries + 1) ≤ s.places.nodes = omega (arith, l.few, e.free, one) in
-    (subst (λ (p : Places). 8 * (c.put_links.new.self.counts.entries + 1) ≤ p.nodes) (sym made.kept.places) free, tt)
+    let free : slot_length * (c.put_links.new.self.counts.entries + 1) ≤ s.places.nodes = omega (arith, l.few, e.free, one) in
+    (subst (λ (p : Places). slot_length * (c.put_links.new.self.counts.entries + 1) ≤ p.nodes) (sym made.kept.places) free, tt)
 
 pub returns-then-v-self : goal.returns-then-v-self
 returns-then-v-self c =

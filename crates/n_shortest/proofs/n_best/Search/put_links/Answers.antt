@@ -4,7 +4,7 @@ use Prim.Native.Nat.{ℕ, ◌+◌, ◌-◌, ◌*◌, ◌≤◌, ◌<◌}
 use lib.Ieee.{binary32, add, of_bits}
 use lib.ListN.{length}
 use Rattle.std.specs.Prelude.{unwrap_or}
-use Rattle.slots.specs.Slots.{nothing}
+use Rattle.slots.specs.Slots.{slot_length, nothing}
 use Rattle.n_shortest.specs.declared.n_best.Places.{Places}
 use Rattle.n_shortest.specs.declared.entry.Entry.TheVariants.{Half}
 use Rattle.search_slots.specs.Slots.{next_word, weight_word, chain_word}
@@ -43,7 +43,7 @@ link_at-link-requires c =
     let turn = c.loop-turn in
     let g = turn.invariant.0 in
     let d = next s.places a.x a.cost turn.k (words_of turn.self) g.fan g.chain c.if-k.false in
-    subst (λ (p : Places). p.links + 8 * turn.k + 2 < length turn.self.part.now) (sym turn.invariant.1.places) d.slot
+    subst (λ (p : Places). p.links + slot_length * turn.k + 2 < length turn.self.part.now) (sym turn.invariant.1.places) d.slot
 
 pub put-requires : goal.put-requires
 put-requires c =
@@ -52,11 +52,11 @@ put-requires c =
     let turn = c.loop-turn in
     let g = turn.invariant.0 in
     let d = next s.places a.x a.cost turn.k (words_of turn.self) g.fan g.chain c.if-k.false in
-    let free : 8 * (turn.self.counts.entries + 1) ≤ s.places.nodes = omega (arith, g.free, d.one_more) in
-    let node : turn.self.places.nodes + 8 * c.link_at-link.result.next + 1 < length turn.self.part.now =
-    subst (λ (v : ℕ). turn.self.places.nodes + 8 * v + 1 < length turn.self.part.now) (sym c.link_at-link.ensures.next)
-    (subst (λ (p : Places). p.nodes + 8 * next_word turn.self.part.now p.links turn.k + 1 < length turn.self.part.now) (sym turn.invariant.1.places) d.node) in (
-      subst (λ (p : Places). 8 * (turn.self.counts.entries + 1) ≤ p.nodes) (sym turn.invariant.1.places) free,
+    let free : slot_length * (turn.self.counts.entries + 1) ≤ s.places.nodes = omega (arith, g.free, d.one_more) in
+    let node : turn.self.places.nodes + slot_length * c.link_at-link.result.next + 1 < length turn.self.part.now =
+    subst (λ (v : ℕ). turn.self.places.nodes + slot_length * v + 1 < length turn.self.part.now) (sym c.link_at-link.ensures.next)
+    (subst (λ (p : Places). p.nodes + slot_length * next_word turn.self.part.now p.links turn.k + 1 < length turn.self.part.now) (sym turn.invariant.1.places) d.node) in (
+      subst (λ (p : Places). slot_length * (turn.self.counts.entries + 1) ≤ p.nodes) (sym turn.invariant.1.places) free,
       node,
     )
 

@@ -9,11 +9,12 @@ use Rattle.search_slots.specs.Slots.{visits_word}
 use Rattle.n_shortest.specs.SearchWords.{Words, Expands, Takes}
 use Rattle.n_shortest.specs.Goes.{words_of}
 use Rattle.n_shortest.proofs.Taking.{expands-visited, taken-over, taken-expanded, taken-finished}
+use Rattle.slots.specs.Slots.{slot_length}
 use Rattle.n_shortest.proofs.n_best.Search.take.Goals as goal
 
 -- what taking a half-built one asks
 half : (p : Places) (n : ℕ) (s : Words) {e : Entry} {v : ℕ} {cost : Float} → e ≡ Half v cost → Takes p n s e
-    → (p.nodes + 8 * v + 3 < p.links) × (visits_word s.part p.nodes v + 1 < 4294967296) × (visits_word s.part p.nodes v + 1 ≤ n → Expands p s v)
+    → (p.nodes + slot_length * v + 3 < p.links) × (visits_word s.part p.nodes v + 1 < 4294967296) × (visits_word s.part p.nodes v + 1 ≤ n → Expands p s v)
 half p n s q t = subst (Takes p n s) q t
 
 pub expand-requires : goal.expand-requires

@@ -6,7 +6,7 @@ use Rattle.sheet.proofs.NodeSources.{next-first, first-within}
 use Rattle.read_back.proofs.walk.Walk.moved.Goals as goal
 
 pub overflow_add-first : goal.overflow_add-first
-overflow_add-first c = let s = c.args.self.now.at.sheet in omega (arith, c.count-first.ensures.word, first-within s.bytes.now s.links s.nodes s.start s.accepted s.stated c.loop-v.v (omega arith))
+overflow_add-first c = let s = c.args.self.now.at.sheet in omega (arith, c.count-first.ensures.word, first-within s.bytes.now s.links s.nodes s.start s.form s.accepted s.stated c.loop-v.v (omega arith))
 
 pub loop-v-preserved : goal.loop-v-preserved
 loop-v-preserved c =

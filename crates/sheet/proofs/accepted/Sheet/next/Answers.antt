@@ -6,9 +6,9 @@ use Rattle.sheet.proofs.accepted.Sheet.next.Goals as goal
 pub returns-clause-part : goal.returns-clause-part
 returns-clause-part c =
     let s = c.args.self.now in
-    c.word.ensures ∙ next-is s.bytes.now s.links s.nodes s.start s.accepted s.stated c.args.l c.requires
+    c.word.ensures ∙ next-is s.bytes.now s.links s.nodes s.start s.form s.accepted s.stated c.args.l c.requires
 
 pub returns-clause-below : goal.returns-clause-below
 returns-clause-below c =
     let s = c.args.self.now in
-    omega (arith, c.word.ensures, next-below s.bytes.now s.links s.nodes s.start s.accepted s.stated c.args.l c.requires)
+    omega (arith, c.word.ensures, next-below s.bytes.now s.links s.nodes s.start s.form s.accepted s.stated c.args.l c.requires)

@@ -6,4 +6,4 @@ pub returns-clause-within : goal.returns-clause-within
 returns-clause-within c =
     let s = c.args.self.now in
     let t = s.sheet in
-    omega (arith, s.begins, c.count.ensures.word, first-within t.bytes.now t.links t.nodes t.start t.accepted t.stated s.node s.inside)
+    omega (arith, s.begins, c.count.ensures.word, first-within t.bytes.now t.links t.nodes t.start t.form t.accepted t.stated s.node s.inside)

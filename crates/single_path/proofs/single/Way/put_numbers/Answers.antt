@@ -4,6 +4,7 @@ use Prim.Native.Nat.{◌+◌}
 use native.Mathlib.Omega.{arith}
 use lib.ListN.{length}
 use lib.Seq.{sets}
+use Rattle.sheet.specs.Words.{word_length}
 use Rattle.sheet.proofs.Bytes.{bytes_of_all-one}
 use Rattle.single_path.proofs.WriteTurns.{stored-on, stored-all}
 use Rattle.single_path.proofs.single.Way.put_numbers.Goals as goal
@@ -15,7 +16,7 @@ loop-parent-preserved c =
     let back = c.in-Some.ensures in record {
       fell = omega (arith, back.0, turn.invariant.fell);
       room = omega (arith, c.put_word.auto.bytes, ap length back.2, turn.invariant.room);
-      as_all = stored-on turn.res _ _ _ (p.link ∷ []) _ turn.next (turn.next + 4) back.2 (omega arith) (c.put_word.ensures ∙ ap (sets turn.res turn.next) (sym (bytes_of_all-one p.link))) turn.invariant.as_all;
+      as_all = stored-on turn.res _ _ _ (p.link ∷ []) _ turn.next (turn.next + word_length) back.2 (omega arith) (c.put_word.ensures ∙ ap (sets turn.res turn.next) (sym (bytes_of_all-one p.link))) turn.invariant.as_all;
     }
 
 pub returns : goal.returns

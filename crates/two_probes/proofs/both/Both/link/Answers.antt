@@ -7,6 +7,7 @@ use Rattle.sheet.specs.Machine.{bits_of, link_fields}
 use Rattle.machine.specs.Readings.{link}
 use Rattle.machine.proofs.Machines.{machine-fields}
 use Rattle.product.specs.Halves.{pair_at}
+use Rattle.two_probes.specs.Held.{unit_by}
 use Rattle.two_probes.proofs.Kept.{a, b, first-is, second-is, first-in, second-in, second-nodes, link-is}
 use Rattle.two_probes.proofs.both.Both.link.Goals as goal
 
@@ -38,5 +39,5 @@ returns c =
     let s = ap (λ (r : Link). r.nextstate) c.link-a.ensures ∙ f.next-at c.pair_first.result l ∙ ap (λ (n : ℕ). (link (a x) n).next) first in
     let t = c.next-b.ensures.word ∙ g.next-at c.pair_second.result k ∙ ap (λ (n : ℕ). (link (b x) n).next) second in
     let n = c.node_for.ensures.value ∙ λ j. s j * sym (second-nodes x) j + t j in
-    let w = c.link_bits.ensures ∙ ap (λ k. bits_of k.weight) (link-is x q c.requires) in
-    (λ j. i j ∷ o j ∷ w j ∷ n j ∷ []) ∙ sym (ap link_fields (link-is x q c.requires))
+    let w = c.link_bits.ensures ∙ ap (λ k. bits_of (unit_by x) k.weight) (link-is x q c.requires) in
+    (λ j. i j ∷ o j ∷ w j ∷ n j ∷ []) ∙ sym (ap (link_fields (unit_by x)) (link-is x q c.requires))
