@@ -9,13 +9,14 @@ parts; and these words must lead to equal links. Costs are summed here, in whole
 It ends when N drawn machines were judged, besides some that are stated; the same seed draws the same. On the first difference it prints the machine
 and exits with 1.
 """
-import argparse, faulthandler, os, random, struct, sys
+import os, random, struct, sys
 from collections import Counter, namedtuple
 sys.dont_write_bytecode = True
 import parts_judge, readback_judge
 from drawn_parts import joined
+from judging import Difference, conduct
 from parts import least_sums
-from product_judge import GUARD, Difference
+from product_judge import GUARD
 from readback_judge import LISTS, reading_in, searched
 from sheets import A, A64, A256, CHAIN, E, NODES, climbing, fields, form_of, in_form, input_number, sources, trailer_size, written
 
@@ -114,22 +115,12 @@ class Judge:
             self.machine(*self.drawn())
             if i % 20 == 0: self.machine(*joined(self.rng, 200, 600), (1, 2, 3, LISTS))
 
+def print_difference(judge, what, b, c):
+    print(f'{what} differ: node {c}, a sheet of {len(b)} bytes, as sheets.py writes them:', written(b))
+    print('  links, nodes and start:', *fields(b))
+
 def main():
-    parser = argparse.ArgumentParser(description='Holds the lists of a machine to those of its two parts.')
-    parser.add_argument('--seed', type=int, default=1)
-    parser.add_argument('--machines', type=int, default=60, help='how many drawn machines are judged')
-    parser.add_argument('library')
-    asked = parser.parse_args()
-    # so that a library that breaks down is told with the call
-    faulthandler.enable()
-    judge = Judge(asked.library, asked.seed)
-    try: judge.run(asked.machines)
-    except Difference as found:
-        what, b, c = found.args
-        print(f'{what} differ: node {c}, a sheet of {len(b)} bytes, as sheets.py writes them:', written(b))
-        print('  links, nodes and start:', *fields(b))
-        sys.exit(f'a difference, with seed {asked.seed}, after {judge.figures["machines"]:,} machines')
-    print(', '.join(f'{what}: {count:,}' for what, count in judge.figures.items()))
-    print('no difference')
+    conduct('Holds the lists of a machine to those of its two parts.', 'machines', 60, Judge, print_difference,
+            lambda judge: print(', '.join(f'{what}: {count:,}' for what, count in judge.figures.items())), judged=lambda judge: judge.figures['machines'])
 
 if __name__ == '__main__': main()

@@ -9,12 +9,13 @@ Sheets are drawn, most of them to narrow to the node that is asked for, or to fa
 with a result area just long enough, with one a byte short, and with another. It ends when N sheets were judged; the same seed draws the same. On
 the first difference it prints the sheet, made smaller as far as it goes, and exits with 1.
 """
-import argparse, ctypes, faulthandler, os, random, sys, time
+import ctypes, os, random, sys, time
 from collections import Counter
 sys.dont_write_bytecode = True
 from drawn_parts import AMISS, OVER, damaged, joined, wide
+from judging import Difference, changed, conduct, counted
 from parts import made, outcome
-from product_judge import GUARD, MARKS, Difference, simpler
+from product_judge import GUARD, MARKS, simpler
 from sheets import A, A64, A256, CHAIN, E, EMPTY, FINE, NODES, NONE, fields, longer, read_number, written
 
 # what stands behind the pointers before a call
@@ -103,41 +104,25 @@ def reduced(library, b, c, seconds=10):
     while other := step(): b = other
     return b
 
-def print_difference(library, b, c):
+def print_difference(judge, b, c):
+    library = judge.library
     if differing(library, b, c): b = reduced(library, b, c)
     print(f'the call differs, with bytes as sheets.py writes them: node {c}, a sheet of {len(b)} bytes:', written(b))
     if read_number(b) == 0: print('  links, nodes and start:', *fields(b))
     call = differing(library, b, c)
     if call is None: return
     (number, counts, due), (other, told_counts, told), (_, area) = library.due(*call), library.answer(*call), library.laid(b, *call[2:])[1]
-    places = [at - area for at, (x, y) in enumerate(zip(due, told)) if x != y]
     print(f'  result area: {call[2]} bytes')
     print(f'  due: number {number}, counts {counts}, answer', written(outcome(*call[:3])[2]))
-    changed = f'{len(places)} bytes differ, the first {places[0]} from where the area begins' if places else 'the memory is as it is due'
-    print(f'  told: number {other}, counts {told_counts}; {changed}')
+    print(f'  told: number {other}, counts {told_counts}; {changed(due, told, area)}')
 
 def print_figures(judge):
-    def counted(counts): return ', '.join(f'{what}: {count:,}' for what, count in sorted(counts.items()))
     print(f'{judge.kinds.total():,} sheets, {counted(judge.kinds)}')
     print(f'  by number: {counted(judge.sheets)}')
     print(f'{judge.calls.total():,} calls, by number: {counted(judge.calls)}')
 
 def main():
-    parser = argparse.ArgumentParser(description='Holds the call for the two parts of a machine to a judge of its own.')
-    parser.add_argument('--seed', type=int, default=1)
-    parser.add_argument('--sheets', type=int, default=4000, help='how many sheets are judged at the least')
-    parser.add_argument('library')
-    asked = parser.parse_args()
-    # so that a library that breaks down is told with the call
-    faulthandler.enable()
-    judge = Judge(Library(asked.library), asked.seed)
-    try: judge.run(asked.sheets)
-    except Difference as found:
-        print_difference(judge.library, *found.args)
-        sys.exit(f'a difference, with seed {asked.seed}, after {judge.kinds.total():,} sheets')
-    print_figures(judge)
-    unseen = [str(number) for number in NUMBERS if not judge.calls[number]]
-    if unseen: sys.exit('never answered: ' + ', '.join(unseen))
-    print('no difference')
+    conduct('Holds the call for the two parts of a machine to a judge of its own.', 'sheets', 4000, lambda library, seed: Judge(Library(library), seed),
+            print_difference, print_figures, unseen=lambda judge: [str(number) for number in NUMBERS if not judge.calls[number]])
 
 if __name__ == '__main__': main()

@@ -10,11 +10,12 @@ Pairs are drawn, most of them small and of few labels, some about the limits, an
 long enough, with one a byte short, and with another. It ends when N pairs were judged; the same seed draws the same. On the first difference it
 prints the pair, made smaller as far as it goes, and exits with 1.
 """
-import argparse, ctypes, faulthandler, os, random, sys, time
+import ctypes, os, random, sys, time
 from collections import Counter
 from itertools import chain
 sys.dont_write_bytecode = True
 from drawn_pairs import OVER, damaged_pair, drawn_pair, mislabelled, parallel_pair, wide_pair
+from judging import Difference, changed, conduct, counted
 from products import made, outcome, paired, readings
 from sheets import (A, A64, A256, CHAIN, E, EMPTY, FINE, LINKS, LONG, NODES, NONE, fields, form_of, input_number, longer, read_number, sheet, sources, with_form,
                     written)
@@ -57,8 +58,6 @@ class Library:
         before, (_, _, area) = self.laid(first, second, room, shift)
         number, answer = outcome(first, second, room)
         return number, SIZE if number else len(answer), before[:area] + answer + before[area + len(answer):]
-
-class Difference(Exception): pass
 
 class Judge:
     def __init__(self, library, seed):
@@ -150,42 +149,26 @@ def reduced(library, first, second, seconds=10):
     while pair := step(): first, second = pair
     return first, second
 
-def print_difference(library, what, first, second):
+def print_difference(judge, what, first, second):
+    library = judge.library
     if what == 'the call' and differing(library, first, second): first, second = reduced(library, first, second)
     print(f'{what} differs, with bytes as sheets.py writes them:')
     for name, b in ('first', first), ('second', second): print(f'  {name}, {len(b)} bytes:', written(b))
     call = differing(library, first, second)
     if call is None: return
     (number, size, due), (other, told_size, told), (*_, area) = library.due(*call), library.answer(*call), library.laid(*call)[1]
-    places = [at - area for at, (x, y) in enumerate(zip(due, told)) if x != y]
     print(f'  result area: {call[2]} bytes')
     print(f'  due: number {number}, size {size:#x}, answer', written(outcome(*call[:3])[1]))
-    changed = f'{len(places)} bytes differ, the first {places[0]} from where the area begins' if places else 'the memory is as it is due'
-    print(f'  told: number {other}, size {told_size:#x}; {changed}')
+    print(f'  told: number {other}, size {told_size:#x}; {changed(due, told, area)}')
 
 def print_figures(judge):
-    def counted(counts): return ', '.join(f'{what}: {count:,}' for what, count in sorted(counts.items()))
     print(f'{judge.kinds.total():,} pairs, {counted(judge.kinds)}')
     print(f'  by number: {counted(judge.pairs)}')
     print(f'{judge.calls.total():,} calls, by number: {counted(judge.calls)}')
     print(f'{judge.readings:,} readings of answers are those of pairs')
 
 def main():
-    parser = argparse.ArgumentParser(description='Holds the call for what two sheets both allow to a judge of its own.')
-    parser.add_argument('--seed', type=int, default=1)
-    parser.add_argument('--pairs', type=int, default=4000, help='how many pairs are judged at the least')
-    parser.add_argument('library')
-    asked = parser.parse_args()
-    # so that a library that breaks down is told with the call
-    faulthandler.enable()
-    judge = Judge(Library(asked.library), asked.seed)
-    try: judge.run(asked.pairs)
-    except Difference as found:
-        print_difference(judge.library, *found.args)
-        sys.exit(f'a difference, with seed {asked.seed}, after {judge.kinds.total():,} pairs')
-    print_figures(judge)
-    unseen = [str(number) for number in NUMBERS if not judge.calls[number]]
-    if unseen: sys.exit('never answered: ' + ', '.join(unseen))
-    print('no difference')
+    conduct('Holds the call for what two sheets both allow to a judge of its own.', 'pairs', 4000, lambda library, seed: Judge(Library(library), seed),
+            print_difference, print_figures, unseen=lambda judge: [str(number) for number in NUMBERS if not judge.calls[number]])
 
 if __name__ == '__main__': main()

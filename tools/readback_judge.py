@@ -9,9 +9,10 @@ Machines are drawn, and the library's own calls make their lists and distances, 
 small machines are held to search_oracle.py and sheets.py, too. It ends when N cases were judged; the same seed draws the same. On the first
 difference it prints the call, made smaller as far as it goes, and exits with 1.
 """
-import argparse, ctypes, faulthandler, functools, random, struct, sys, time
+import ctypes, functools, random, struct, sys, time
 from collections import Counter, namedtuple
 sys.dont_write_bytecode = True
+from judging import Difference, conduct
 from search_oracle import INF, Search
 from sheets import (A, A256, BARRED, CHAIN, E, EMPTY, FINE, FORMS, LARGEST, LINKS, NODES, NONE, SHORT, UNITS, climbing, distances, f, fields, in_form,
                     input_number, longer, read_number, real, some_barred, sources, trailer_size, unit_of, with_form, with_word)
@@ -397,8 +398,6 @@ DISTANCE_DAMAGES = distances_cut, values_changed, distances_changed, distances_c
 
 # ---- judging
 
-class Difference(Exception): pass
-
 def named(damage): return damage.__name__.replace('_', ' ')
 
 class Judge:
@@ -527,7 +526,8 @@ def reduced(library, name, args, seconds=5):
 def shown(value):
     return value.hex() or '-' if type(value) is bytes else value
 
-def print_difference(library, name, args):
+def print_difference(asked, name, args):
+    library = asked.library
     if name not in CALLS:
         print(f'{name}: what is read back is not what search_oracle.py and sheets.py give, for', *map(shown, args))
         return
@@ -545,21 +545,7 @@ def print_figures(judge):
     for name in CALLS: print(f'  {name}:', ', '.join(f'{number}: {count:,}' for (who, number), count in sorted(judge.calls.items()) if who == name))
 
 def main():
-    parser = argparse.ArgumentParser(description='Holds the calls that read back to a judge of their own.')
-    parser.add_argument('--seed', type=int, default=1)
-    parser.add_argument('--cases', type=int, default=5000, help='how many cases are judged at the least')
-    parser.add_argument('library')
-    asked = parser.parse_args()
-    # so that a library that breaks down is told with the call
-    faulthandler.enable()
-    judge = Judge(Library(asked.library), asked.seed)
-    try: judge.run(asked.cases)
-    except Difference as found:
-        print_difference(judge.library, *found.args)
-        sys.exit(f'a difference, with seed {asked.seed}, after {judge.kinds.total():,} cases')
-    print_figures(judge)
-    unseen = [f'{number} of {name}' for name, (*_, numbers) in CALLS.items() for number in numbers if not judge.calls[name, number]]
-    if unseen: sys.exit('never answered: ' + ', '.join(unseen))
-    print('no difference')
+    conduct('Holds the calls that read back to a judge of their own.', 'cases', 5000, lambda library, seed: Judge(Library(library), seed), print_difference, print_figures,
+            unseen=lambda judge: [f'{number} of {name}' for name, (*_, numbers) in CALLS.items() for number in numbers if not judge.calls[name, number]])
 
 if __name__ == '__main__': main()

@@ -5,7 +5,8 @@
 mod common;
 
 use common::drawn::{check, weighed};
-use common::{a_with, again, bytes, chain, link, readings, sheet_a, walked, Random, A, NONE};
+use common::{a_with, again, bytes, chain, costs, distance_bytes, link, readings, sheet_a};
+use common::{walked, Random, A, NONE};
 use yeldmur::raw::{self, Listed};
 use yeldmur::{distances, ffi, list, split, two_probes, units};
 use yeldmur::{Link, List, Refusal, Sheet, Trailer, Unit, BARRED, NODE_LIMIT, WEIGHT_LIMIT};
@@ -180,7 +181,7 @@ fn the_grid_of_256ths() {
 
 #[test]
 fn a_in_either_unit() {
-    for (unit, costs, least) in [
+    for (unit, due, least) in [
         (Unit::Of64, [112, 112, 144], [0, 64, 32, 80]),
         (Unit::Of256, [448, 448, 576], [0, 256, 128, 320]),
     ] {
@@ -190,8 +191,7 @@ fn a_in_either_unit() {
             (plain.unit(), plain.trailer()),
             (Unit::Of64, Trailer::Short)
         );
-        let told: Vec<i32> = readings(&a, 3).iter().map(|reading| reading.0).collect();
-        assert_eq!(told, costs);
+        assert_eq!(costs(&a, 3), due);
         let numbers = |sheet: &Sheet, n| {
             let listed = readings(sheet, n).into_iter();
             listed.map(|reading| reading.1).collect::<Vec<_>>()
@@ -202,7 +202,7 @@ fn a_in_either_unit() {
             assert_eq!(taken[0], taken[1]);
         }
         assert_eq!(distances(&a), distances(&plain));
-        let (values, result) = distances_of(&a);
+        let (values, result) = distance_bytes(&a);
         let told: Vec<_> = (0..values)
             .map(|node| raw::distance_in(&result, values, node, unit).unwrap())
             .collect();
@@ -466,20 +466,11 @@ fn every_byte_damaged() {
     }
 }
 
-// The distances of a sheet as bytes, and how many there are.
-fn distances_of(sheet: &Sheet) -> (u32, Vec<u8>) {
-    let needed = raw::areas(sheet.bytes(), 1).unwrap();
-    let (mut work, mut result) = (vec![0; needed.words()], vec![0; needed.bytes]);
-    let values = raw::shortest_distance(sheet.bytes(), &mut work, &mut result).unwrap();
-    result.truncate(8 * values as usize);
-    (values, result)
-}
-
 #[test]
 fn a_distance_in_each_unit() {
     let links = [link(0, 1, 1.75, 1), link(1, 2, 0.00390625, 3)];
     let sheet = Sheet::write_in(&links, &[None; 4], Some(0), Unit::Of256).unwrap();
-    let (values, result) = distances_of(&sheet);
+    let (values, result) = distance_bytes(&sheet);
     let told = |unit| {
         (0..values)
             .map(|node| raw::distance_in(&result, values, node, unit))
@@ -579,11 +570,7 @@ fn two_probes_of_one_unit() {
         assert_eq!(short, Err(Refusal::ResultArea));
     }
     let twice = two_probes(&fine, &fine).unwrap();
-    let costs: Vec<i32> = readings(&twice, 64)
-        .iter()
-        .map(|reading| reading.0)
-        .collect();
-    assert_eq!(costs, [896, 896, 1152]);
+    assert_eq!(costs(&twice, 64), [896, 896, 1152]);
 }
 
 // 12 goes by units: 64 and 64 are off the grid of 256ths each, 32 and a 256th together.
@@ -709,11 +696,7 @@ fn parts_keep_the_trailer() {
 #[test]
 fn costs_of_parts() {
     let fine = split(&a_in(Unit::Of256), 3).unwrap();
-    let costs: Vec<i32> = readings(fine.first.sheet(), 3)
-        .iter()
-        .map(|r| r.0)
-        .collect();
-    assert_eq!(costs, [320, 320, 448]);
+    assert_eq!(costs(fine.first.sheet(), 3), [320, 320, 448]);
     assert_eq!(readings(fine.second.sheet(), 3), [(128, vec![])]);
 }
 

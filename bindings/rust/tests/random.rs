@@ -4,7 +4,7 @@
 mod common;
 
 use common::drawn::{check, weighed, Machine};
-use common::{readings, walked, Random};
+use common::{costs, walked, Random};
 use yeldmur::{distances, units, Areas, Unit, WEIGHT_LIMIT};
 
 // Few different weights make ties, many make none.
@@ -68,7 +68,7 @@ fn a_large_machine() {
         .filter_map(|(distance, weight)| units((*distance)? + (*weight)?, Unit::Of64))
         .min();
     let mut areas = Areas::new();
-    let longest: Vec<i32> = readings(&sheet, 64).iter().map(|r| r.0).collect();
+    let longest = costs(&sheet, 64);
     assert_eq!(longest.len(), 64);
     assert_eq!(longest.first().copied(), least);
     assert!(longest.windows(2).all(|pair| pair[0] <= pair[1]));

@@ -3,7 +3,7 @@
 
 mod common;
 
-use common::{a_with, bytes, chain, link, sheet_a, walked, A, NONE};
+use common::{a_with, bytes, chain, distance_bytes, link, sheet_a, walked, A, NONE};
 use yeldmur::raw::{self, Counts, Listed};
 use yeldmur::{ffi, Refusal, Sheet, BARRED, LIST_LIMIT, NODE_LIMIT};
 
@@ -243,19 +243,10 @@ fn refusals_of_readings() {
     }
 }
 
-// The distances of a sheet as bytes, and how many there are.
-fn distances(sheet: &Sheet) -> (u32, Vec<u8>) {
-    let needed = raw::areas(sheet.bytes(), 1).unwrap();
-    let (mut work, mut result) = (vec![0; needed.words()], vec![0; needed.bytes]);
-    let values = raw::shortest_distance(sheet.bytes(), &mut work, &mut result).unwrap();
-    result.truncate(8 * values as usize);
-    (values, result)
-}
-
 #[test]
 fn distances_read_back() {
     let told = |sheet: &Sheet| -> Vec<Option<i32>> {
-        let (values, result) = distances(sheet);
+        let (values, result) = distance_bytes(sheet);
         (0..values)
             .map(|node| raw::distance(&result, values, node).unwrap())
             .collect()
@@ -272,7 +263,7 @@ fn distances_read_back() {
 
 #[test]
 fn refusals_of_a_distance() {
-    let (values, result) = distances(&sheet_a());
+    let (values, result) = distance_bytes(&sheet_a());
     let none = u32::MAX;
     for (number, room, values, node) in [
         (30, result.len() - 1, values, 0),
@@ -327,7 +318,7 @@ fn words_of_a_distance() {
 // Flipped bytes: a distance in sixty-fourths whose bits are those that stand there, or a refusal.
 #[test]
 fn damaged_distances() {
-    let (values, result) = distances(&mixed());
+    let (values, result) = distance_bytes(&mixed());
     let mut told = 0;
     for at in 0..result.len() {
         for flip in 1..=255 {

@@ -3,7 +3,7 @@
 
 mod common;
 
-use common::{a_with, bytes, chain, link, links_a, readings, sheet_a, A, NONE};
+use common::{a_with, bytes, chain, costs, link, links_a, readings, sheet_a, A, NONE};
 use yeldmur::{distances, list, Refusal, Sheet, LINK_LIMIT, NODE_LIMIT, WEIGHT_LIMIT};
 
 #[test]
@@ -68,8 +68,7 @@ fn two() {
 #[test]
 fn p3_three() {
     let a = sheet_a();
-    let costs: Vec<i32> = readings(&a, 3).iter().map(|reading| reading.0).collect();
-    assert_eq!(costs, [112, 112, 144]);
+    assert_eq!(costs(&a, 3), [112, 112, 144]);
     let list = list(&a, 3).unwrap();
     assert_eq!(list.taken(), 11);
     let third: Vec<u32> = list

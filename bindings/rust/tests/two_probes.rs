@@ -4,7 +4,7 @@
 
 mod common;
 
-use common::{a_with, bytes, chain, link, readings, said, sheet_a, write, Random, A, NONE};
+use common::{a_with, bytes, chain, costs, link, readings, said, sheet_a, write, Random, A, NONE};
 use yeldmur::{ffi, list, raw, two_probes, units};
 use yeldmur::{Link, Refusal, Sheet, Unit, BARRED, LINK_LIMIT, NODE_LIMIT, WEIGHT_LIMIT};
 
@@ -59,11 +59,7 @@ fn a_with_itself() {
         .iter()
         .map(|reading| 2 * reading.0)
         .collect();
-    let costs: Vec<i32> = readings(&both, 64)
-        .iter()
-        .map(|reading| reading.0)
-        .collect();
-    assert_eq!(costs, twice);
+    assert_eq!(costs(&both, 64), twice);
 }
 
 // Laid out by hand: the links stand by the node that they leave, then the first's number, then the second's.
@@ -85,11 +81,7 @@ fn the_fields_of_two_by_three() {
     ];
     assert_eq!(both.bytes(), bytes(&words));
     assert_eq!(both.bytes().len(), 172);
-    let costs: Vec<i32> = readings(&both, 64)
-        .iter()
-        .map(|reading| reading.0)
-        .collect();
-    assert_eq!(costs, [124, 125, 218]);
+    assert_eq!(costs(&both, 64), [124, 125, 218]);
 }
 
 #[test]
@@ -570,12 +562,6 @@ fn large_machines() {
         assert!(both.node_count() >= 2000 && both.link_count() > 3000);
         // what the searches make of it costs the same the other way round
         let turned = two_probes(&second, &first).unwrap();
-        let costs = |sheet: &Sheet| -> Vec<i32> {
-            readings(sheet, 64)
-                .iter()
-                .map(|reading| reading.0)
-                .collect()
-        };
-        assert_eq!(costs(&both), costs(&turned));
+        assert_eq!(costs(&both, 64), costs(&turned, 64));
     }
 }

@@ -5,7 +5,7 @@
 
 pub mod drawn;
 
-use yeldmur::{units, Link, Refusal, Sheet, Trailer, Unit, BARRED};
+use yeldmur::{raw, units, Link, Refusal, Sheet, Trailer, Unit, BARRED};
 
 /// The word for no start and no input link.
 pub const NONE: u32 = 0xFFFF_FFFF;
@@ -69,6 +69,20 @@ pub fn readings(sheet: &Sheet, n: u32) -> Vec<(i32, Vec<u32>)> {
     list.readings()
         .map(|reading| (reading.cost(), reading.numbers().collect()))
         .collect()
+}
+
+/// The costs of the readings on the list for n.
+pub fn costs(sheet: &Sheet, n: u32) -> Vec<i32> {
+    readings(sheet, n).iter().map(|reading| reading.0).collect()
+}
+
+/// The distances of a sheet as bytes, and how many there are.
+pub fn distance_bytes(sheet: &Sheet) -> (u32, Vec<u8>) {
+    let needed = raw::areas(sheet.bytes(), 1).unwrap();
+    let (mut work, mut result) = (vec![0; needed.words()], vec![0; needed.bytes]);
+    let values = raw::shortest_distance(sheet.bytes(), &mut work, &mut result).unwrap();
+    result.truncate(8 * values as usize);
+    (values, result)
 }
 
 /// The cost in the sheet's unit and the end of a run by the sheet's own links, which must hang together from the start to a final node, with nothing barred;
