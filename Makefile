@@ -82,9 +82,7 @@ check:
 	tools/test_bindings
 	cd cli && YELDMUR_LIB_DIR=$(lib_dir) $(CARGO) test --offline --locked
 	tools/test_python
-	tools/test_readback
-	tools/test_products
-	tools/test_parts
+	tools/test_judges
 	tools/test_package
 
 clean:

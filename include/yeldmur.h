@@ -213,7 +213,12 @@ uint32_t yeldmur_shortest_distance(const uint8_t *sheet, size_t sheet_bytes,
  * counts of that machine, `taken` the entries that the search has taken. From n = 2 the k-th reading lies
  * along the start's k-th link and then each state's only link as far as the final state; with n = 1 a
  * machine that is not empty holds the one reading along its one way. A reading's links are the input
- * links repeated on its way, in order. */
+ * links repeated on its way, in order.
+ * Lists of one sheet are nested in their costs: for every smaller n, from 1, the costs listed are the first of
+ * these, or all where there are fewer; and the best reading, that of n = 1, costs what heads every list. Readings
+ * that cost the same may differ: a shorter list may hold others, or in another order. One that costs what no other
+ * does is on the list for k just where it is among the first k of a longer one; and where no two of the first k + 1
+ * costs of the longer list are equal, its first k readings are the list for k. */
 uint32_t yeldmur_shortest_path(const uint8_t *sheet, size_t sheet_bytes, uint32_t n,
                                uint32_t *work, size_t work_words,
                                uint8_t *result, size_t result_bytes,

@@ -20,8 +20,8 @@ from product_judge import GUARD
 from readback_judge import LISTS, reading_in, searched
 from sheets import A, A64, A256, CHAIN, E, NODES, climbing, fields, form_of, in_form, input_number, sources, trailer_size, written
 
-# a part: its sheet, and the number that each of its links has in the whole; a reading: its cost, and its links by number
-Part, Reading = namedtuple('Part', 'sheet numbers'), namedtuple('Reading', 'cost run')
+# a part: its sheet, and the number that each of its links has in the whole
+Part = namedtuple('Part', 'sheet numbers')
 
 # three links to node 1 and two on, many parallel ones of equal weight, and a line with all weights of 0
 DIAMOND = climbing(3, [(0, 100 / 64, 1), (0, 102 / 64, 1), (0, 110 / 64, 1), (1, 11 / 64, 2), (1, 21 / 64, 2)], 0)
@@ -62,13 +62,9 @@ class Judge:
 
     def listed(self, b, n):
         """the list of a sheet: as it is told, with each cost that of its links"""
-        r = self.lists.list_of(b, n)
-        number, count = self.lists.answer('yeldmur_readings', tuple(r))
-        readings, machine = [], searched(b)[1]
-        for k in range(count):
-            _, size, cost, end, area = self.lists.answer('yeldmur_reading', (b, n, *r[:1], *r[2:], k, NODES))
-            readings.append(Reading(cost, struct.unpack_from(f'<{size}I', area, 4 * readback_judge.GUARD)))
-            if reading_in(machine, readings[-1].run) != (cost, end): raise Difference(f'reading {k} for {n}', b, None)
+        readings, machine = self.lists.readings_of(b, n), searched(b)[1]
+        for k, x in enumerate(readings):
+            if reading_in(machine, x.run) != (x.cost, x.end): raise Difference(f'reading {k} for {n}', b, None)
         return readings
 
     def cut(self, parts, run):
@@ -84,13 +80,13 @@ class Judge:
         def amiss(what): raise Difference(f'{what} for {n}', b, c)
         costs = [[x.cost for x in readings] for readings in (low, high)]
         if [x.cost for x in whole] != least_sums(n, *costs): amiss('the costs')
-        for cost, run in whole:
+        for cost, run, _ in whole:
             runs = self.cut(parts, run) or amiss('a reading that is none of the parts')
             held = [reading_in(searched(part.sheet)[1], own) for part, own in zip(parts, runs)]
             if None in held or held[0][0] + held[1][0] != cost or held[0][1] != c: amiss('a reading that is none of the parts')
             for own, (total, _), readings, known in zip(runs, held, (low, high), costs):
                 # a list with all readings holds this one, and a full one its cost
-                if total not in known or len(readings) < n and (total, own) not in readings: amiss('a reading that a part lists not')
+                if total not in known or len(readings) < n and (total, own) not in [(x.cost, x.run) for x in readings]: amiss('a reading that a part lists not')
         if len(whole) < n and {x.run for x in whole} != {self.joined(parts, x.run, y.run) for x in low for y in high}: amiss('the readings')
         self.figures['lists'] += 1
         self.figures['of them full'] += len(whole) == n

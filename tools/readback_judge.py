@@ -157,6 +157,8 @@ CALLS = {
 
 # a result of a list, with the counts that the call told
 Listed = namedtuple('Listed', 'bytes n states links')
+# a reading: its cost, its links by number, and where it ends
+Reading = namedtuple('Reading', 'cost run end')
 
 BYTES, AREA_OF = [ctypes.c_char_p, ctypes.c_size_t], [ctypes.c_void_p, ctypes.c_size_t]
 TAKEN = {'sheet': BYTES, 'result': BYTES, 'room': AREA_OF}
@@ -200,6 +202,14 @@ class Library:
         assert self.loaded.yeldmur_shortest_path(sheet, ctypes.c_size_t(len(sheet)), n, *areas, *map(ctypes.byref, told)) == 0
         states, links, _ = (value.value for value in told)
         return Listed(areas[2].raw[:20 * links + 12 * states + size_of(sheet)], n, states, links)
+
+    def readings_of(self, sheet, n):
+        """the readings of a list, made and read back by the library's own calls"""
+        r = self.list_of(sheet, n)
+        number, count = self.answer('yeldmur_readings', tuple(r))
+        told = [self.answer('yeldmur_reading', (sheet, n, *r[:1], *r[2:], k, NODES)) for k in range(count)]
+        assert number == 0 and not any(refused for refused, *_ in told)
+        return [Reading(cost, struct.unpack_from(f'<{size}I', area, 4 * GUARD), end) for _, size, cost, end, area in told]
 
     def distances_of(self, sheet):
         areas, values = self.areas(sheet, 1), ctypes.c_uint32()

@@ -1,22 +1,10 @@
 -- What the lists of two parts tell of the list of the whole, by the results of the call for lists on the three byte strings. Definitions only.
-use Rattle.std.specs.Prelude.{◌≡◌, ℕ, List, map}
-use Rattle.tropical_weight.specs.Tropical.{Tropical}
-use Rattle.sheet.specs.Machine.{machine}
-use Rattle.machine.specs.Readings.{reading_of, reading_cost}
-use Rattle.search.specs.Listed.{list_of}
+use Rattle.std.specs.Prelude.{◌≡◌, ℕ, List}
 use Rattle.list_answer.specs.declared.Listed.{Listed}
-use Rattle.shortest_path.specs.Promise.{Keeps}
+use Rattle.nested_costs.specs.NestedCosts.{ListFor, costs_listed}
 use Rattle.narrowing.specs.Sums.{least_sums}
 use Rattle.preheat_bake.specs.declared.counts.Counts.{Counts}
 use Rattle.preheat_bake.specs.Promise.{first_sheet, second_sheet}
-
--- a result of the call for lists on a sheet, with what it told: the call promises this where it answers 0
-abbrev pub ListFor : List ℕ → ℕ → Listed → List ℕ → Type 0
-ListFor sheet n told result = Keeps (machine sheet) n told.nodes told.links told.taken result
-
--- the costs of the readings on it, in their order
-abbrev pub costs_listed : List ℕ → ℕ → Listed → List ℕ → List Tropical
-costs_listed sheet n told result = map (reading_cost (machine sheet)) (map (reading_of (machine sheet)) (list_of (machine sheet).form n told.nodes told.links result))
 
 -- Of three such results for any n, on a sheet and on the two parts that an area holds: the whole's costs are the n least sums of one cost from each part's list, or all of them where there are fewer.
 abbrev pub PartLists : List ℕ → ℕ → Counts → List ℕ → Type 0

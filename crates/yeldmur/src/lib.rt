@@ -32,11 +32,13 @@ ghost use Rattle.shortest_distance.specs.Outcome.{distance_number, distance_answ
 ghost use Rattle.shortest_distance.specs.Promise.{Least};
 ghost use Rattle.shortest_path.specs.Outcome.{slots_needed, tested_number, list_number, list_answer, work_after, result_after};
 ghost use Rattle.shortest_path.specs.Promise.{Keeps};
+ghost use Rattle.nested_costs.specs.NestedCosts.{ShorterLists};
 ghost use Rattle.read_back.specs.Answers.{count_number, count_answer, reading_number, reading_answer, run_after};
 ghost use Rattle.read_back.specs.Promise.{IsTrue};
 ghost use Rattle.yeldmur.specs.Told.{value_told, listed_told, split_told, told_reading, CountTold, ReadingTold, node_distance_told, distance_in, counts_told, link_told, node_told, numbered};
 ghost use Rattle.yeldmur.specs.PartLists.{PartLists};
 ghost use Rattle.list_answer.specs.ListAnswer.{slots_of};
+ghost use Rattle.list_answer.specs.declared.Listed.{Listed};
 ghost use Rattle.yeldmur.specs.Areas.{measured_number, bytes_of, bytes_enough, Enough, counts_number, finals_of, Serves};
 
 use machine::climbing::Machine;
@@ -240,6 +242,8 @@ pub extern "C" fn yeldmur_shortest_path(
     ensures work_new { work.new ≡ work_after sheet.now n work.old (length res.old) }
     ensures res_after { res.new ≡ result_after sheet.now n (length work.old) res.old }
     ensures keeps { result ≡ 0 → Keeps (machine_for sheet.now) n states.new links.new taken.new res.new }
+    ensures shorter { let told : Listed = record { nodes = states.new; links = links.new; taken = taken.new } in
+        result ≡ 0 → ShorterLists sheet.now n told res.new }
 {
     match shortest_path::shortest_path(sheet, n, work, res) {
         Ok(made) => {

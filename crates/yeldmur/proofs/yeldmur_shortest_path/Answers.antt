@@ -1,10 +1,12 @@
 use mathlib.Core.Path.{sym, ap, ◌∙◌}
+use native.Mathlib.Omega.{arith}
 use lib.ListN.{length}
 use Rattle.std.specs.Prelude.{Result}
 use Rattle.sheet.specs.declared.refusal.Refusal.{Refusal}
 use Rattle.sheet.proofs.Refusals.{answer-some, refusal-told, number-positive}
 use Rattle.list_answer.specs.declared.Listed.{Listed}
 use Rattle.shortest_path.specs.Outcome.{list_number}
+use Rattle.nested_costs.proofs.NestedCosts.{shorter-lists}
 use Rattle.yeldmur.specs.Told.{listed_told}
 use Rattle.yeldmur.proofs.Telling.{list-known}
 use Rattle.yeldmur.proofs.yeldmur_shortest_path.Goals as goal
@@ -18,6 +20,7 @@ returns-in-Ok c =
       work_new = e.work_new;
       res_after = e.res_after;
       keeps = λ z. e.promised;
+      shorter = λ z. shorter-lists a.sheet.now (λ i. omega (arith, c.type_inv.sheet i)) a.n (length a.work.now) a.res.now (record { told = c.in-Ok.made; answers = sym e.value }) _ e.promised;
     }
 
 pub returns-in-Err : goal.returns-in-Err
@@ -30,4 +33,5 @@ returns-in-Err c =
       work_new = e.work_new;
       res_after = e.res_after;
       keeps = λ z. absurd (number-positive c.in-Err.refusal (sym c.from.ensures ∙ z));
+      shorter = λ z. absurd (number-positive c.in-Err.refusal (sym c.from.ensures ∙ z));
     }

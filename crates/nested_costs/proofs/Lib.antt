@@ -1,0 +1,3 @@
+pub mod NestedCosts
+pub mod Ties
+mod Bench
