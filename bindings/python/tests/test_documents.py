@@ -1,4 +1,4 @@
-"""The examples: those in the docstrings, and the one in README.md with what it prints."""
+"""The examples: those in the docstrings, and those in README.md with what they print."""
 import contextlib
 import doctest
 import io
@@ -18,13 +18,15 @@ def load_tests(loader, tests, pattern):
 
 
 class Readme(unittest.TestCase):
-    def test_the_example(self):
+    def test_the_examples(self):
         text = (PROJECT / "README.md").read_text(encoding="utf-8")
-        code, printed = re.search(r"```python\n(.*?)```.*?```text\n(.*?)```", text, re.DOTALL).groups()
-        said = io.StringIO()
-        with contextlib.redirect_stdout(said):
-            exec(compile(code, "README.md", "exec"), {})
-        self.assertEqual(said.getvalue(), printed)
+        examples = re.findall(r"```python\n(.*?)```\n\nIt prints\n\n```text\n(.*?)```", text, re.DOTALL)
+        self.assertEqual(len(examples), text.count("```python\n"))
+        for code, printed in examples:
+            said = io.StringIO()
+            with contextlib.redirect_stdout(said):
+                exec(compile(code, "README.md", "exec"), {})
+            self.assertEqual(said.getvalue(), printed)
 
 
 if __name__ == "__main__":

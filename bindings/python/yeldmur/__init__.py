@@ -22,6 +22,9 @@ Python's numbers, is plain Python with tests.
 >>> [(reading.cost, [link.ilabel for link in reading.links]) for reading in list_readings(sheet, 2)]
 [(112, [1, 3]), (112, [2, 4])]
 
+The front of a list is a value, too, by `List.front`: its costs are those of the list for its count, and it says whether
+ties leave open which readings that list holds, or in which order.
+
 Two sheets of the same bake give the sheet of what both allow, by `two_probes`: its readings are the pairs of readings
 with the same labels, and cost their sum. A sheet that narrows to a node, as where preheat ends, has two parts, by
 `split`: the costs of the whole's list are the least sums of one cost from each part's.
@@ -34,7 +37,7 @@ from .limits import LINK_LIMIT, LIST_LIMIT, NODE_LIMIT, WEIGHT_LIMIT
 from .parts import Part, Parts, split
 from .probes import two_probes
 from .refusal import Refusal
-from .search import Areas, List, Reading, best, distances, list_readings
+from .search import Areas, Front, List, Reading, best, distances, list_readings
 from .sheet import Link, Sheet
 from .weights import BARRED, decimal
 
@@ -45,6 +48,7 @@ __all__ = [
     "NODE_LIMIT",
     "WEIGHT_LIMIT",
     "Areas",
+    "Front",
     "Link",
     "List",
     "Part",

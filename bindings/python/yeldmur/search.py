@@ -44,12 +44,9 @@ class Reading:
         return f"Reading(cost={self.cost}, unit={self.unit}, numbers={self.numbers}, end={self.end})"
 
 
-@dataclass(frozen=True)
-class List:
-    """A list of readings, cheapest first. It has a length, can be gone through, and gives a reading by its place."""
+class _Readings:
+    """What lists and their fronts share: a length, a way through, and a reading by its place."""
 
-    taken: int
-    """How many entries the search has taken; 0 for n below 2, and where there is no reading."""
     readings: tuple[Reading, ...]
 
     def __len__(self) -> int:
@@ -60,6 +57,68 @@ class List:
 
     def __getitem__(self, place: int) -> Reading:
         return self.readings[place]
+
+
+@dataclass(frozen=True)
+class Front(_Readings):
+    """The front of a list, as `List.front` gives it: its first readings, cheapest first. It has a length, can be gone
+    through, and gives a reading by its place."""
+
+    n: int
+    """The count that it was made for; there may be fewer readings."""
+    readings: tuple[Reading, ...]
+    may_differ: bool
+    """Whether ties leave it open which readings the list for this count holds, or in which order: whether the count is
+    below the n of the list that this is the front of, and two neighbours among the first count + 1 costs of that list
+    are equal. Where it is False the list for this count holds these readings in this order, as is proved."""
+
+
+@dataclass(frozen=True)
+class List(_Readings):
+    """A list of readings, cheapest first. It has a length, can be gone through, and gives a reading by its place."""
+
+    taken: int
+    """How many entries the search has taken; 0 for n below 2, and where there is no reading."""
+    readings: tuple[Reading, ...]
+    n: int
+    """The n that it was made for; there may be fewer readings."""
+
+    def front(self, count: int) -> Front:
+        """The first `count` readings, or all where there are fewer. A count above the `n` that the list was made for
+        is a `ValueError`, since a longer list may hold more than this one tells; so is one below 0.
+
+        Its costs are those of the list for that count, as is proved. Whether its readings are, too, tells its
+        `may_differ`.
+
+        >>> sheet = Sheet.from_rows("0 1 1 1 1\\n0 2 2 2 0.5\\n1 3 3 3 0.25\\n1 2 5 5\\n2 3 4 4 0.75\\n3 0.5\\n")
+        >>> listed = list_readings(sheet, 3)
+        >>> [reading.cost for reading in listed]
+        [112, 112, 144]
+        >>> listed.front(1)  # another reading costs as much
+        Front(n=1, readings=(Reading(cost=112, unit=64, numbers=(0, 2), end=3),), may_differ=True)
+        >>> listed.front(2).may_differ, listed.front(3).may_differ  # the last is the list itself
+        (True, False)
+        >>> listed.front(4)
+        Traceback (most recent call last):
+        ValueError: a list for 3 has fronts of 0 to 3, not of 4
+
+        The list for 1 may hold another reading than that front of the list for 2. Here two links lead from node 0 to
+        node 1, each of the three nodes is final, and all weights are 0.
+
+        >>> ties = Sheet.from_rows("0 1 1 1\\n0 1 2 2\\n0\\n1\\n2\\n")
+        >>> [reading.numbers for reading in list_readings(ties, 2)]
+        [(0,), ()]
+        >>> list_readings(ties, 2).front(1)
+        Front(n=1, readings=(Reading(cost=0, unit=64, numbers=(0,), end=1),), may_differ=True)
+        >>> best(ties)
+        Reading(cost=0, unit=64, numbers=(), end=0)
+        """
+        if not 0 <= count <= self.n:
+            raise ValueError(f"a list for {self.n} has fronts of 0 to {self.n}, not of {count}")
+        # a reading left out may be listed instead of one that costs as much, so that the cost behind the front counts
+        costs = [reading.cost for reading in self.readings[: count + 1]]
+        tied = any(one == other for one, other in zip(costs, costs[1:]))
+        return Front(count, self.readings[:count], count < self.n and tied)
 
 
 class Areas:
@@ -80,7 +139,7 @@ class Areas:
         self._fit(sheet, n)
         listed = raw.shortest_path(sheet.bytes, n, self._work, self._result)
         count = raw.readings(self._result, n, listed.states, listed.links)
-        return List(listed.taken, tuple(self._reading(sheet, n, listed, k) for k in range(count)))
+        return List(listed.taken, tuple(self._reading(sheet, n, listed, k) for k in range(count)), n)
 
     def best(self, sheet: Sheet) -> Optional[Reading]:
         """As `yeldmur.best`, in these areas."""
@@ -116,6 +175,10 @@ def list_readings(sheet: Sheet, n: int) -> List:
 
     The list has n readings, or all where the sheet has fewer, and no reading that is left out costs less than
     one on it. A run over what is barred is no reading.
+
+    For every smaller n, from 1, the costs listed are the first of these, or all where there are fewer, as is proved;
+    and the best reading, that of n = 1, costs what heads every list. Of readings that cost the same a shorter list may
+    hold others, or in another order: `List.front` tells where.
 
     >>> sheet = Sheet.from_rows("0 1 1 1 1\\n0 2 2 2 0.5\\n1 3 3 3 0.25\\n1 2 5 5\\n2 3 4 4 0.75\\n3 0.5\\n")
     >>> listed = list_readings(sheet, 3)

@@ -64,6 +64,9 @@
 //! # }
 //! ```
 //!
+//! The front of a list is a value, too, by [`List::front`]: its costs are those of the list for its count, and it says whether ties leave
+//! open which readings that list holds, or in which order.
+//!
 //! Two sheets of the same bake give the sheet of what both allow, by [`two_probes`]: its readings are the pairs of readings with the same
 //! labels, and cost their sum. A sheet that narrows to a node, as where preheat ends, has two parts, by [`split`]: the costs of the whole's
 //! list are the least sums of one cost from each part's.
@@ -100,7 +103,7 @@ mod units;
 
 pub use layout::Trailer;
 pub use limits::{LINK_LIMIT, LIST_LIMIT, NODE_LIMIT, WEIGHT_LIMIT};
-pub use list::{distances, list, Areas, List, Reading};
+pub use list::{distances, list, Areas, Front, List, Reading};
 pub use parts::{split, Part, Parts};
 pub use probes::two_probes;
 pub use refusal::Refusal;

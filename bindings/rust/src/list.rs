@@ -21,6 +21,10 @@ pub fn distances(sheet: &Sheet) -> Result<Vec<Option<f32>>, Refusal> {
 ///
 /// The list has n readings, or all where the sheet has fewer, and no reading that is left out costs less than one on it. A run over what is
 /// barred is no reading.
+///
+/// For every smaller n, from 1, the costs listed are the first of these, or all where there are fewer, as is proved; and the best reading,
+/// that of n = 1, costs what heads every list. Of readings that cost the same a shorter list may hold others, or in another order:
+/// [`List::front`] tells where.
 pub fn list(sheet: &Sheet, n: u32) -> Result<List<'_>, Refusal> {
     let mut areas = Areas::new();
     let listed = areas.make(sheet, n)?;
@@ -29,6 +33,7 @@ pub fn list(sheet: &Sheet, n: u32) -> Result<List<'_>, Refusal> {
     result.shrink_to_fit();
     Ok(List {
         sheet,
+        n,
         listed,
         result: Cow::Owned(result),
         read: Cow::Owned(areas.read),
@@ -67,6 +72,7 @@ impl Areas {
         let listed = self.make(sheet, n)?;
         Ok(List {
             sheet,
+            n,
             listed,
             result: Cow::Borrowed(&self.result[..listed.result_len(sheet.trailer())]),
             read: Cow::Borrowed(&self.read),
@@ -156,12 +162,18 @@ impl ReadList {
 #[derive(Clone)]
 pub struct List<'a> {
     sheet: &'a Sheet,
+    n: u32,
     listed: Listed,
     result: Cow<'a, [u8]>,
     read: Cow<'a, ReadList>,
 }
 
 impl List<'_> {
+    /// The n that it was made for; there may be fewer readings.
+    pub fn n(&self) -> u32 {
+        self.n
+    }
+
     /// How many entries the search has taken; 0 for n below 2, and where there is no reading.
     pub fn taken(&self) -> u32 {
         self.listed.taken
@@ -181,13 +193,36 @@ impl List<'_> {
     pub fn readings(
         &self,
     ) -> impl ExactSizeIterator<Item = Reading<'_>> + DoubleEndedIterator + '_ {
-        self.read.told.iter().map(|told| self.reading_of(told))
+        self.first(self.n).readings()
     }
 
     /// The reading at a place, from 0, or none past the last.
     pub fn reading(&self, place: usize) -> Option<Reading<'_>> {
-        let told = self.read.told.get(place)?;
-        Some(self.reading_of(told))
+        self.first(self.n).reading(place)
+    }
+
+    /// The first `count` readings, or all where there are fewer. None for a count above the [`n`](List::n) that the list was made for: a
+    /// longer list may hold more than this one tells.
+    ///
+    /// Its costs are those of the list for that count, as is proved. Whether its readings are, too, tells [`Front::may_differ`].
+    ///
+    /// ```
+    /// use yeldmur::{list, Refusal, Sheet};
+    ///
+    /// # fn main() -> Result<(), Refusal> {
+    /// let sheet: Sheet = "0 1 1 1 1\n0 2 2 2 0.5\n1 3 3 3 0.25\n1 2 5 5\n2 3 4 4 0.75\n3 0.5\n".parse()?;
+    /// let long = list(&sheet, 3)?; // costs 112, 112 and 144
+    /// let front = long.front(1).unwrap();
+    /// assert_eq!((front.len(), front.reading(0).unwrap().cost()), (1, 112));
+    /// assert!(front.may_differ()); // another reading costs as much
+    /// assert!(long.front(2).unwrap().may_differ()); // the two may stand in the other order
+    /// assert!(!long.front(3).unwrap().may_differ()); // the list itself
+    /// assert!(long.front(4).is_none());
+    /// # Ok(())
+    /// # }
+    /// ```
+    pub fn front(&self, count: u32) -> Option<Front<'_>> {
+        (count <= self.n).then(|| self.first(count))
     }
 
     /// The machine that holds the readings, laid out as a sheet, with the trailer of the sheet that is listed. [`Sheet::read`] takes it; its
@@ -201,11 +236,18 @@ impl List<'_> {
         &self.result
     }
 
-    fn reading_of(&self, &(first, told): &(usize, ReadBack)) -> Reading<'_> {
-        Reading {
+    // The front for a count up to n.
+    fn first(&self, count: u32) -> Front<'_> {
+        let upto = |count: u32| &self.read.told[..self.len().min(count as usize)];
+        // a reading left out may be listed instead of one that costs as much, so that the cost behind the front counts
+        let mut pairs = upto(count + 1).windows(2);
+        let may_differ = count < self.n && pairs.any(|pair| pair[0].1.cost == pair[1].1.cost);
+        Front {
             sheet: self.sheet,
-            numbers: &self.read.runs[first..first + told.links],
-            told,
+            n: count,
+            runs: &self.read.runs,
+            told: upto(count),
+            may_differ,
         }
     }
 }
@@ -213,9 +255,93 @@ impl List<'_> {
 impl fmt::Debug for List<'_> {
     fn fmt(&self, f: &mut fmt::Formatter<'_>) -> fmt::Result {
         f.debug_struct("List")
+            .field("n", &self.n())
             .field("taken", &self.taken())
             .field("readings", &self.readings().collect::<Vec<_>>())
             .finish_non_exhaustive()
+    }
+}
+
+/// The front of a list, as [`List::front`] gives it: its first readings, cheapest first.
+#[derive(Clone, Copy)]
+pub struct Front<'a> {
+    sheet: &'a Sheet,
+    n: u32,
+    runs: &'a [u32],
+    told: &'a [(usize, ReadBack)],
+    may_differ: bool,
+}
+
+impl<'a> Front<'a> {
+    /// The count that it was made for; there may be fewer readings.
+    pub fn n(&self) -> u32 {
+        self.n
+    }
+
+    /// How many readings there are.
+    pub fn len(&self) -> usize {
+        self.told.len()
+    }
+
+    /// Whether there are none.
+    pub fn is_empty(&self) -> bool {
+        self.told.is_empty()
+    }
+
+    /// The readings, cheapest first.
+    pub fn readings(
+        &self,
+    ) -> impl ExactSizeIterator<Item = Reading<'a>> + DoubleEndedIterator + 'a {
+        let front = *self;
+        front.told.iter().map(move |told| front.reading_of(told))
+    }
+
+    /// The reading at a place, from 0, or none past the last.
+    pub fn reading(&self, place: usize) -> Option<Reading<'a>> {
+        let told = self.told.get(place)?;
+        Some(self.reading_of(told))
+    }
+
+    /// Whether ties leave it open which readings the list for this count holds, or in which order: whether the count is below the n of the
+    /// list that this is the front of, and two neighbours among the first count + 1 costs of that list are equal. Where it is false the list
+    /// for this count holds these readings in this order, as is proved.
+    ///
+    /// ```
+    /// use yeldmur::{list, Refusal, Sheet};
+    ///
+    /// # fn main() -> Result<(), Refusal> {
+    /// // two links from node 0 to node 1, each of three nodes final, and all weights 0: so much costs each reading
+    /// let sheet: Sheet = "0 1 1 1\n0 1 2 2\n0\n1\n2\n".parse()?;
+    /// assert_eq!(sheet.bytes().len(), 88);
+    /// let (best, two) = (list(&sheet, 1)?, list(&sheet, 2)?);
+    /// let front = two.front(1).unwrap();
+    /// assert!(front.may_differ());
+    /// assert!(front.reading(0).unwrap().numbers().eq([0])); // by link 0
+    /// assert_eq!(best.reading(0).unwrap().numbers().len(), 0); // the one without links, which the list for 2 has second
+    /// assert_eq!(two.reading(1).unwrap().numbers().len(), 0);
+    /// # Ok(())
+    /// # }
+    /// ```
+    pub fn may_differ(&self) -> bool {
+        self.may_differ
+    }
+
+    fn reading_of(&self, &(first, told): &(usize, ReadBack)) -> Reading<'a> {
+        Reading {
+            sheet: self.sheet,
+            numbers: &self.runs[first..first + told.links],
+            told,
+        }
+    }
+}
+
+impl fmt::Debug for Front<'_> {
+    fn fmt(&self, f: &mut fmt::Formatter<'_>) -> fmt::Result {
+        f.debug_struct("Front")
+            .field("n", &self.n())
+            .field("may_differ", &self.may_differ())
+            .field("readings", &self.readings().collect::<Vec<_>>())
+            .finish()
     }
 }
 

@@ -50,6 +50,11 @@ impl Machine {
         self.said.unwrap_or(Unit::Of64)
     }
 
+    /// The link numbers of every reading, with its cost in units, apart from the library.
+    pub fn readings(&self) -> Vec<(i32, Vec<u32>)> {
+        self.all().readings
+    }
+
     // Goes on from a run to a node, in units and link numbers; every node met is noted with the cost so far, and every node that is led
     // to from one.
     fn go_on(&self, node: u32, cost: i32, run: &mut Vec<u32>, found: &mut Found) {

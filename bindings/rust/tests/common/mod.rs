@@ -5,7 +5,7 @@
 
 pub mod drawn;
 
-use yeldmur::{raw, units, Link, Refusal, Sheet, Trailer, Unit, BARRED};
+use yeldmur::{raw, units, Link, Reading, Refusal, Sheet, Trailer, Unit, BARRED};
 
 /// The word for no start and no input link.
 pub const NONE: u32 = 0xFFFF_FFFF;
@@ -63,12 +63,16 @@ pub fn links_a() -> [Link; 5] {
     ]
 }
 
-/// The numbers of the links of each reading on the list for n, with its cost.
-pub fn readings(sheet: &Sheet, n: u32) -> Vec<(i32, Vec<u32>)> {
-    let list = yeldmur::list(sheet, n).unwrap();
-    list.readings()
+/// The numbers of the links of each reading, with its cost.
+pub fn numbered<'a>(readings: impl Iterator<Item = Reading<'a>>) -> Vec<(i32, Vec<u32>)> {
+    readings
         .map(|reading| (reading.cost(), reading.numbers().collect()))
         .collect()
+}
+
+/// The same of the list for n.
+pub fn readings(sheet: &Sheet, n: u32) -> Vec<(i32, Vec<u32>)> {
+    numbered(yeldmur::list(sheet, n).unwrap().readings())
 }
 
 /// The costs of the readings on the list for n.
