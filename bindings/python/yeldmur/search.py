@@ -206,6 +206,9 @@ def list_readings(sheet: Sheet, n: int) -> List:
 def best(sheet: Sheet) -> Optional[Reading]:
     """The cheapest reading of a sheet, or None where it has none. Refusals 5 and 6.
 
+    It costs what heads every list of the sheet. Where several cost the same it may be another than the first of a
+    longer list.
+
     >>> best(Sheet.from_rows("0 1 1 1 0.5\\n1 -0.25\\n"))
     Reading(cost=16, unit=64, numbers=(0,), end=1)
     >>> best(Sheet.from_rows("0 1 1 1 0.5\\n")) is None

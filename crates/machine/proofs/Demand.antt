@@ -1,10 +1,10 @@
 -- Demand 3 and the equation of costs say the same of a list of readings without repeats. Assumes nothing.
 use mathlib.Core.Path.{◌≡◌, refl, sym, ap, ◌∙◌, subst, subst₂}
-use mathlib.Core.Logic.{inl, inr}
+use mathlib.Core.Logic.{◌⊎◌, inl, inr}
 use mathlib.Core.Option.{some}
 use mathlib.Core.List.Memᴰ
 use mathlib.Core.List.{List, [], ◌∷◌, ◌++◌, map, append-nil}
-use Prim.Native.Nat.{ℕ, ◌+◌, ◌≤◌, min}
+use Prim.Native.Nat.{ℕ, ◌+◌, ◌≤◌, ◌<◌, min}
 use native.Mathlib.Decide.{ℕ_discrete}
 use native.Mathlib.Omega.{arith}
 use lib.ListN.{length, take, drop, length-map, length-append, length-take, take-append-drop}
@@ -16,7 +16,7 @@ use Rattle.machine.specs.Readings.{Reading, IsReading, reading_cost, readings}
 use Rattle.machine.specs.Climbs.{Climbs}
 use Rattle.machine.specs.Parents.{best}
 use Rattle.machine.specs.Demand.{◌∈◌, NoDup, Demand, sort}
-use Rattle.machine.proofs.Lists.{Perm, perm-mem, perm-sym, perm-length, perm-map, perm-nodup, here, map-mem, mem-map, map-append, leftover, nodup-apart}
+use Rattle.machine.proofs.Lists.{Perm, perm-mem, perm-sym, perm-length, perm-map, perm-nodup, here, map-mem, mem-map, map-append, leftover, nodup-apart, nodup-fills}
 use Rattle.machine.proofs.Sort.{Ordered, sort-perm, sort-keeps, sort-ordered, ordered-rises, rises-ordered, ordered-front, ordered-across, sort-front, sort-rest}
 use Rattle.machine.proofs.Readings.{readings-are, readings-once}
 use Rattle.machine.proofs.Distance.{total-le}
@@ -98,6 +98,17 @@ module _ (m : Machine) (c : Climbs m) where
           let z : r ≡ [] = nil r (omega (arith, d.size, count, e)) in
           let s : length (map cost listed) ≤ n = omega (arith, length-map listed cost, d.size) in
           sym (ap (λ l. take n (map cost listed ++ sort (map cost l))) z ∙ ap (take n) (append-nil (map cost listed)) ∙ take_all n (map cost listed) s)
+
+  -- every reading is listed, or costs at least as much as each that is
+  pub listed-or : (n : ℕ) (listed : List Reading) → Demand m n listed → (y : Reading) → IsReading m y → (y ∈ listed) ⊎ ((x : Reading) → x ∈ listed → cost x ≼ cost y)
+  listed-or n listed d y i = elim (Memᴰ.append_cases listed (perm-mem (split listed d.each d.apart) ((readings-are m c y).1 i))) [
+    | inl h ↦ inl h
+    | inr h ↦ inr (λ x q. d.left x y q i (rest-new listed d.each d.apart y h))
+  ]
+
+  -- a list with room left holds every reading
+  pub all-listed : (n : ℕ) (listed : List Reading) → Demand m n listed → length listed < n → (y : Reading) → IsReading m y → y ∈ listed
+  all-listed n listed d h y i = nodup-fills listed (readings m) d.apart (λ x q. (readings-are m c x).1 (d.each x q)) (omega (arith, d.size, h)) y ((readings-are m c y).1 i)
 
   -- ---- n = 1: the reading that the parents give, or none where there is none
   pub demand-best : (x : Reading) → best m ≡ some x → Demand m 1 (x ∷ [])

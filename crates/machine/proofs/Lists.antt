@@ -82,6 +82,10 @@ pub nodup-apart : {A : Type 0} (l k : List A) → NoDup (l ++ k) → (a : A) →
 nodup-apart [] k n a p q = Memᴰ.not-nil p
 nodup-apart (x ∷ l) k n a p q = elim (Memᴰ.cases_cons p) [ inl e ↦ n.0 (Memᴰ.append_right l (mem-eq e q)) | inr h ↦ nodup-apart l k n.1 a h q ]
 
+pub nodup-front : {A : Type 0} (l k : List A) → NoDup (l ++ k) → NoDup l
+nodup-front [] k n = tt
+nodup-front (x ∷ l) k n = (λ h. n.0 (Memᴰ.append_left k h), nodup-front l k n.1)
+
 pub nodup-end : {A : Type 0} (l k : List A) → NoDup (l ++ k) → NoDup k
 nodup-end [] k n = n
 nodup-end (x ∷ l) k n = nodup-end l k n.1
@@ -96,6 +100,29 @@ nodup-map-in f (x ∷ l) inj n = (
 
 pub nodup-map : {A B : Type 0} (f : A → B) (l : List A) → ((a b : A) → f a ≡ f b → a ≡ b) → NoDup l → NoDup (map f l)
 nodup-map f l inj n = nodup-map-in f l (λ a b p q. inj a b) n
+
+-- where no two values of f are the same, members of the same value are the same
+pub nodup-only : {A B : Type 0} (f : A → B) (l : List A) → NoDup (map f l) → (x y : A) → x ∈ l → y ∈ l → f x ≡ f y → x ≡ y
+nodup-only f [] n x y h k e = absurd (Memᴰ.not-nil h)
+nodup-only f (a ∷ l) n x y h k e = go (Memᴰ.cases_cons h) (Memᴰ.cases_cons k) (λ p q. nodup-only f l n.1 x y p q e)
+  where
+    go : (x ≡ a) ⊎ x ∈ l → (y ≡ a) ⊎ y ∈ l → (x ∈ l → y ∈ l → x ≡ y) → x ≡ y
+    go (inl p) (inl q) ih = p ∙ sym q
+    go (inl p) (inr q) ih = absurd (n.0 (mem-eq (sym e ∙ ap f p) (map-mem f q)))
+    go (inr p) (inl q) ih = absurd (n.0 (mem-eq (e ∙ ap f q) (map-mem f p)))
+    go (inr p) (inr q) ih = ih p q
+
+-- lists of the same values are the same where members of the same value are
+pub same-by : {A B : Type 0} (f : A → B) (l k : List A) → map f l ≡ map f k → ((x y : A) → x ∈ l → y ∈ k → f x ≡ f y → x ≡ y) → l ≡ k
+same-by f [] [] e g = refl
+same-by f [] (y ∷ k) e g = absurd (Memᴰ.not-nil (subst (λ m. f y ∈ m) (sym e) (here (f y) (map f k))))
+same-by f (x ∷ l) [] e g = absurd (Memᴰ.not-nil (subst (λ m. f x ∈ m) e (here (f x) (map f l))))
+same-by f (x ∷ l) (y ∷ k) e g =
+    let first : f x ≡ f y = cc in
+    let rest : map f l ≡ map f k = cc in
+    let p = g x y (here x l) (here y k) first in
+    let q = same-by f l k rest (λ a b h i. g a b (Memᴰ.tail h) (Memᴰ.tail i)) in
+    λ i. p i ∷ q i
 
 -- ---- permutations
 pub data Perm {A : Type 0} : List A → List A → Type 0 where

@@ -223,5 +223,8 @@ module _ (m : Machine) where
     pub best-some : (y : Reading) → IsReading m y → (x : Reading) × (best m ≡ some x) × IsReading m x × (reading_cost m x ≡ total m)
     best-some y i = let t = total-some m c y i in best-finite t.0 t.1
 
+    pub no-best : best m ≡ none → (y : Reading) → IsReading m y → ⊥
+    no-best e y i = let x = best-some y i in let q = x.1 in let z : ◌≡◌ {A = ℕ} 0 1 = cc in omega arith
+
     pub best_none : ((x : Reading) → IsReading m x → ⊥) → best m ≡ none
     best_none f = best-infinite (total-none m c f)

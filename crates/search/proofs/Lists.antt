@@ -20,7 +20,7 @@ use Rattle.machine.specs.Input.{input_number}
 use Rattle.machine.proofs.Lists.{nodup-length}
 use Rattle.machine.proofs.Runs.{run_length, run_in}
 use Rattle.machine.proofs.Readings.{final-in, reading-is, readings-are}
-use Rattle.machine.proofs.Parents.{best-is, best-some}
+use Rattle.machine.proofs.Parents.{best-is, best-some, no-best}
 use Rattle.machine.proofs.SheetFields.{fields-own, labels-below}
 use Rattle.sheet.proofs.Forms.{unit-word}
 use Rattle.machine.proofs.Demand.{demand-best, demand-none}
@@ -101,11 +101,8 @@ module _ (m : Machine) (a : Accepted m) where
   unfolding result_for
   demand-result n p b rest = go n p b (best m) refl
     where
-      no-reading : best m ≡ none → (y : Reading) → IsReading m y → ⊥
-      no-reading e y i = let x = best-some m a.climbs y i in let q = x.1 in let z : ◌≡◌ {A = ℕ} 0 1 = cc in omega arith
-
       go : (n : ℕ) → 1 ≤ n → n ≤ list_limit → (o : Option Reading) → best m ≡ o → Demand m n (map (reading_of m) (list_in n (result_by m n o) rest))
-      go n p b none e = subst (λ l. Demand m n (map (reading_of m) l)) (sym (empty_back m.form a.unit-word n rest)) (demand-none m a.climbs n (no-reading e))
+      go n p b none e = subst (λ l. Demand m n (map (reading_of m) l)) (sym (empty_back m.form a.unit-word n rest)) (demand-none m a.climbs n (no-best m a.climbs e))
       go zero p b (some x) e = absurd (omega arith)
       go (suc zero) p b (some x) e =
           let i = (best-is m a.climbs x e).0 in
