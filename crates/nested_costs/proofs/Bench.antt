@@ -1,4 +1,4 @@
--- Lists for several n by computation on the definitions: Sheet A, the smallest sheet whose readings are not nested, a negative best, and a barred reading. Assumes nothing.
+-- Lists for several n by computation on the definitions: Sheet A in either unit, a sheet whose readings are not nested, a negative best, and a barred reading. Assumes nothing.
 use mathlib.Core.Path.{◌≡◌, refl, sym, ap, ◌∙◌}
 use mathlib.Core.Option.{none, some}
 use mathlib.Core.List.{List, [], ◌∷◌, ◌++◌, map, flatten}
@@ -15,7 +15,7 @@ use Rattle.sheet.specs.Machine.{Machine, machine_of}
 use Rattle.machine.specs.Readings.{reading_of, run_cost, marked}
 use Rattle.machine.specs.Distance.{dist, total}
 use Rattle.machine.specs.Parents.{best}
-use Rattle.machine.proofs.Bench.{arc, machine_a}
+use Rattle.machine.proofs.Bench.{arc, machine_a, machine_b, machine_fine}
 use Rattle.search.specs.Reversed.{out_of_zero, links_into}
 use Rattle.search.specs.Search.{search}
 use Rattle.search.specs.ListMachine.{result_for, result_bytes}
@@ -29,23 +29,27 @@ listed m n = let r = result_for m n in list_of m.form n (length r.machine.finals
 abbrev listed_costs : Machine → ℕ → List Tropical
 listed_costs m n = costs m (map (reading_of m) (listed m n))
 
--- ---- Sheet A: the third reading is dearer
+-- ---- Sheet A, in 64ths and in 256ths: the third reading is dearer, so that the lists for 2 and for 3 have the same two in front
 costs-A : (best_cost machine_a ≡ fin (pos 112) ∷ []) × (listed_costs machine_a 1 ≡ fin (pos 112) ∷ []) × (listed_costs machine_a 2 ≡ fin (pos 112) ∷ fin (pos 112) ∷ []) × (listed_costs machine_a 3 ≡ fin (pos 112) ∷ fin (pos 112) ∷ fin (pos 144) ∷ []) × (listed_costs machine_a 64 ≡ listed_costs machine_a 3)
 unfolding search marked out_of_zero links_into dist total run_cost best result_for result_bytes list_of
 costs-A = (refl, refl, refl, refl, refl)
 
--- ---- The smallest sheet whose readings are not nested, 88 bytes: links 0 and 1 from node 0 to node 1, and three final nodes, all of weight 0. Alone the reading without links is listed; of two it is the second.
+costs-fine : (listed_costs machine_fine 1 ≡ fin (pos 448) ∷ []) × (listed_costs machine_fine 2 ≡ fin (pos 448) ∷ fin (pos 448) ∷ []) × (listed_costs machine_fine 3 ≡ fin (pos 448) ∷ fin (pos 448) ∷ fin (pos 576) ∷ [])
+unfolding search marked out_of_zero links_into dist total run_cost best result_for result_bytes list_of
+costs-fine = (refl, refl, refl)
+
+-- ---- A sheet of 88 bytes whose readings are not nested: node 0, node 1 and node 2 in a line, each final, all of weight 0. Alone the reading without links is listed; of two it is the second.
 sheet_ties : List ℕ
 sheet_ties =
     (1 ∷ 0 ∷ 0 ∷ 0 ∷ 1 ∷ 0 ∷ 0 ∷ 0 ∷ 0 ∷ 0 ∷ 0 ∷ 0 ∷ 1 ∷ 0 ∷ 0 ∷ 0 ∷ [])
-    ++ (2 ∷ 0 ∷ 0 ∷ 0 ∷ 2 ∷ 0 ∷ 0 ∷ 0 ∷ 0 ∷ 0 ∷ 0 ∷ 0 ∷ 1 ∷ 0 ∷ 0 ∷ 0 ∷ [])
-    ++ (2 ∷ 0 ∷ 0 ∷ 0 ∷ 1 ∷ 0 ∷ 0 ∷ 0 ∷ 0 ∷ 0 ∷ 0 ∷ 0 ∷ [])
-    ++ (0 ∷ 0 ∷ 0 ∷ 0 ∷ 1 ∷ 0 ∷ 0 ∷ 0 ∷ 0 ∷ 0 ∷ 0 ∷ 0 ∷ [])
+    ++ (2 ∷ 0 ∷ 0 ∷ 0 ∷ 2 ∷ 0 ∷ 0 ∷ 0 ∷ 0 ∷ 0 ∷ 0 ∷ 0 ∷ 2 ∷ 0 ∷ 0 ∷ 0 ∷ [])
+    ++ (1 ∷ 0 ∷ 0 ∷ 0 ∷ 1 ∷ 0 ∷ 0 ∷ 0 ∷ 0 ∷ 0 ∷ 0 ∷ 0 ∷ [])
+    ++ (1 ∷ 0 ∷ 0 ∷ 0 ∷ 1 ∷ 0 ∷ 0 ∷ 0 ∷ 0 ∷ 0 ∷ 0 ∷ 0 ∷ [])
     ++ (0 ∷ 0 ∷ 0 ∷ 0 ∷ 1 ∷ 0 ∷ 0 ∷ 0 ∷ 0 ∷ 0 ∷ 0 ∷ 0 ∷ [])
     ++ (0 ∷ 0 ∷ 0 ∷ 0 ∷ 32 ∷ 0 ∷ 0 ∷ 0 ∷ 3 ∷ 0 ∷ 0 ∷ 0 ∷ 2 ∷ 0 ∷ 0 ∷ 0 ∷ 0 ∷ 0 ∷ 0 ∷ 0 ∷ [])
 
 machine_ties : Machine
-machine_ties = record { links = arc 0 1 0 1 ∷ arc 0 2 0 1 ∷ []; finals = some one ∷ some one ∷ some one ∷ []; start = some 0; form = Form.Short }
+machine_ties = record { links = arc 0 1 0 1 ∷ arc 1 2 0 2 ∷ []; finals = some one ∷ some one ∷ some one ∷ []; start = some 0; form = Form.Short }
 
 of-ties : (length sheet_ties ≡ 88) × (machine_of (parts_of sheet_ties) ≡ machine_ties)
 unfolding sheet_ties machine_ties parts_of machine_of
@@ -63,6 +67,11 @@ ties2 = (refl, refl)
 not-nested : listed machine_ties 1 ≡ take 1 (listed machine_ties 2) → ⊥
 unfolding flatten
 not-nested e = let q : ◌≡◌ {A = ℕ} 0 1 = ap (λ (l : List (List ℕ)). length (flatten l)) (sym ties1 ∙ e ∙ ap (take 1) ties2.0) in omega (arith, q)
+
+-- of six readings that tie, for 2 and for 3: the second is another
+ties3 : (listed machine_b 2 ≡ (1 ∷ 2 ∷ []) ∷ (0 ∷ 3 ∷ []) ∷ []) × (listed machine_b 3 ≡ (1 ∷ 2 ∷ []) ∷ (1 ∷ 3 ∷ []) ∷ (0 ∷ 3 ∷ []) ∷ [])
+unfolding machine_b search marked out_of_zero links_into dist total run_cost best result_for result_bytes list_of
+ties3 = (refl, refl)
 
 -- ---- a negative best, and a reading that would come second but for its barred link
 machine_barred : Machine

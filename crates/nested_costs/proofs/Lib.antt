@@ -1,3 +1,2 @@
-pub mod NestedCosts
-pub mod Ties
 mod Bench
+pub mod NestedCosts

@@ -1,39 +1,46 @@
--- The costs listed for k are the first k of those listed for n, where k is at most n; and only ties make the readings differ. Assumes nothing.
+-- The costs listed for k are the first k of those listed for n, where k is at most n; and which readings may differ. Assumes nothing.
 use mathlib.Core.Path.{◌≡◌, sym, ap, ◌∙◌, subst}
+use mathlib.Core.Logic.{◌⊎◌, inl, inr}
 use mathlib.Core.Option.{Option, none, some}
 use mathlib.Core.List.Memᴰ
-use mathlib.Core.List.{List, ◌++◌}
+use mathlib.Core.List.{List, [], ◌∷◌, ◌++◌}
 use Prim.Native.Nat.{ℕ, ◌+◌, ◌≤◌, ◌<◌}
+use native.Mathlib.Decide.{ℕ_discrete}
 use native.Mathlib.Omega.{arith}
-use lib.ListN.{length, take, drop, length-take, take-append-drop}
+use lib.ListN.{length, take, drop, get_or, length-map, length-append, length-take, take-append-drop}
 use lib.Seq.{take-take, take-add}
 use Rattle.std.specs.Prelude.{Result}
-use Rattle.std.proofs.lemmas.List.{take-map}
+use Rattle.std.proofs.lemmas.List.{take-map, get_or-take}
+use Rattle.tropical_weight.specs.Tropical.{Tropical, inf, ◌≼◌}
+use Rattle.tropical_weight.proofs.Semiring.{≼-eq, ≼_trans, ≼-antisym}
 use Rattle.sheet.specs.declared.refusal.Refusal.{Refusal}
 use Rattle.sheet.specs.Machine.{Machine, machine}
 use Rattle.sheet.proofs.Refusals.{answer-some}
 use Rattle.sheet.proofs.Round.{Below}
-use Rattle.machine.specs.Readings.{Reading, reading_cost}
+use Rattle.machine.specs.Readings.{Reading, IsReading, reading_cost}
 use Rattle.machine.specs.Climbs.{Climbs}
 use Rattle.machine.specs.Parents.{best}
 use Rattle.machine.specs.Demand.{◌∈◌, NoDup, Demand}
 use Rattle.machine.specs.Input.{input_number}
-use Rattle.machine.proofs.Demand.{sorted, demand-costs, demand-best, demand-none}
-use Rattle.machine.proofs.Lists.{map-mem, mem-map, mem-eq}
-use Rattle.machine.proofs.Parents.{best-some}
+use Rattle.machine.proofs.Demand.{sorted, demand-costs, demand-best, demand-none, listed-or, all-listed}
+use Rattle.machine.proofs.Lists.{here, map-mem, mem-map, map-append, nodup-front, nodup-apart, nodup-only, same-by, get_or-mem, get_d_map}
+use Rattle.machine.proofs.Parents.{no-best}
+use Rattle.machine.proofs.Sort.{Ordered, rises-ordered, ordered-end, ordered-across}
 use Rattle.search.proofs.Lists.{accepted}
 use Rattle.list_answer.specs.declared.Listed.{Listed}
 use Rattle.shortest_path.specs.Outcome.{result_of, counts_of, list_number, result_after}
 use Rattle.shortest_path.specs.Promise.{if_any, Promised}
 use Rattle.shortest_path.proofs.Outcomes.{number-zero}
 use Rattle.shortest_path.proofs.Promises.{promised}
-use Rattle.nested_costs.specs.NestedCosts.{costs, best_cost, Untied, NestedCosts, ListFor, ShorterLists, Made, readings_for}
-use Rattle.nested_costs.proofs.Ties.{same-lists, front-untied}
+use Rattle.nested_costs.specs.NestedCosts.{costs, best_cost, Cheaper, Untied, reading_at, NestedCosts, ListFor, ShorterLists, Made, readings_for}
 
 module _ (m : Machine) (c : Climbs m) where
+  abbrev cost : Reading → Tropical
+  cost = reading_cost m
+
   -- the best reading, or none where there is none, is a list for n = 1
   best-listed : (o : Option Reading) → best m ≡ o → Demand m 1 (if_any o)
-  best-listed none e = demand-none m c 1 (λ y i. let x = best-some m c y i in let q = x.1 in let z : ◌≡◌ {A = ℕ} 0 1 = cc in omega arith)
+  best-listed none e = demand-none m c 1 (no-best m c e)
   best-listed (some x) e = demand-best m c x e
 
   best-sorted : best_cost m ≡ take 1 (sorted m c)
@@ -47,37 +54,106 @@ module _ (m : Machine) (c : Climbs m) where
     head : (n : ℕ) (l : List Reading) → Demand m n l → 1 ≤ n → take 1 (costs m l) ≡ best_cost m
     head n l d b = ap (take 1) (demand-costs m c n l d) ∙ take-take 1 n (sorted m c) b ∙ sym best-sorted
 
-    -- the first k of the longer, and what they cost
-    abbrev begin : List Reading
-    begin = take k long
+    -- ---- the longer list in two: its first k readings, which cost what the shorter list does, and the rest
+    abbrev first : List Reading
+    first = take k long
 
-    begin-costs : costs m short ≡ costs m begin
-    begin-costs = front ∙ take-map (reading_cost m) k long
+    abbrev rest : List Reading
+    rest = drop k long
 
-    of-long : {x : Reading} → x ∈ begin → x ∈ long
-    of-long {x} q = subst (λ l. x ∈ l) (take-append-drop k long) (Memᴰ.append_left (drop k long) q)
+    first-costs : costs m short ≡ costs m first
+    first-costs = front ∙ take-map cost k long
 
-    -- members of the same cost: each list has one for each of the other's
-    untied : (x : Reading) → Untied m x → (x ∈ short → x ∈ begin) × (x ∈ begin → x ∈ short)
-    untied x u = (
-      λ q. let y = mem-map (reading_cost m) begin (subst (λ l. reading_cost m x ∈ l) begin-costs (map-mem (reading_cost m) q)) in mem-eq (u y.0 (e.each y.0 (of-long y.1)) (sym y.2)) y.1,
-      λ q. let y = mem-map (reading_cost m) short (subst (λ l. reading_cost m x ∈ l) (sym begin-costs) (map-mem (reading_cost m) q)) in mem-eq (u y.0 (d.each y.0 y.1) (sym y.2)) y.1,
+    first-length : length short ≡ length first
+    first-length = sym (length-map short cost) ∙ ap length first-costs ∙ length-map first cost
+
+    cut : {x : Reading} → x ∈ long → (x ∈ first) ⊎ (x ∈ rest)
+    cut {x} q = Memᴰ.append_cases first (subst (λ l. x ∈ l) (sym (take-append-drop k long)) q)
+
+    first-long : {x : Reading} → x ∈ first → x ∈ long
+    first-long {x} q = subst (λ l. x ∈ l) (take-append-drop k long) (Memᴰ.append_left rest q)
+
+    rest-long : {x : Reading} → x ∈ rest → x ∈ long
+    rest-long {x} q = subst (λ l. x ∈ l) (take-append-drop k long) (Memᴰ.append_right first q)
+
+    in_order : Ordered (costs m first ++ costs m rest)
+    in_order = subst Ordered (ap (costs m) (sym (take-append-drop k long)) ∙ map-append cost first rest) (rises-ordered (costs m long) e.order)
+
+    rest-dearer : (x y : Reading) → x ∈ first → y ∈ rest → cost x ≼ cost y
+    rest-dearer x y p q = ordered-across (costs m first) (costs m rest) in_order (cost x) (cost y) (map-mem cost p) (map-mem cost q)
+
+    -- one on the shorter list costs what one of the first k does
+    partner : (x : Reading) → x ∈ short → (y : Reading) × (y ∈ first) × (cost x ≡ cost y)
+    partner x q = mem-map cost first (subst (λ l. cost x ∈ l) first-costs (map-mem cost q))
+
+    -- ---- which readings may differ
+    cheaper : (x y : Reading) → IsReading m x → y ∈ short → Cheaper m x y → (x ∈ short) × (x ∈ first)
+    cheaper x y i q less = (
+      elim (listed-or m c k short d x i) [ inl p ↦ p | inr f ↦ absurd (less (f y q)) ],
+      elim (listed-or m c n long e x i) [
+        | inl p ↦ elim (cut p) [ inl b ↦ b | inr r ↦ absurd (less (≼_trans (≼-eq z.2) (rest-dearer z.0 x z.1 r))) ]
+        | inr f ↦ absurd (less (≼_trans (≼-eq z.2) (f z.0 (first-long z.1))))
+      ],
     )
-
-    same : k < n → NoDup (take (k + 1) (costs m long)) → short ≡ begin
-    same b once = same-lists (reading_cost m) short begin begin-costs (λ x y p q s. alone y q x (d.each x p) s)
       where
-        costs-of : take (k + 1) (costs m long) ≡ costs m (begin ++ take 1 (drop k long))
-        costs-of = take-map (reading_cost m) (k + 1) long ∙ ap (costs m) (take-add k 1 long)
+        z : (y' : Reading) × (y' ∈ first) × (cost y ≡ cost y')
+        z = partner y q
 
-        alone : (y : Reading) → y ∈ begin → Untied m y
-        alone = front-untied m c n begin (drop k long) (subst (Demand m n) (sym (take-append-drop k long)) e) (omega (arith, length-take k long)) (subst NoDup costs-of once)
+    ranked : (place : ℕ) → place < length short → Untied m (reading_at long place) → reading_at short place ≡ reading_at long place
+    ranked place b u = u (reading_at short place) (d.each (reading_at short place) (get_or-mem short place _ b)) (
+        sym (get_d_map cost short place _ inf b)
+        ∙ ap (λ l. get_or l place inf) first-costs
+        ∙ get_d_map cost first place _ inf (omega (arith, b, first-length))
+        ∙ ap cost (get_or-take k long place _ (omega (arith, b, first-length, length-take k long)))
+        )
+
+    kept : (x : Reading) → x ∈ short → (x ∈ long) ⊎ ((length long ≡ n) × ((y : Reading) → y ∈ long → cost y ≼ cost x))
+    kept x q = elim (listed-or m c n long e x (d.each x q)) [ inl p ↦ inl p | inr f ↦ go f (ℕ_discrete (length long) n) ]
+      where
+        go : ((y : Reading) → y ∈ long → cost y ≼ cost x) → Dec (length long ≡ n) → (x ∈ long) ⊎ ((length long ≡ n) × ((y : Reading) → y ∈ long → cost y ≼ cost x))
+        go f (yes z) = inr (z, f)
+        go f (no z) = inl (all-listed m c n long e (omega (arith, d.size, e.size, z)) x (d.each x q))
+
+    -- ---- where no two of the first k + 1 costs are the same
+    module _ (b : k < n) (once : NoDup (take (k + 1) (costs m long))) where
+      apart : NoDup (costs m first ++ costs m (take 1 rest))
+      apart = subst NoDup (take-map cost (k + 1) long ∙ ap (costs m) (take-add k 1 long) ∙ map-append cost first (take 1 rest)) once
+
+      -- so the one behind the first k is dearer than each of them, and nothing behind them, or dearer than all, ties with one
+      untied : (x z : Reading) → z ∈ first → cost x ≡ cost z → (r : List Reading) → NoDup (costs m first ++ costs m (take 1 r)) → Ordered (costs m first ++ costs m r)
+          → (x ∈ r) ⊎ ((0 < length r) × ((y : Reading) → y ∈ r → cost y ≼ cost x))
+          → ⊥
+      untied x z q t [] u o (inl p) = Memᴰ.not-nil p
+      untied x z q t [] u o (inr p) = omega (arith, p.0)
+      untied x z q t (w ∷ r) u o p =
+          let low = ordered-across (costs m first) (costs m (w ∷ r)) o (cost z) (cost w) (map-mem cost q) (here (cost w) (costs m r)) in
+          nodup-apart (costs m first) (cost w ∷ []) u (cost z) (map-mem cost q) (Memᴰ.head (≼-antisym low (≼_trans (high p) (≼-eq t))))
+        where
+          high : (x ∈ (w ∷ r)) ⊎ ((0 < length (w ∷ r)) × ((y : Reading) → y ∈ (w ∷ r) → cost y ≼ cost x)) → cost w ≼ cost x
+          high (inl p) = elim (Memᴰ.cases_cons p) [ inl e ↦ ≼-eq (ap cost (sym e)) | inr s ↦ (ordered-end (costs m first) (costs m (w ∷ r)) o).0 (cost x) (map-mem cost s) ]
+          high (inr p) = p.1 w (here w r)
+
+      inside : (x : Reading) → x ∈ short → x ∈ first
+      inside x q =
+          let z = partner x q in
+          elim (kept x q) [
+            | inl p ↦ elim (cut p) [ inl f ↦ f | inr r ↦ absurd (untied x z.0 z.1 z.2 rest apart in_order (inl r)) ]
+            | inr f ↦ absurd (untied x z.0 z.1 z.2 rest apart in_order (inr (more f.0, λ y p. f.1 y (rest-long p))))
+          ]
+        where
+          more : length long ≡ n → 0 < length rest
+          more e = omega (arith, b, e, length-take k long, length-append first rest, ap length (take-append-drop k long))
+
+      same : short ≡ first
+      same = same-by cost short first first-costs (λ x y p q s. nodup-only cost first (nodup-front (costs m first) (costs m (take 1 rest)) apart) x y (inside x p) q s)
 
     pub demand-nested : NestedCosts m k n short long
     demand-nested = record {
       front = front;
       heads = (head k short d one, head n long e (omega arith));
-      untied = untied;
+      cheaper = cheaper;
+      ranked = ranked;
+      kept = kept;
       same = same;
     }
 
@@ -100,8 +176,9 @@ module _ (sheet : List ℕ) (bytes : Below 256 sheet) where
   list-for n words area made = subst (λ (l : Result Listed Refusal). Promised sheet n l (result_after sheet n words area)) made.answers (promised sheet bytes n words area)
 
   -- Two calls on a sheet, neither refused, whatever their areas.
-  pub nested-costs : (k n words others : ℕ) (area other : List ℕ) (less : Made sheet k words area) (more : Made sheet n others other)
+  pub nested-costs : (k n short_words long_words : ℕ) (short_area long_area : List ℕ) (less : Made sheet k short_words short_area) (more : Made sheet n long_words long_area)
       → 1 ≤ k
       → k ≤ n
-      → NestedCosts (machine sheet) k n (readings_for sheet k words area less) (readings_for sheet n others other more)
-  nested-costs k n words others area other less more one h = shorter-lists n others other more _ (list-for n others other more) k less.told _ one h (list-for k words area less)
+      → NestedCosts (machine sheet) k n (readings_for sheet k short_words short_area less) (readings_for sheet n long_words long_area more)
+  nested-costs k n short_words long_words short_area long_area less more one h =
+      shorter-lists n long_words long_area more _ (list-for n long_words long_area more) k less.told _ one h (list-for k short_words short_area less)

@@ -1,6 +1,7 @@
--- Short lists and long lists of one sheet. Their costs are nested; of readings that cost the same, a short list may hold others than the front of a long one. Definitions only.
-use Rattle.std.specs.Prelude.{◌≡◌, ℕ, ◌+◌, ◌≤◌, ◌<◌, List, map, take, length, Ok}
-use Rattle.tropical_weight.specs.Tropical.{Tropical}
+-- Short lists and long lists of one sheet. Their costs are nested; of readings that cost the same, a short list may hold others than the front of a long one, or in another order. Definitions only.
+use Rattle.std.specs.Prelude.{◌≡◌, ℕ, ◌+◌, ◌≤◌, ◌<◌, List, [], map, take, length, get_or, Ok}
+use mathlib.Core.Logic.{◌⊎◌}
+use Rattle.tropical_weight.specs.Tropical.{Tropical, ◌≼◌}
 use Rattle.sheet.specs.Machine.{Machine, machine}
 use Rattle.machine.specs.Readings.{Reading, IsReading, reading_of, reading_cost}
 use Rattle.machine.specs.Parents.{best}
@@ -19,9 +20,17 @@ costs m readings = map (reading_cost m) readings
 abbrev pub best_cost : Machine → List Tropical
 best_cost m = costs m (if_any (best m))
 
+-- x costs less than y
+abbrev pub Cheaper : Machine → Reading → Reading → Type 0
+Cheaper m x y = reading_cost m y ≼ reading_cost m x → ⊥
+
 -- no other reading costs what x does
 abbrev pub Untied : Machine → Reading → Type 0
 Untied m x = (y : Reading) → IsReading m y → reading_cost m y ≡ reading_cost m x → y ≡ x
+
+-- the reading at a place of a list, from 0, or one that stands for none
+abbrev pub reading_at : List Reading → ℕ → Reading
+reading_at l place = get_or l place (record { run = []; end = 0 })
 
 -- A list for k beside one for n, where k is at most n.
 pub record NestedCosts (m : Machine) (k n : ℕ) (short long : List Reading) : Type 0 where
@@ -29,9 +38,13 @@ pub record NestedCosts (m : Machine) (k n : ℕ) (short long : List Reading) : T
   pub front : costs m short ≡ take k (costs m long)
   -- the best path, if there is one, costs what heads both; without one both are empty
   pub heads : (take 1 (costs m short) ≡ best_cost m) × (take 1 (costs m long) ≡ best_cost m)
-  -- only ties make readings differ: one that ties with no other is on the shorter list just where it is among the first k of the longer
-  pub untied : (x : Reading) → Untied m x → (x ∈ short → x ∈ take k long) × (x ∈ take k long → x ∈ short)
-  -- as the longer list tells it, where it asks for more: if no two of its first k + 1 costs are the same, its first k readings are the shorter list
+  -- of readings the lists may differ in those of the last cost alone: any that costs less than one on the shorter list is on it, and among the first k of the longer
+  pub cheaper : (x y : Reading) → IsReading m x → y ∈ short → Cheaper m x y → (x ∈ short) × (x ∈ take k long)
+  -- and by ties alone: one that no other ties with has the same place on both
+  pub ranked : (place : ℕ) → place < length short → Untied m (reading_at long place) → reading_at short place ≡ reading_at long place
+  -- one on the shorter list is somewhere on the longer, or that is full and holds none that is dearer
+  pub kept : (x : Reading) → x ∈ short → (x ∈ long) ⊎ ((length long ≡ n) × ((y : Reading) → y ∈ long → reading_cost m y ≼ reading_cost m x))
+  -- as the longer list tells it: where it asks for more, and no two of its first k + 1 costs are the same, its first k readings are the shorter list
   pub same : k < n → NoDup (take (k + 1) (costs m long)) → short ≡ take k long
 
 -- ---- of results of the call for lists on a sheet, each with what it told
@@ -50,11 +63,11 @@ costs_listed sheet n told result = costs (machine sheet) (readings_listed sheet 
 -- Of one for n: beside every one for a k up to n, whatever areas either was made in.
 abbrev pub ShorterLists : List ℕ → ℕ → Listed → List ℕ → Type 0
 ShorterLists sheet n told result =
-    (k : ℕ) (less : Listed) (other : List ℕ)
+    (k : ℕ) (less : Listed) (shorter : List ℕ)
     → 1 ≤ k
     → k ≤ n
-    → ListFor sheet k less other
-    → NestedCosts (machine sheet) k n (readings_listed sheet k less other) (readings_listed sheet n told result)
+    → ListFor sheet k less shorter
+    → NestedCosts (machine sheet) k n (readings_listed sheet k less shorter) (readings_listed sheet n told result)
 
 -- ---- of two calls
 -- the call for n on a sheet, in a work area of so many words and a result area of these bytes, is not refused
