@@ -1,6 +1,7 @@
 //! The arguments: commands, options, and how they are read. Every option stands in one table, from which `--help` is printed too.
 #![forbid(unsafe_code)]
 
+use std::collections::BTreeSet;
 use std::ffi::{OsStr, OsString};
 use std::os::unix::ffi::OsStrExt;
 use std::path::PathBuf;
@@ -73,7 +74,9 @@ impl Command {
 /// What an option sets.
 #[derive(Clone, Copy, Debug, PartialEq, Eq)]
 pub enum Key {
-    /// How many readings.
+    /// How many readings are listed: one count, or several.
+    Counts,
+    /// How many readings are laid over a picture.
     Count,
     /// Where answers go.
     Output,
@@ -110,12 +113,12 @@ pub struct Flag {
 /// Every option.
 pub const FLAGS: [Flag; 10] = [
     Flag {
-        key: Key::Count,
+        key: Key::Counts,
         short: Some('n'),
         long: "count",
-        value: Some("COUNT"),
+        value: Some("COUNTS"),
         commands: &[List],
-        help: "list up to COUNT readings, 64 at the most; 10 where it is not said",
+        help: "a count up to 64, or several, as in 3,10; 10 where it is not said",
     },
     Flag {
         key: Key::Count,
@@ -213,12 +216,64 @@ impl Picture {
     }
 }
 
+/// How many readings are listed: one count, or several of which each has a list of its own.
+#[derive(Clone, Debug, PartialEq, Eq)]
+pub struct Counts {
+    longest: u32,
+    // in rising order, each below the longest
+    shorter: Vec<u32>,
+}
+
+impl Counts {
+    /// One count alone.
+    pub fn one(count: u32) -> Counts {
+        Counts {
+            longest: count,
+            shorter: Vec::new(),
+        }
+    }
+
+    /// The largest of them.
+    pub fn longest(&self) -> u32 {
+        self.longest
+    }
+
+    /// The others, in rising order.
+    pub fn shorter(&self) -> &[u32] {
+        &self.shorter
+    }
+
+    // Counts parted by commas, in any order; one that is repeated counts once.
+    fn read(value: &OsStr) -> Result<Counts, String> {
+        let parts = value.as_bytes().split(|&byte| byte == b',');
+        let parts: Vec<&OsStr> = parts.map(OsStr::from_bytes).collect();
+        if let [alone] = parts[..] {
+            return count(alone).map(Counts::one);
+        }
+        let read = |(place, part): (usize, &OsStr)| match part.is_empty() {
+            true => Err(format!("part {} is empty", place + 1)),
+            false => count(part),
+        };
+        let counts: Result<BTreeSet<u32>, String> =
+            parts.into_iter().enumerate().map(read).collect();
+        let mut counts = counts.map_err(|wrong| format!("{}: {wrong}", value.to_string_lossy()))?;
+        // a value has a part at least, so that there is a largest
+        let longest = counts.pop_last().unwrap_or_default();
+        Ok(Counts {
+            longest,
+            shorter: counts.into_iter().collect(),
+        })
+    }
+}
+
 /// What is asked of each input, or of two together.
 #[derive(Debug, PartialEq, Eq)]
 pub struct Options {
     /// The command.
     pub command: Command,
-    /// How many readings, where it is said.
+    /// How many readings are listed, where it is said.
+    pub counts: Option<Counts>,
+    /// How many readings are laid over a picture, where it is said.
     pub count: Option<u32>,
     /// Where answers go, where it is said, or the first of two parts.
     pub output: Option<PathBuf>,
@@ -240,6 +295,7 @@ impl Options {
     fn of(command: Command) -> Options {
         Options {
             command,
+            counts: None,
             count: None,
             output: None,
             second: None,
@@ -290,7 +346,8 @@ impl Options {
     // Sets what an option says. The value is empty where it takes none.
     fn set(&mut self, key: Key, value: OsString) -> Result<(), String> {
         match key {
-            Key::Count => self.count = Some(number(&value, 0, LIST_LIMIT as usize)? as u32),
+            Key::Counts => self.counts = Some(Counts::read(&value)?),
+            Key::Count => self.count = Some(count_alone(&value)?),
             Key::Output | Key::Parts => self.output = Some(value.into()),
             Key::Json => self.json = true,
             Key::Form => self.picture = picture(&value)?,
@@ -335,6 +392,20 @@ fn node_of(inputs: &mut Vec<Source>) -> Result<u32, String> {
     let read = number(&node, 0, u32::MAX as usize);
     read.map(|node| node as u32)
         .map_err(|wrong| format!("NODE: {wrong}"))
+}
+
+// How many readings a list has at the most.
+fn count(value: &OsStr) -> Result<u32, String> {
+    number(value, 0, LIST_LIMIT as usize).map(|count| count as u32)
+}
+
+// A picture shows one list.
+fn count_alone(value: &OsStr) -> Result<u32, String> {
+    if value.as_bytes().contains(&b',') {
+        let value = value.to_string_lossy();
+        return Err(format!("{value}: draw takes one count alone"));
+    }
+    count(value)
 }
 
 fn number(value: &OsStr, least: usize, most: usize) -> Result<usize, String> {
@@ -483,7 +554,8 @@ mod tests {
             "list -n 3 -- a",
         ] {
             let options = options(line);
-            assert_eq!(options.count, Some(3), "{line}");
+            assert_eq!(options.counts, Some(Counts::one(3)), "{line}");
+            assert_eq!(options.count, None);
             assert_eq!(options.inputs, [file("a")], "{line}");
         }
         let last = options("draw -n 1 -n 2 -T svg -o x -j 8");
@@ -492,6 +564,63 @@ mod tests {
             (last.picture, last.output),
             (Picture::Svg, Some("x".into()))
         );
+    }
+
+    #[test]
+    fn several_counts() {
+        let counts = |line: &str| {
+            let counts = options(line).counts.unwrap();
+            (counts.longest(), counts.shorter().to_vec())
+        };
+        for line in [
+            "list -n 3,10,64",
+            "list -n64,3,10",
+            "list --count 10,3,64,3,10,64",
+            "list --count=03,10,64",
+            "list -n 5,6 -n 10,64,3",
+        ] {
+            assert_eq!(counts(line), (64, vec![3, 10]), "{line}");
+        }
+        assert_eq!(counts("list -n 1,0"), (1, vec![0]));
+        assert_eq!(counts("list -n 2,1 -n 5"), (5, vec![]));
+        for line in ["list -n 7,7", "list -n 7,7,7", "list -n 3,10 -n 7"] {
+            assert_eq!(options(line).counts, Some(Counts::one(7)), "{line}");
+        }
+        assert_eq!(options("list a").counts, None);
+        let all: Vec<String> = (0..=64).rev().map(|count| count.to_string()).collect();
+        let line = format!("list -n {}", all.join(","));
+        assert_eq!(counts(&line), (64, (0..64).collect()));
+    }
+
+    // The part that is wrong is named.
+    #[test]
+    fn wrong_counts() {
+        for (value, said) in [
+            ("3,", "3,: part 2 is empty"),
+            (",3", ",3: part 1 is empty"),
+            ("3,,10", "3,,10: part 2 is empty"),
+            (",", ",: part 1 is empty"),
+            ("3,65", "3,65: 65 is no number from 0 to 64"),
+            ("65,3", "65,3: 65 is no number from 0 to 64"),
+            ("3,x,65", "3,x,65: x is no number from 0 to 64"),
+            ("3,-1", "3,-1: -1 is no number from 0 to 64"),
+            ("3;10", "3;10 is no number from 0 to 64"),
+            ("65", "65 is no number from 0 to 64"),
+        ] {
+            let said = Err(format!("--count: {said}"));
+            assert_eq!(parsed(&format!("list -n {value}")), said);
+        }
+        for value in ["3,10", "3,", "3,3"] {
+            let said = Err(format!("--count: {value}: draw takes one count alone"));
+            assert_eq!(parsed(&format!("draw -n {value}")), said);
+        }
+        let arguments = ["list", "-n", "3, 10"].map(OsString::from);
+        let said = "--count: 3, 10:  10 is no number from 0 to 64";
+        assert_eq!(parse(arguments.into_iter()), Err(said.to_string()));
+        let arguments = ["list", "-n"].map(OsString::from).into_iter();
+        let odd = arguments.chain([OsStr::from_bytes(b"3,\xff").to_os_string()]);
+        let said = "--count: 3,\u{fffd}: \u{fffd} is no number from 0 to 64";
+        assert_eq!(parse(odd), Err(said.to_string()));
     }
 
     #[test]
@@ -550,7 +679,9 @@ mod tests {
             "list --jsons",
             "list --json=1",
             "list -T svg",
+            "list -n 3,x",
             "best -n 2",
+            "best -n 1,2",
             "draw -T gif",
             "draw --json",
             "check -j 0",

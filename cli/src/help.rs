@@ -33,17 +33,24 @@ const WORDS: [Words; 9] = [
     Words {
         command: Command::List,
         line: "list the cheapest readings",
-        usage: "[-n COUNT] [--json] [FILE...]",
+        usage: "[-n COUNTS] [--json] [FILE...]",
         text: "Lists the cheapest readings: how many there are and how many entries the search\n\
                has taken; then for each its rank, its cost as a decimal and in the sheet's own\n\
-               units, 64ths or 256ths, the node where it ends, and the input labels of its links.",
+               units, 64ths or 256ths, the node where it ends, and the input labels of its links.\n\n\
+               With several counts, as in -n 3,10, each list is found by itself. The longest is\n\
+               printed; a line in it, after row 3 or the last, has the counts of the list for 3.\n\
+               Below it stand the rows of the list for 3 at the ranks where the longest has another\n\
+               reading, by its links; where there are none, the list for 3 is the head of the longest.\n\n\
+               The costs listed for a smaller count are the first of those for a larger one, or\n\
+               all where there are fewer, as is proved; of readings that cost the same the shorter\n\
+               list may hold others, or in another order.",
     },
     Words {
         command: Command::Best,
         line: "find the cheapest reading",
         usage: "[--json] [FILE...]",
-        text: "Finds the cheapest reading, printed as by list. Where several cost the same it\n\
-               may be another than the first of a longer list.",
+        text: "Finds the cheapest reading, printed as by list. It costs what heads every list, as is\n\
+               proved; where several cost the same it may be another than the first of a longer list.",
     },
     Words {
         command: Command::Distances,
@@ -106,7 +113,11 @@ fields with --json:
   list      for each reading rank, cost (a decimal, as text), units (the cost as a
             number of them), end (a node), links (numbers in the sheet), ilabels and
             olabels
-of an input that is refused: input, refused (the number), meaning, place
+";
+
+const JSON_SHORTER: &str =
+    "  shorter   with several counts, for each but the largest: count, readings, taken, and
+            differ, its readings, as in list, at the ranks where list has another
 ";
 
 const JSON_DISTANCES: &str = "\
@@ -115,7 +126,6 @@ fields with --json:
   unit       how many of its units are 1: 64 or 256
   distances  for each node node, cost (a decimal, as text) and units (the cost as a
              number of them); both are null where it is unreached
-of an input that is refused: input, refused (the number), meaning, place
 ";
 
 const JSON_CHECK: &str = "\
@@ -131,6 +141,9 @@ fields with --json:
             then, as far as they name it, row and column from 1, the numbers of a
             link and a node from 0, and the field of a sheet
 ";
+
+const JSON_REFUSED: &str =
+    "of an input that is refused: input, refused (the number), meaning, place\n";
 
 const STATUS: &str = "\
 Status: 0; 1 where an input is refused; 2 for bad usage, or an input or output that
@@ -152,12 +165,13 @@ FILE holds text rows or a sheet; which, the command sees by itself. It may be -,
 standard input.
 ";
 
-fn json_fields(command: Command) -> Option<&'static str> {
+fn json_fields(command: Command) -> &'static [&'static str] {
     match command {
-        Command::List | Command::Best => Some(JSON_LIST),
-        Command::Distances => Some(JSON_DISTANCES),
-        Command::Check => Some(JSON_CHECK),
-        _ => None,
+        Command::List => &[JSON_LIST, JSON_SHORTER, JSON_REFUSED],
+        Command::Best => &[JSON_LIST, JSON_REFUSED],
+        Command::Distances => &[JSON_DISTANCES, JSON_REFUSED],
+        Command::Check => &[JSON_CHECK],
+        _ => &[],
     }
 }
 
@@ -200,8 +214,9 @@ fn help_of(words: &Words) -> String {
     let mut help = format!("usage: yeldmur {name} {usage}\n\n{text}\n\n{inputs}\noptions:\n");
     let flags = FLAGS.iter().filter(|flag| flag.commands.contains(&command));
     help.extend(flags.map(line_of));
-    if let Some(fields) = json_fields(command) {
-        help = help + "\n" + fields;
+    let fields = json_fields(command).concat();
+    if !fields.is_empty() {
+        help = help + "\n" + &fields;
     }
     help + "\n" + STATUS
 }

@@ -41,6 +41,7 @@ fn every_command_takes_both_forms() {
     for arguments in [
         &["list"][..],
         &["list", "-n", "2", "--json"],
+        &["list", "-n", "1,3"],
         &["best"],
         &["distances"],
         &["draw"],
@@ -108,6 +109,19 @@ fn bad_usage() {
         (
             &["list", "-n", "65"],
             "yeldmur: --count: 65 is no number from 0 to 64\n",
+        ),
+        (
+            &["list", "-n", "3,65"],
+            "yeldmur: --count: 3,65: 65 is no number from 0 to 64\n",
+        ),
+        (
+            &["list", "-n", "3,", "10"],
+            "yeldmur: --count: 3,: part 2 is empty\n",
+        ),
+        (&["list", "-n"], "yeldmur: --count needs its COUNTS\n"),
+        (
+            &["draw", "-n", "3,10"],
+            "yeldmur: --count: 3,10: draw takes one count alone\n",
         ),
         (
             &["list", "-x"],
@@ -603,6 +617,161 @@ fn documents() {
         assert!(lines[4].contains("\"error\":\"cannot be read: "));
     }
     assert!(!is_json("{\"a\":01}") && !is_json("[1,]") && !is_json("{}x") && !is_json("\"\t\""));
+}
+
+// A machine whose readings mostly cost the same; or never, since each link weighs more than all before it. Its nodes have names of unequal
+// width, and links beside each other often the same labels.
+fn tied_or_not(random: &mut Random, tied: bool) -> Vec<u8> {
+    let nodes = [0, 1, 9, 10, 100];
+    let mut rows = String::new();
+    for link in 0..2 + random.below(10) {
+        let source = if link == 0 { 0 } else { random.below(4) };
+        let next = source + 1 + random.below(4 - source);
+        let weight = match tied {
+            true => random.one_of(&["0", "0", "0", "-0.5"]).to_string(),
+            false => (f64::from(1 << link) / 64.0).to_string(),
+        };
+        let [from, to, label] = [nodes[source], nodes[next], random.below(3)];
+        rows += &format!("{from} {to} {label} 1 {weight}\n");
+    }
+    for node in nodes {
+        rows += &random.one_of(&[String::new(), format!("{node}\n")]);
+    }
+    let sheet = run(&["compile"], &rows).ok().out;
+    random.one_of(&[rows.into_bytes(), stating(256, &sheet), sheet])
+}
+
+// The answers to files, one for each.
+fn answers(counts: &str, form: &[&str], files: &[&str]) -> Vec<String> {
+    let ran = run(&[&["list", "-n", counts], form, files].concat(), "").ok();
+    let answers: Vec<&str> = match form {
+        [] => ran.text().split("==> ").skip(1).collect(),
+        _ => ran.text().lines().collect(),
+    };
+    let headed = answers.into_iter().map(|answer| {
+        let (_, below) = answer.split_once(" <==\n").unwrap_or(("", answer));
+        below.to_string()
+    });
+    headed.collect()
+}
+
+fn fields(row: &str) -> String {
+    row.split_whitespace().collect::<Vec<_>>().join(" ")
+}
+
+// Where the first four fields of a row end.
+fn ends(row: &str) -> Vec<usize> {
+    let blank = |at: usize| row.as_bytes().get(at).is_none_or(|&byte| byte == b' ');
+    let ends = (1..=row.len()).filter(|&at| !blank(at - 1) && blank(at));
+    ends.take(4).collect()
+}
+
+// What is printed for one count, without the names of its columns, put together from a text for several: the rows above the line of that
+// list, and in their places its own from below the table. The ranks of these, too.
+fn from_text(text: &str, count: usize) -> (Vec<String>, Vec<usize>) {
+    let line = format!("-- list for {count}: ");
+    let (above, below) = text.split_once(&line).unwrap();
+    let mut rows: Vec<String> = above.lines().skip(2).map(fields).collect();
+    rows.retain(|row| !row.starts_with("--"));
+    rows.insert(0, below.lines().next().unwrap().to_string());
+    let block = format!("\nlist for {count}: same costs, other readings where costs tie:\n");
+    let own = below.split_once(&block).map_or("", |(_, own)| own);
+    let own = own.lines().take_while(|line| !line.starts_with("list "));
+    let mut ranks = Vec::new();
+    for row in own {
+        let row = fields(row);
+        let rank = row.split(' ').next().unwrap().parse().unwrap();
+        rows[rank] = row;
+        ranks.push(rank);
+    }
+    (rows, ranks)
+}
+
+fn readings(array: &str) -> Vec<&str> {
+    let readings = array.split_inclusive("]}");
+    readings
+        .map(|reading| reading.trim_start_matches(','))
+        .collect()
+}
+
+// The same of documents, byte for byte. What is said to differ does, and costs the same.
+fn from_document(document: &str, count: usize) -> (String, Vec<usize>) {
+    let (longest, shorter) = document.split_once(",\"shorter\":[").unwrap();
+    let (start, longest) = longest.split_once("\"readings\":").unwrap();
+    let list = longest.split_once(":[").unwrap().1;
+    let mut list = readings(list.strip_suffix(']').unwrap());
+    list.truncate(count);
+    let shorter = shorter.strip_suffix("]}").unwrap();
+    let own = shorter
+        .split_once(&format!("{{\"count\":{count},"))
+        .unwrap()
+        .1;
+    let own = own.split(",{\"count\":").next().unwrap();
+    let own = own.strip_suffix("]}").unwrap();
+    let (counts, own) = own.split_once(",\"differ\":[").unwrap();
+    let mut ranks = Vec::new();
+    for reading in readings(own) {
+        let (cost, _) = reading.split_once(",\"end\":").unwrap();
+        let rank: usize = cost[8..].split(',').next().unwrap().parse().unwrap();
+        let other = std::mem::replace(&mut list[rank - 1], reading);
+        assert!(other != reading && other.starts_with(&format!("{cost},")));
+        ranks.push(rank);
+    }
+    let list = list.join(",");
+    (format!("{start}{counts},\"list\":[{list}]}}"), ranks)
+}
+
+// The table of a text for several counts is that for the longest alone, and what stands below is aligned with it.
+fn holds_longest(text: &str, alone: &str) {
+    let rows = text.lines().filter(|line| !line.starts_with("--"));
+    let table: Vec<&str> = rows
+        .clone()
+        .take_while(|row| !row.starts_with("list "))
+        .collect();
+    if table.len() == rows.clone().count() {
+        assert_eq!(table.join("\n") + "\n", alone);
+    }
+    let due: Vec<String> = alone.lines().map(fields).collect();
+    assert_eq!(table.iter().map(|row| fields(row)).collect::<Vec<_>>(), due);
+    let rows: Vec<&str> = rows
+        .skip(1)
+        .filter(|row| !row.starts_with("list "))
+        .collect();
+    assert!(rows.iter().all(|row| ends(row) == ends(rows[0])), "{text}");
+}
+
+#[test]
+fn several_counts_and_each_alone() {
+    let folder = Folder::new("several_counts");
+    let (mut random, tied) = (Random(8), |place: usize| place < 300);
+    let files: Vec<String> = (0..450)
+        .map(|place| folder.file(&place.to_string(), tied_or_not(&mut random, tied(place))))
+        .collect();
+    let files: Vec<&str> = files.iter().map(String::as_str).collect();
+    let both = |counts: &str| [&[][..], &["--json"]].map(|form| answers(counts, form, &files));
+    let ([texts, documents], [text, document]) = (both("2,8,0,5,1,3"), both("8"));
+    for place in 0..files.len() {
+        holds_longest(&texts[place], &text[place]);
+        let (longest, _) = documents[place].split_once(",\"shorter\":").unwrap();
+        assert_eq!(format!("{longest}}}"), document[place]);
+        assert!(is_json(&documents[place]));
+    }
+    let mut seen = [0; 2];
+    for count in [0, 1, 2, 3, 5] {
+        let [text, document] = both(&count.to_string());
+        for place in 0..files.len() {
+            let lines = text[place].lines();
+            let due = lines.clone().take(1).chain(lines.skip(2)).map(fields);
+            let (rows, ranks) = from_text(&texts[place], count);
+            assert_eq!(rows, due.collect::<Vec<_>>());
+            let due = (document[place].clone(), ranks.clone());
+            assert_eq!(from_document(&documents[place], count), due);
+            assert!(ranks.is_empty() || tied(place));
+            seen[usize::from(ranks.is_empty())] += usize::from(rows.len() > 1);
+        }
+    }
+    // of those with a reading some differ, and some do not
+    assert!(seen.iter().all(|&lists| lists >= 100), "{seen:?}");
 }
 
 #[test]

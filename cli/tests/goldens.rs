@@ -36,6 +36,12 @@ fn a_in(unit: u32) -> Vec<u8> {
     stating(unit, &run(&["compile"], A).ok().out)
 }
 
+// The smallest sheet whose lists are not nested: the reading without links is the best, and heads no longer list.
+const SMALLEST: &str = "0 1 1 1\n0 1 2 2\n0\n1\n2\n";
+
+// Six readings of one cost: two links, and then three.
+const TIES: &str = "0 1 1 1\n0 1 2 2\n1 2 3 3\n1 2 4 4\n1 2 5 5\n2\n";
+
 // Two machines with labels and readings in common and others of their own. A link that one bars is barred in both.
 const LEFT: &str = "0 1 1 1 1\n0 1 2 2 0.5\n1 2 3 3 0.25\n1 2 4 4 Infinity\n1 2 5 5\n2 0.5\n";
 const RIGHT: &str = "0 1 2 2 -0.25\n0 2 1 1\n1 2 3 3 1\n0 1 2 2\n1 2 4 4\n1\n2 1\n";
@@ -73,6 +79,59 @@ fn lists() {
     let all = "0 1 1 1 Infinity\n1\n";
     on("list_all_barred.txt", &["list"], all);
     on("best_all_barred.txt", &["best"], all);
+}
+
+// For people and for programs.
+#[track_caller]
+fn on_both_ways(name: &str, counts: &str, input: impl AsRef<[u8]>) {
+    let arguments = ["list", "-n", counts, "--json"];
+    on(&format!("lists_{name}.txt"), &arguments[..3], &input);
+    on(&format!("lists_{name}_json.txt"), &arguments, &input);
+}
+
+#[test]
+fn lists_of_several_counts() {
+    on_both_ways("a", "2,10", A);
+    on_both_ways("a_fewer", "64,3,5,4,5,1", A);
+    on_both_ways("zero", "0,2", A);
+    on_both_ways("smallest", "1,2", SMALLEST);
+    on_both_ways("ties", "10,5,4,3,2,1", TIES);
+    on_both_ways("mixed", "1,2,3,4,5,6,7,8", MIXED);
+    on_both_ways(
+        "fine",
+        "1,3",
+        stating(256, &run(&["compile"], TIES).ok().out),
+    );
+    on_both_ways("barred", "1,10", BARRED);
+    on_both_ways("none", "0,3,10", "0 1 1 1\n");
+    // one count that is repeated is one count
+    on("list_a.txt", &["list", "-n", "2,2"], A);
+    on("list_json.txt", &["list", "--json", "-n", "10,10"], MIXED);
+}
+
+#[test]
+fn lists_of_several_inputs_and_counts() {
+    let folder = Folder::new("several_inputs_and_counts");
+    let files = [
+        folder.file("a", A),
+        folder.file("refused", "0 1 1 1 0.3\n"),
+        folder.file("ties", TIES),
+        folder.file("none", "0 1 1 1\n"),
+    ];
+    let files: Vec<&str> = files.iter().map(String::as_str).collect();
+    for (golden, json) in [
+        ("lists_inputs.txt", None),
+        ("lists_inputs_json.txt", Some("--json")),
+    ] {
+        let first = ["list", "-n", "1,3"].into_iter().chain(json);
+        let arguments: Vec<&str> = first.chain(files.iter().copied()).collect();
+        let ran = run(&arguments, "");
+        assert_eq!(ran.status, 1);
+        held(
+            golden,
+            &(ran.text().to_string() + &ran.err).replace(&folder.path(""), ""),
+        );
+    }
 }
 
 #[test]
@@ -346,6 +405,7 @@ fn checks() {
         ("check_refused.txt", vec!["check"]),
         ("check_refused_json.txt", vec!["check", "--json"]),
         ("list_refused_json.txt", vec!["list", "--json"]),
+        ("list_refused_json.txt", vec!["list", "--json", "-n", "0,3"]),
     ] {
         let arguments: Vec<&str> = first
             .into_iter()
@@ -356,13 +416,13 @@ fn checks() {
         assert_eq!(ran.text().lines().count(), inputs.len());
         held(golden, &ran.text().replace(&prefix, ""));
     }
-    let arguments: Vec<&str> = ["list"]
-        .into_iter()
-        .chain(files.iter().map(String::as_str))
-        .collect();
-    let ran = run(&arguments, "");
-    assert_eq!((ran.status, ran.text()), (1, ""));
-    held("list_refused.txt", &ran.err.replace(&prefix, ""));
+    for first in [&["list"][..], &["list", "-n", "0,3"]] {
+        let files = files.iter().map(String::as_str);
+        let arguments: Vec<&str> = first.iter().copied().chain(files).collect();
+        let ran = run(&arguments, "");
+        assert_eq!((ran.status, ran.text()), (1, ""));
+        held("list_refused.txt", &ran.err.replace(&prefix, ""));
+    }
 }
 
 #[test]

@@ -39,10 +39,10 @@ fn commands_and_options() {
     }
 }
 
-// The lines of the first example, as they are typed and shown.
-fn example() -> Vec<String> {
+// The lines of an example by its place from 1, as they are typed and shown.
+fn example(place: usize) -> Vec<String> {
     let page = page();
-    let shown = page.split(".EX\n").nth(1).unwrap();
+    let shown = page.split(".EX\n").nth(place).unwrap();
     let shown = shown.split(".EE\n").next().unwrap();
     shown.lines().map(|line| line.replace("\\-", "-")).collect()
 }
@@ -50,7 +50,7 @@ fn example() -> Vec<String> {
 #[test]
 fn what_the_example_shows() {
     let folder = Folder::new("example");
-    let lines = example();
+    let lines = example(1);
     let rows = lines[1..7].join("\n") + "\n";
     folder.file("a.txt", &rows);
     assert_eq!(lines[7], "$ yeldmur list a.txt");
@@ -59,6 +59,17 @@ fn what_the_example_shows() {
     assert_eq!(lines[15], "$ echo \"0 1 1 1 0.3\" | yeldmur check");
     let checked = run(&["check"], "0 1 1 1 0.3\n");
     assert_eq!(checked.text().trim_end(), lines[16..18].join(" "));
+}
+
+#[test]
+fn what_the_example_of_several_counts_shows() {
+    let folder = Folder::new("example_of_several_counts");
+    let lines = example(2);
+    assert_eq!(lines[0], "$ cat tie.txt");
+    folder.file("tie.txt", lines[1..7].join("\n") + "\n");
+    assert_eq!(lines[7], "$ yeldmur list -n 1,3 tie.txt");
+    let listed = run(&["list", "-n", "1,3", &folder.path("tie.txt")], "").ok();
+    assert_eq!(listed.text().lines().collect::<Vec<_>>(), lines[8..]);
 }
 
 #[test]
