@@ -214,11 +214,14 @@ uint32_t yeldmur_shortest_distance(const uint8_t *sheet, size_t sheet_bytes,
  * along the start's k-th link and then each state's only link as far as the final state; with n = 1 a
  * machine that is not empty holds the one reading along its one way. A reading's links are the input
  * links repeated on its way, in order.
- * Lists of one sheet are nested in their costs: for every smaller n, from 1, the costs listed are the first of
- * these, or all where there are fewer; and the best reading, that of n = 1, costs what heads every list. Readings
- * that cost the same may differ: a shorter list may hold others, or in another order. One that costs what no other
- * does is on the list for k just where it is among the first k of a longer one; and where no two of the first k + 1
- * costs of the longer list are equal, its first k readings are the list for k. */
+ * Lists of one sheet are nested in their costs: for k up to n, both from 1, the costs listed for k are the first k
+ * of those listed for n, or all of them where there are fewer; and the best reading, that of n = 1, if there is one,
+ * costs what heads every list. Without one all are empty. Readings that tie may differ: the list for k may hold other
+ * readings of its last cost than the longer one has among its first k, and those of one cost may stand in another
+ * order. Of each lower cost both hold the same readings; one that costs what no other does has the same rank on both;
+ * and a reading on the list for k is somewhere on the longer, unless that is full and holds none that is dearer. Where
+ * k is below n, and no two of the first k + 1 costs listed for n are equal, its first k readings are the list for k.
+ * A program that wants just the list for k makes the call for k. */
 uint32_t yeldmur_shortest_path(const uint8_t *sheet, size_t sheet_bytes, uint32_t n,
                                uint32_t *work, size_t work_words,
                                uint8_t *result, size_t result_bytes,

@@ -10,16 +10,17 @@ def changed(due, told, area):
     places = [at - area for at, (x, y) in enumerate(zip(due, told)) if x != y]
     return f'{len(places)} bytes differ, the first {places[0]} from where the area begins' if places else 'the memory is as it is due'
 
-def conduct(about, cases, least, judge_of, print_difference, print_figures, judged=lambda judge: judge.kinds.total(), unseen=lambda judge: []):
-    """Runs the judge of a library and a seed on at least so many cases, which have that name; it must have seen every answer."""
+def conduct(about, cases, least, judge_of, print_difference, print_figures, judged=lambda judge: judge.kinds.total(), unseen=lambda judge: [], flags=()):
+    """Runs the judge of a library, a seed and flags, each a name and what it does, on at least so many cases, which have that name; it must have seen every answer."""
     parser = argparse.ArgumentParser(description=about)
     parser.add_argument('--seed', type=int, default=1)
     parser.add_argument('--' + cases, dest='least', type=int, default=least, help=f'how many {cases} are judged at the least')
+    for name, does in flags: parser.add_argument('--' + name, action='store_true', help=does)
     parser.add_argument('library')
     asked = parser.parse_args()
     # so that a library that breaks down is told with the call
     faulthandler.enable()
-    judge = judge_of(asked.library, asked.seed)
+    judge = judge_of(asked.library, asked.seed, *(getattr(asked, name) for name, _ in flags))
     try: judge.run(asked.least)
     except Difference as found:
         print_difference(judge, *found.args)

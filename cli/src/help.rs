@@ -42,8 +42,8 @@ const WORDS: [Words; 9] = [
                Below it stand the rows of the list for 3 at the ranks where the longest has another\n\
                reading, by its links; where there are none, the list for 3 is the head of the longest.\n\n\
                The costs listed for a smaller count are the first of those for a larger one, or\n\
-               all where there are fewer, as is proved; of readings that cost the same the shorter\n\
-               list may hold others, or in another order.",
+               all where there are fewer, as is proved. The shorter list may hold other readings of\n\
+               its last cost, or those of one cost in another order.",
     },
     Words {
         command: Command::Best,

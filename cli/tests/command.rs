@@ -674,7 +674,7 @@ fn from_text(text: &str, count: usize) -> (Vec<String>, Vec<usize>) {
     let mut rows: Vec<String> = above.lines().skip(2).map(fields).collect();
     rows.retain(|row| !row.starts_with("--"));
     rows.insert(0, below.lines().next().unwrap().to_string());
-    let block = format!("\nlist for {count}: same costs, other readings where costs tie:\n");
+    let block = format!("\nlist for {count}: other readings of the same cost at these ranks:\n");
     let own = below.split_once(&block).map_or("", |(_, own)| own);
     let own = own.lines().take_while(|line| !line.starts_with("list "));
     let mut ranks = Vec::new();

@@ -36,8 +36,8 @@ fn a_in(unit: u32) -> Vec<u8> {
     stating(unit, &run(&["compile"], A).ok().out)
 }
 
-// The smallest sheet whose lists are not nested: the reading without links is the best, and heads no longer list.
-const SMALLEST: &str = "0 1 1 1\n0 1 2 2\n0\n1\n2\n";
+// A line of three nodes, each final, all of weight 0: the reading without links is the best, and heads no longer list.
+const LINE: &str = "0 1 1 1\n1 2 2 2\n0\n1\n2\n";
 
 // Six readings of one cost: two links, and then three.
 const TIES: &str = "0 1 1 1\n0 1 2 2\n1 2 3 3\n1 2 4 4\n1 2 5 5\n2\n";
@@ -94,7 +94,7 @@ fn lists_of_several_counts() {
     on_both_ways("a", "2,10", A);
     on_both_ways("a_fewer", "64,3,5,4,5,1", A);
     on_both_ways("zero", "0,2", A);
-    on_both_ways("smallest", "1,2", SMALLEST);
+    on_both_ways("line", "1,2", LINE);
     on_both_ways("ties", "10,5,4,3,2,1", TIES);
     on_both_ways("mixed", "1,2,3,4,5,6,7,8", MIXED);
     on_both_ways(

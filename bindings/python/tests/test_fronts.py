@@ -51,8 +51,8 @@ class ByHand(unittest.TestCase):
                 self.assertEqual(self.front(a, n, count), self.list(a, count))
 
     def test_eighty_eight_bytes(self):
-        """Two links from node 0 to node 1, each of three nodes final, and all weights 0."""
-        sheet = Sheet.from_rows("0 1 1 1\n0 1 2 2\n0\n1\n2\n")
+        """A line of three nodes, each final, and all weights 0."""
+        sheet = Sheet.from_rows("0 1 1 1\n1 2 2 2\n0\n1\n2\n")
         self.assertEqual(len(sheet.bytes), 88)
         self.assertEqual(runs([best(sheet)]), [(0, ())])
         self.assertEqual(self.list(sheet, 2), [(0, (0,)), (0, ())])

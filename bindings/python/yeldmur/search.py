@@ -102,10 +102,10 @@ class List(_Readings):
         Traceback (most recent call last):
         ValueError: a list for 3 has fronts of 0 to 3, not of 4
 
-        The list for 1 may hold another reading than that front of the list for 2. Here two links lead from node 0 to
-        node 1, each of the three nodes is final, and all weights are 0.
+        The list for 1 may hold another reading than that front of the list for 2. Here three nodes stand in a line,
+        each is final, and all weights are 0.
 
-        >>> ties = Sheet.from_rows("0 1 1 1\\n0 1 2 2\\n0\\n1\\n2\\n")
+        >>> ties = Sheet.from_rows("0 1 1 1\\n1 2 2 2\\n0\\n1\\n2\\n")
         >>> [reading.numbers for reading in list_readings(ties, 2)]
         [(0,), ()]
         >>> list_readings(ties, 2).front(1)
@@ -177,8 +177,8 @@ def list_readings(sheet: Sheet, n: int) -> List:
     one on it. A run over what is barred is no reading.
 
     For every smaller n, from 1, the costs listed are the first of these, or all where there are fewer, as is proved;
-    and the best reading, that of n = 1, costs what heads every list. Of readings that cost the same a shorter list may
-    hold others, or in another order: `List.front` tells where.
+    and the best reading, that of n = 1, costs what heads every list. A shorter list may hold other readings of its last
+    cost, or those of one cost in another order: `List.front` tells where.
 
     >>> sheet = Sheet.from_rows("0 1 1 1 1\\n0 2 2 2 0.5\\n1 3 3 3 0.25\\n1 2 5 5\\n2 3 4 4 0.75\\n3 0.5\\n")
     >>> listed = list_readings(sheet, 3)

@@ -23,8 +23,8 @@ pub fn distances(sheet: &Sheet) -> Result<Vec<Option<f32>>, Refusal> {
 /// barred is no reading.
 ///
 /// For every smaller n, from 1, the costs listed are the first of these, or all where there are fewer, as is proved; and the best reading,
-/// that of n = 1, costs what heads every list. Of readings that cost the same a shorter list may hold others, or in another order:
-/// [`List::front`] tells where.
+/// that of n = 1, costs what heads every list. A shorter list may hold other readings of its last cost, or those of one cost in another
+/// order: [`List::front`] tells where.
 pub fn list(sheet: &Sheet, n: u32) -> Result<List<'_>, Refusal> {
     let mut areas = Areas::new();
     let listed = areas.make(sheet, n)?;
@@ -310,8 +310,8 @@ impl<'a> Front<'a> {
     /// use yeldmur::{list, Refusal, Sheet};
     ///
     /// # fn main() -> Result<(), Refusal> {
-    /// // two links from node 0 to node 1, each of three nodes final, and all weights 0: so much costs each reading
-    /// let sheet: Sheet = "0 1 1 1\n0 1 2 2\n0\n1\n2\n".parse()?;
+    /// // a line of three nodes, each final, and all weights 0: so much costs each reading
+    /// let sheet: Sheet = "0 1 1 1\n1 2 2 2\n0\n1\n2\n".parse()?;
     /// assert_eq!(sheet.bytes().len(), 88);
     /// let (best, two) = (list(&sheet, 1)?, list(&sheet, 2)?);
     /// let front = two.front(1).unwrap();

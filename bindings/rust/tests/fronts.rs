@@ -52,10 +52,10 @@ fn sheet_a_for_every_count() {
     }
 }
 
-// Two links from node 0 to node 1, each of three nodes final, and all weights 0.
+// A line of three nodes, each final, and all weights 0.
 #[test]
 fn eighty_eight_bytes() {
-    let sheet: Sheet = "0 1 1 1\n0 1 2 2\n0\n1\n2\n".parse().unwrap();
+    let sheet: Sheet = "0 1 1 1\n1 2 2 2\n0\n1\n2\n".parse().unwrap();
     assert_eq!(sheet.bytes().len(), 88);
     assert_eq!(readings(&sheet, 1), [(0, vec![])]);
     assert_eq!(readings(&sheet, 2), [(0, vec![0]), (0, vec![])]);

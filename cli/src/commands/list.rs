@@ -145,7 +145,7 @@ fn for_people(unit: Unit, lists: &Lists) -> String {
     }
     for list in shorter.iter().filter(|list| !list.rows.is_empty()) {
         let count = list.count;
-        text += &format!("list for {count}: same costs, other readings where costs tie:\n");
+        text += &format!("list for {count}: other readings of the same cost at these ranks:\n");
         text.extend(lines.by_ref().take(list.rows.len()));
     }
     text
