@@ -19,7 +19,9 @@ fn main() {
     println!("cargo:rerun-if-changed={}", library.display());
     if !library.is_file() {
         eprintln!("There is no {}.", library.display());
-        eprintln!("Run `tools/library` in Yeldmur's repository, which writes it to target/staticlib,");
+        eprintln!(
+            "Run `tools/library` in Yeldmur's repository, which writes it to target/staticlib,"
+        );
         eprintln!(
             "or name the folder that has libyeldmur.a in the environment variable YELDMUR_LIB_DIR."
         );

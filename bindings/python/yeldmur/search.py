@@ -70,7 +70,8 @@ class Front(_Readings):
     may_differ: bool
     """Whether ties leave it open which readings the list for this count holds, or in which order: whether the count is
     below the n of the list that this is the front of, and two neighbours among the first count + 1 costs of that list
-    are equal. Where it is False the list for this count holds these readings in this order, as is proved."""
+    are equal. Where it is False the list for this count holds these readings in this order, as is proved; where it is
+    True, the same costs, and of each below the last the same readings. `list_readings` for this count tells."""
 
 
 @dataclass(frozen=True)

@@ -304,7 +304,8 @@ impl<'a> Front<'a> {
 
     /// Whether ties leave it open which readings the list for this count holds, or in which order: whether the count is below the n of the
     /// list that this is the front of, and two neighbours among the first count + 1 costs of that list are equal. Where it is false the list
-    /// for this count holds these readings in this order, as is proved.
+    /// for this count holds these readings in this order, as is proved; where it is true, the same costs, and of each below the last the same
+    /// readings. [`list`] for this count tells.
     ///
     /// ```
     /// use yeldmur::{list, Refusal, Sheet};
