@@ -82,10 +82,6 @@ pub nodup-apart : {A : Type 0} (l k : List A) → NoDup (l ++ k) → (a : A) →
 nodup-apart [] k n a p q = Memᴰ.not-nil p
 nodup-apart (x ∷ l) k n a p q = elim (Memᴰ.cases_cons p) [ inl e ↦ n.0 (Memᴰ.append_right l (mem-eq e q)) | inr h ↦ nodup-apart l k n.1 a h q ]
 
-pub nodup-front : {A : Type 0} (l k : List A) → NoDup (l ++ k) → NoDup l
-nodup-front [] k n = tt
-nodup-front (x ∷ l) k n = (λ h. n.0 (Memᴰ.append_left k h), nodup-front l k n.1)
-
 pub nodup-end : {A : Type 0} (l k : List A) → NoDup (l ++ k) → NoDup k
 nodup-end [] k n = n
 nodup-end (x ∷ l) k n = nodup-end l k n.1

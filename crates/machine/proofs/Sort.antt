@@ -133,14 +133,10 @@ rises-ordered (a ∷ l) r = from-ordered a l r
 pub sort-rises : (l : List Tropical) → Rises (sort l)
 sort-rises l = ordered-rises (sort l) (sort-ordered l)
 
--- ---- a front of a list in order, and what stands behind it
+-- ---- a front of a list in order
 pub ordered-front : (l k : List Tropical) → Ordered (l ++ k) → Ordered l
 ordered-front [] k o = tt
 ordered-front (a ∷ l) k o = (λ b h. o.0 b (Memᴰ.append_left k h), ordered-front l k o.1)
-
-pub ordered-end : (l k : List Tropical) → Ordered (l ++ k) → Ordered k
-ordered-end [] k o = o
-ordered-end (a ∷ l) k o = ordered-end l k o.1
 
 pub ordered-across : (l k : List Tropical) → Ordered (l ++ k) → (a b : Tropical) → a ∈ l → b ∈ k → a ≼ b
 ordered-across [] k o a b p q = absurd (Memᴰ.not-nil p)

@@ -4,11 +4,11 @@ use mathlib.Core.Logic.{◌⊎◌, inl, inr}
 use mathlib.Core.Option.{Option, none, some}
 use mathlib.Core.List.Memᴰ
 use mathlib.Core.List.{List, [], ◌∷◌, ◌++◌}
-use Prim.Native.Nat.{ℕ, ◌+◌, ◌≤◌, ◌<◌}
+use Prim.Native.Nat.{ℕ, ◌≤◌, ◌<◌}
 use native.Mathlib.Decide.{ℕ_discrete}
 use native.Mathlib.Omega.{arith}
 use lib.ListN.{length, take, drop, get_or, length-map, length-append, length-take, take-append-drop}
-use lib.Seq.{take-take, take-add}
+use lib.Seq.{take-take}
 use Rattle.std.specs.Prelude.{Result}
 use Rattle.std.proofs.lemmas.List.{take-map, get_or-take}
 use Rattle.tropical_weight.specs.Tropical.{Tropical, inf, ◌≼◌}
@@ -23,16 +23,16 @@ use Rattle.machine.specs.Parents.{best}
 use Rattle.machine.specs.Demand.{◌∈◌, NoDup, Demand}
 use Rattle.machine.specs.Input.{input_number}
 use Rattle.machine.proofs.Demand.{sorted, demand-costs, demand-best, demand-none, listed-or, all-listed}
-use Rattle.machine.proofs.Lists.{here, map-mem, mem-map, map-append, nodup-front, nodup-apart, nodup-only, same-by, get_or-mem, get_d_map}
+use Rattle.machine.proofs.Lists.{here, map-mem, mem-map, map-append, nodup-only, nodup-fills, same-by, get_or-mem, get_d_map}
 use Rattle.machine.proofs.Parents.{no-best}
-use Rattle.machine.proofs.Sort.{Ordered, rises-ordered, ordered-end, ordered-across}
+use Rattle.machine.proofs.Sort.{Ordered, rises-ordered, ordered-across}
 use Rattle.search.proofs.Lists.{accepted}
 use Rattle.list_answer.specs.declared.Listed.{Listed}
 use Rattle.shortest_path.specs.Outcome.{result_of, counts_of, list_number, result_after}
 use Rattle.shortest_path.specs.Promise.{if_any, Promised}
 use Rattle.shortest_path.proofs.Outcomes.{number-zero}
 use Rattle.shortest_path.proofs.Promises.{promised}
-use Rattle.nested_costs.specs.NestedCosts.{costs, best_cost, Cheaper, Untied, reading_at, NestedCosts, ListFor, ShorterLists, Made, readings_for}
+use Rattle.nested_costs.specs.NestedCosts.{costs, best_cost, Cheaper, Untied, Parted, reading_at, NestedCosts, ListFor, ShorterLists, Made, readings_for}
 
 module _ (m : Machine) (c : Climbs m) where
   abbrev cost : Reading → Tropical
@@ -114,38 +114,29 @@ module _ (m : Machine) (c : Climbs m) where
         go f (yes z) = inr (z, f)
         go f (no z) = inl (all-listed m c n long e (omega (arith, d.size, e.size, z)) x (d.each x q))
 
-    -- ---- where no two of the first k + 1 costs are the same
-    module _ (b : k < n) (once : NoDup (take (k + 1) (costs m long))) where
-      apart : NoDup (costs m first ++ costs m (take 1 rest))
-      apart = subst NoDup (take-map cost (k + 1) long ∙ ap (costs m) (take-add k 1 long) ∙ map-append cost first (take 1 rest)) once
-
-      -- so the one behind the first k is dearer than each of them, and nothing behind them, or dearer than all, ties with one
-      untied : (x z : Reading) → z ∈ first → cost x ≡ cost z → (r : List Reading) → NoDup (costs m first ++ costs m (take 1 r)) → Ordered (costs m first ++ costs m r)
-          → (x ∈ r) ⊎ ((0 < length r) × ((y : Reading) → y ∈ r → cost y ≼ cost x))
-          → ⊥
-      untied x z q t [] u o (inl p) = Memᴰ.not-nil p
-      untied x z q t [] u o (inr p) = omega (arith, p.0)
-      untied x z q t (w ∷ r) u o p =
-          let low = ordered-across (costs m first) (costs m (w ∷ r)) o (cost z) (cost w) (map-mem cost q) (here (cost w) (costs m r)) in
-          nodup-apart (costs m first) (cost w ∷ []) u (cost z) (map-mem cost q) (Memᴰ.head (≼-antisym low (≼_trans (high p) (≼-eq t))))
-        where
-          high : (x ∈ (w ∷ r)) ⊎ ((0 < length (w ∷ r)) × ((y : Reading) → y ∈ (w ∷ r) → cost y ≼ cost x)) → cost w ≼ cost x
-          high (inl p) = elim (Memᴰ.cases_cons p) [ inl e ↦ ≼-eq (ap cost (sym e)) | inr s ↦ (ordered-end (costs m first) (costs m (w ∷ r)) o).0 (cost x) (map-mem cost s) ]
-          high (inr p) = p.1 w (here w r)
+    -- ---- where none of the first k costs stands behind them
+    module _ (b : k < n) (apart : Parted m first rest) where
+      -- so nothing behind them, or dearer than all, ties with one of them
+      untied : (x z : Reading) → z ∈ first → cost x ≡ cost z → (r : List Reading) → ((y : Reading) → y ∈ r → y ∈ rest) → (0 < length r) × ((y : Reading) → y ∈ r → cost y ≼ cost x) → ⊥
+      untied x z q t [] u p = omega (arith, p.0)
+      untied x z q t (w ∷ r) u p = let h = u w (here w r) in apart z w q h (≼-antisym (rest-dearer z w q h) (≼_trans (p.1 w (here w r)) (≼-eq t)))
 
       inside : (x : Reading) → x ∈ short → x ∈ first
       inside x q =
           let z = partner x q in
           elim (kept x q) [
-            | inl p ↦ elim (cut p) [ inl f ↦ f | inr r ↦ absurd (untied x z.0 z.1 z.2 rest apart in_order (inl r)) ]
-            | inr f ↦ absurd (untied x z.0 z.1 z.2 rest apart in_order (inr (more f.0, λ y p. f.1 y (rest-long p))))
+            | inl p ↦ elim (cut p) [ inl f ↦ f | inr r ↦ absurd (apart z.0 x z.1 r (sym z.2)) ]
+            | inr f ↦ absurd (untied x z.0 z.1 z.2 rest (λ y p. p) (more f.0, λ y p. f.1 y (rest-long p)))
           ]
         where
           more : length long ≡ n → 0 < length rest
           more e = omega (arith, b, e, length-take k long, length-append first rest, ap length (take-append-drop k long))
 
-      same : short ≡ first
-      same = same-by cost short first first-costs (λ x y p q s. nodup-only cost first (nodup-front (costs m first) (costs m (take 1 rest)) apart) x y (inside x p) q s)
+      whole : (x : Reading) → (x ∈ short → x ∈ first) × (x ∈ first → x ∈ short)
+      whole x = (inside x, nodup-fills short first d.apart inside (omega (arith, first-length)) x)
+
+      same : NoDup (take k (costs m long)) → short ≡ first
+      same once = same-by cost short first first-costs (λ x y p q s. nodup-only cost first (subst NoDup (take-map cost k long) once) x y (inside x p) q s)
 
     pub demand-nested : NestedCosts m k n short long
     demand-nested = record {
@@ -154,6 +145,7 @@ module _ (m : Machine) (c : Climbs m) where
       cheaper = cheaper;
       ranked = ranked;
       kept = kept;
+      whole = whole;
       same = same;
     }
 

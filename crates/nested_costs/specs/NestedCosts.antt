@@ -1,5 +1,5 @@
 -- Short lists and long lists of one sheet. Their costs are nested; of readings that cost the same, a short list may hold others than the front of a long one, or in another order. Definitions only.
-use Rattle.std.specs.Prelude.{◌≡◌, ℕ, ◌+◌, ◌≤◌, ◌<◌, List, [], map, take, length, get_or, Ok}
+use Rattle.std.specs.Prelude.{◌≡◌, ℕ, ◌≤◌, ◌<◌, List, [], map, take, drop, length, get_or, Ok}
 use mathlib.Core.Logic.{◌⊎◌}
 use Rattle.tropical_weight.specs.Tropical.{Tropical, ◌≼◌}
 use Rattle.sheet.specs.Machine.{Machine, machine}
@@ -28,6 +28,10 @@ Cheaper m x y = reading_cost m y ≼ reading_cost m x → ⊥
 abbrev pub Untied : Machine → Reading → Type 0
 Untied m x = (y : Reading) → IsReading m y → reading_cost m y ≡ reading_cost m x → y ≡ x
 
+-- no reading of one list costs what one of the other does
+abbrev pub Parted : Machine → List Reading → List Reading → Type 0
+Parted m l r = (x y : Reading) → x ∈ l → y ∈ r → reading_cost m x ≡ reading_cost m y → ⊥
+
 -- the reading at a place of a list, from 0, or one that stands for none
 abbrev pub reading_at : List Reading → ℕ → Reading
 reading_at l place = get_or l place (record { run = []; end = 0 })
@@ -44,8 +48,10 @@ pub record NestedCosts (m : Machine) (k n : ℕ) (short long : List Reading) : T
   pub ranked : (place : ℕ) → place < length short → Untied m (reading_at long place) → reading_at short place ≡ reading_at long place
   -- one on the shorter list is somewhere on the longer, or that is full and holds none that is dearer
   pub kept : (x : Reading) → x ∈ short → (x ∈ long) ⊎ ((length long ≡ n) × ((y : Reading) → y ∈ long → reading_cost m y ≼ reading_cost m x))
-  -- as the longer list tells it: where it asks for more, and no two of its first k + 1 costs are the same, its first k readings are the shorter list
-  pub same : k < n → NoDup (take (k + 1) (costs m long)) → short ≡ take k long
+  -- as the longer list tells it, where it asks for more: if none of its first k costs stands behind them, too, its first k readings are those of the shorter list
+  pub whole : k < n → Parted m (take k long) (drop k long) → (x : Reading) → (x ∈ short → x ∈ take k long) × (x ∈ take k long → x ∈ short)
+  -- and if besides no two of these costs are the same, they stand in its order
+  pub same : k < n → Parted m (take k long) (drop k long) → NoDup (take k (costs m long)) → short ≡ take k long
 
 -- ---- of results of the call for lists on a sheet, each with what it told
 -- the call promises this where it answers 0
