@@ -217,11 +217,11 @@ uint32_t yeldmur_shortest_distance(const uint8_t *sheet, size_t sheet_bytes,
  * Lists of one sheet are nested in their costs: for k up to n, both from 1, the costs listed for k are the first k
  * of those listed for n, or all of them where there are fewer; and the best reading, that of n = 1, if there is one,
  * costs what heads every list. Without one all are empty. Readings that tie may differ: the list for k may hold other
- * readings of its last cost than the longer one has among its first k, and those of one cost may stand in another
- * order. Of each lower cost both hold the same readings; one that costs what no other does has the same rank on both;
- * and a reading on the list for k is somewhere on the longer, unless that is full and holds none that is dearer. Where
- * k is below n, and no two of the first k + 1 costs listed for n are equal, its first k readings are the list for k.
- * A program that wants just the list for k makes the call for k. */
+ * readings of its last cost than the longer one has among its first k, and the order of those of one cost is each
+ * list's own. Of each lower cost both hold the same readings; one on the list for k that costs what no other does has
+ * the same rank on both; and each on it is somewhere on the longer, unless that is full and holds none that is dearer.
+ * Where k is below n, and the cost listed behind the first k for n, if there is one, is higher than theirs, these k
+ * readings are those of the list for k. A program that wants just the list for k makes the call for k. */
 uint32_t yeldmur_shortest_path(const uint8_t *sheet, size_t sheet_bytes, uint32_t n,
                                uint32_t *work, size_t work_words,
                                uint8_t *result, size_t result_bytes,

@@ -3,8 +3,8 @@
 read back. They are held to costs that are found here, apart from it: each reading is one of the sheet at the cost told, none stands twice, and the costs
 for n are the n least of all. Then each list is held to each longer one, as the header says: the costs for k are the first k of those for n, and the best
 path costs what heads them all; of each cost below the shorter list's last both hold the same readings; one that costs what no other does has the same rank
-on both; one on the shorter list is on the longer, or that is full and holds none that is dearer; and where no two of the first k + 1 costs for n are the
-same, its first k readings are the list for k. The order of readings that tie is for replay_lists and the oracle.
+on both; one on the shorter list is on the longer, or that is full and holds none that is dearer; and where the cost listed behind the first k for n, if
+there is one, is higher than theirs, these k readings are those of the list for k. The order of readings that tie is for replay_lists and the oracle.
 
     python3 tools/nested_judge.py [--seed S] [--machines N] [--smaller] LIBRARY.so
 
@@ -84,11 +84,11 @@ class Judge:
         if {x for x in short if x.cost < short[-1].cost} != {x for x in front if x.cost < short[-1].cost}: amiss('readings below the last cost')
         if any(x != y for x, y in zip(short, front) if y.cost in alone): amiss('a rank that nothing ties with')
         if any(x not in long and (len(long) < n or long[-1].cost > x.cost) for x in short): amiss('a reading that is not kept')
-        costs = [x.cost for x in long[:k + 1]]
-        if k < n and len(set(costs)) == len(costs):
-            if short != front: amiss('readings without ties')
-            self.figures['pairs without ties'] += 1
         self.figures['pairs of lists'] += 1
+        if len(long) <= k or long[k].cost > long[k - 1].cost:
+            if {*short} != {*front}: amiss('readings that nothing behind them ties with')
+            self.figures['where nothing behind the front ties with it'] += 1
+            self.figures['of these in another order'] += short != front
         self.figures['with other readings in front'] += short != front
         self.figures['of them with readings that the longer has not'] += any(x not in long for x in short)
 
@@ -124,7 +124,7 @@ def print_difference(judge, what, b):
     print(f'{what} differ, of a sheet of {len(b)} bytes, as sheets.py writes them:', written(b))
 
 def main():
-    seen = 'with other readings in front', 'of them with readings that the longer has not', 'pairs without ties', 'without a reading'
+    seen = 'with other readings in front', 'of them with readings that the longer has not', 'where nothing behind the front ties with it', 'without a reading'
     conduct('Holds the lists of one sheet for every n to each other.', 'machines', 60, Judge, print_difference,
             lambda judge: print(', '.join(f'{what}: {count:,}' for what, count in judge.figures.items())), judged=lambda judge: judge.figures['machines'],
             unseen=lambda judge: [what for what in seen if not judge.figures[what]], flags=[('smaller', 'goes through every machine of fewer than 88 bytes, too')])

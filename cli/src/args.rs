@@ -118,7 +118,7 @@ pub const FLAGS: [Flag; 10] = [
         long: "count",
         value: Some("COUNTS"),
         commands: &[List],
-        help: "a count up to 64, or several, as in 3,10; 10 where it is not said",
+        help: "list so many, up to 64, or several, as in 3,10; 10 if not said",
     },
     Flag {
         key: Key::Count,

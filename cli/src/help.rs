@@ -38,12 +38,13 @@ const WORDS: [Words; 9] = [
                has taken; then for each its rank, its cost as a decimal and in the sheet's own\n\
                units, 64ths or 256ths, the node where it ends, and the input labels of its links.\n\n\
                With several counts, as in -n 3,10, each list is found by itself. The longest is\n\
-               printed; a line in it, after row 3 or the last, has the counts of the list for 3.\n\
-               Below it stand the rows of the list for 3 at the ranks where the longest has another\n\
-               reading, by its links; where there are none, the list for 3 is the head of the longest.\n\n\
+               printed; a line in it, after row 3 or the last, says how many readings the list for 3\n\
+               has, and how many entries its search has taken. Below the longest stand the rows of the\n\
+               list for 3 at the ranks where it has another reading, by its links; where there are\n\
+               none, the list for 3 is the head of the longest.\n\n\
                The costs listed for a smaller count are the first of those for a larger one, or\n\
                all where there are fewer, as is proved. The shorter list may hold other readings of\n\
-               its last cost, or those of one cost in another order.",
+               its last cost; of each lower cost it holds the same.",
     },
     Words {
         command: Command::Best,
@@ -116,7 +117,7 @@ fields with --json:
 ";
 
 const JSON_SHORTER: &str =
-    "  shorter   with several counts, for each but the largest: count, readings, taken, and
+    "  shorter   with counts that differ, for each but the largest: count, readings, taken, and
             differ, its readings, as in list, at the ranks where list has another
 ";
 

@@ -23,7 +23,7 @@ Python's numbers, is plain Python with tests.
 [(112, [1, 3]), (112, [2, 4])]
 
 The front of a list is a value, too, by `List.front`: its costs are those of the list for its count, and it says whether
-ties leave open which readings that list holds, or in which order.
+that list may hold other readings of the last cost.
 
 Two sheets of the same bake give the sheet of what both allow, by `two_probes`: its readings are the pairs of readings
 with the same labels, and cost their sum. A sheet that narrows to a node, as where preheat ends, has two parts, by

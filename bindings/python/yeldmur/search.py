@@ -68,10 +68,10 @@ class Front(_Readings):
     """The count that it was made for; there may be fewer readings."""
     readings: tuple[Reading, ...]
     may_differ: bool
-    """Whether ties leave it open which readings the list for this count holds, or in which order: whether the count is
-    below the n of the list that this is the front of, and two neighbours among the first count + 1 costs of that list
-    are equal. Where it is False the list for this count holds these readings in this order, as is proved; where it is
-    True, the same costs, and of each below the last the same readings. `list_readings` for this count tells."""
+    """Whether the list for this count may hold other readings than these: whether the one behind them, on the list that
+    this is the front of, costs as much as the last of them. Where it is False that list holds just these, as is proved;
+    where it is True it holds as many of that cost, and of each lower cost the same. The order of those that cost the
+    same is each list's own; `list_readings` for this count tells."""
 
 
 @dataclass(frozen=True)
@@ -81,15 +81,15 @@ class List(_Readings):
     taken: int
     """How many entries the search has taken; 0 for n below 2, and where there is no reading."""
     readings: tuple[Reading, ...]
-    n: int
-    """The n that it was made for; there may be fewer readings."""
+    n: int = field(compare=False)
+    """The n that it was made for; there may be fewer readings. Lists are equal without it."""
 
     def front(self, count: int) -> Front:
         """The first `count` readings, or all where there are fewer. A count above the `n` that the list was made for
         is a `ValueError`, since a longer list may hold more than this one tells; so is one below 0.
 
-        Its costs are those of the list for that count, as is proved. Whether its readings are, too, tells its
-        `may_differ`.
+        Its costs are those of the list for that count, as is proved. Whether its readings are sure to be, too, tells
+        its `may_differ`.
 
         >>> sheet = Sheet.from_rows("0 1 1 1 1\\n0 2 2 2 0.5\\n1 3 3 3 0.25\\n1 2 5 5\\n2 3 4 4 0.75\\n3 0.5\\n")
         >>> listed = list_readings(sheet, 3)
@@ -97,8 +97,8 @@ class List(_Readings):
         [112, 112, 144]
         >>> listed.front(1)  # another reading costs as much
         Front(n=1, readings=(Reading(cost=112, unit=64, numbers=(0, 2), end=3),), may_differ=True)
-        >>> listed.front(2).may_differ, listed.front(3).may_differ  # the last is the list itself
-        (True, False)
+        >>> listed.front(2).may_differ, listed.front(3).may_differ  # the third is dearer; the list itself
+        (False, False)
         >>> listed.front(4)
         Traceback (most recent call last):
         ValueError: a list for 3 has fronts of 0 to 3, not of 4
@@ -116,10 +116,10 @@ class List(_Readings):
         """
         if not 0 <= count <= self.n:
             raise ValueError(f"a list for {self.n} has fronts of 0 to {self.n}, not of {count}")
-        # a reading left out may be listed instead of one that costs as much, so that the cost behind the front counts
-        costs = [reading.cost for reading in self.readings[: count + 1]]
-        tied = any(one == other for one, other in zip(costs, costs[1:]))
-        return Front(count, self.readings[:count], count < self.n and tied)
+        front, behind = self.readings[:count], self.readings[count:]
+        # one behind the front may be listed in the place of one that costs as much
+        tied = bool(front and behind) and front[-1].cost == behind[0].cost
+        return Front(count, front, tied)
 
 
 class Areas:
@@ -179,7 +179,7 @@ def list_readings(sheet: Sheet, n: int) -> List:
 
     For every smaller n, from 1, the costs listed are the first of these, or all where there are fewer, as is proved;
     and the best reading, that of n = 1, costs what heads every list. A shorter list may hold other readings of its last
-    cost, or those of one cost in another order: `List.front` tells where.
+    cost; of each lower cost it holds the same. `List.front` tells for each count whether that is open.
 
     >>> sheet = Sheet.from_rows("0 1 1 1 1\\n0 2 2 2 0.5\\n1 3 3 3 0.25\\n1 2 5 5\\n2 3 4 4 0.75\\n3 0.5\\n")
     >>> listed = list_readings(sheet, 3)

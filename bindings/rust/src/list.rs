@@ -23,8 +23,8 @@ pub fn distances(sheet: &Sheet) -> Result<Vec<Option<f32>>, Refusal> {
 /// barred is no reading.
 ///
 /// For every smaller n, from 1, the costs listed are the first of these, or all where there are fewer, as is proved; and the best reading,
-/// that of n = 1, costs what heads every list. A shorter list may hold other readings of its last cost, or those of one cost in another
-/// order: [`List::front`] tells where.
+/// that of n = 1, costs what heads every list. A shorter list may hold other readings of its last cost; of each lower cost it holds the same.
+/// [`List::front`] tells for each count whether that is open.
 pub fn list(sheet: &Sheet, n: u32) -> Result<List<'_>, Refusal> {
     let mut areas = Areas::new();
     let listed = areas.make(sheet, n)?;
@@ -204,7 +204,7 @@ impl List<'_> {
     /// The first `count` readings, or all where there are fewer. None for a count above the [`n`](List::n) that the list was made for: a
     /// longer list may hold more than this one tells.
     ///
-    /// Its costs are those of the list for that count, as is proved. Whether its readings are, too, tells [`Front::may_differ`].
+    /// Its costs are those of the list for that count, as is proved. Whether its readings are sure to be, too, tells [`Front::may_differ`].
     ///
     /// ```
     /// use yeldmur::{list, Refusal, Sheet};
@@ -215,7 +215,7 @@ impl List<'_> {
     /// let front = long.front(1).unwrap();
     /// assert_eq!((front.len(), front.reading(0).unwrap().cost()), (1, 112));
     /// assert!(front.may_differ()); // another reading costs as much
-    /// assert!(long.front(2).unwrap().may_differ()); // the two may stand in the other order
+    /// assert!(!long.front(2).unwrap().may_differ()); // the third is dearer
     /// assert!(!long.front(3).unwrap().may_differ()); // the list itself
     /// assert!(long.front(4).is_none());
     /// # Ok(())
@@ -238,15 +238,17 @@ impl List<'_> {
 
     // The front for a count up to n.
     fn first(&self, count: u32) -> Front<'_> {
-        let upto = |count: u32| &self.read.told[..self.len().min(count as usize)];
-        // a reading left out may be listed instead of one that costs as much, so that the cost behind the front counts
-        let mut pairs = upto(count + 1).windows(2);
-        let may_differ = count < self.n && pairs.any(|pair| pair[0].1.cost == pair[1].1.cost);
+        let (told, behind) = self.read.told.split_at(self.len().min(count as usize));
+        // one behind the front may be listed in the place of one that costs as much
+        let may_differ = match (told.last(), behind.first()) {
+            (Some(last), Some(next)) => last.1.cost == next.1.cost,
+            _ => false,
+        };
         Front {
             sheet: self.sheet,
             n: count,
             runs: &self.read.runs,
-            told: upto(count),
+            told,
             may_differ,
         }
     }
@@ -302,10 +304,9 @@ impl<'a> Front<'a> {
         Some(self.reading_of(told))
     }
 
-    /// Whether ties leave it open which readings the list for this count holds, or in which order: whether the count is below the n of the
-    /// list that this is the front of, and two neighbours among the first count + 1 costs of that list are equal. Where it is false the list
-    /// for this count holds these readings in this order, as is proved; where it is true, the same costs, and of each below the last the same
-    /// readings. [`list`] for this count tells.
+    /// Whether the list for this count may hold other readings than these: whether the one behind them, on the list that this is the front
+    /// of, costs as much as the last of them. Where it is false that list holds just these, as is proved; where it is true it holds as many
+    /// of that cost, and of each lower cost the same. The order of those that cost the same is each list's own; [`list`] for this count tells.
     ///
     /// ```
     /// use yeldmur::{list, Refusal, Sheet};
