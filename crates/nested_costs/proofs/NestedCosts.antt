@@ -116,7 +116,7 @@ module _ (m : Machine) (c : Climbs m) where
 
     -- ---- where none of the first k costs stands behind them
     module _ (b : k < n) (apart : Parted m first rest) where
-      -- so nothing behind them, or dearer than all, ties with one of them
+      -- so none that costs what one of them does is at least as dear as all those behind them, if there are any
       untied : (x z : Reading) → z ∈ first → cost x ≡ cost z → (r : List Reading) → ((y : Reading) → y ∈ r → y ∈ rest) → (0 < length r) × ((y : Reading) → y ∈ r → cost y ≼ cost x) → ⊥
       untied x z q t [] u p = omega (arith, p.0)
       untied x z q t (w ∷ r) u p = let h = u w (here w r) in apart z w q h (≼-antisym (rest-dearer z w q h) (≼_trans (p.1 w (here w r)) (≼-eq t)))
