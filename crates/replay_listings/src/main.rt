@@ -5,7 +5,7 @@
 
 ghost use Rattle.std.specs.Prelude.{◌≡◌, true};
 ghost use Rattle.listing.specs.Printed.{printed};
-ghost use Rattle.stored_cases.specs.Fields.{field_of};
+ghost use Rattle.stored_cases.specs.Fields.{rest_of};
 ghost use Rattle.stored_cases.specs.Parts.{bytes_told};
 
 use std::io;
@@ -25,7 +25,7 @@ fn prints(read: &[u8], text: &[u8]) -> bool
 
 // Whether the case of a line holds.
 fn holds(line: Line<'_>) -> bool
-    ensures { result ≡ true → printed (bytes_told (field_of line.entry.text.now 0) 65536) ≡ bytes_told (field_of line.entry.text.now 1) 49152 }
+    ensures { result ≡ true → printed (bytes_told (rest_of line.entry.text.now 0) 65536) ≡ bytes_told (rest_of line.entry.text.now 1) 49152 }
 {
     let mut read = [0u8; 65536];
     let mut text = [0u8; 49152];

@@ -12,17 +12,16 @@ use Rattle.replay_queues.specs.declared.calls.Answer.{Answer}
 use Rattle.replay_queues.specs.declared.calls.Unknown.{Unknown}
 use Rattle.replay_queues.specs.declared.calls.Made.{Made}
 
--- the call of a number
-abbrev pub call_of : ℕ → Result Call Unknown
+-- the call of a number: the last one's from six on
+abbrev pub call_of : ℕ → Call
 call_of n =
-    cond (n == 0) (Ok Call.Enqueue)
-    (cond (n == 1) (Ok Call.Dequeue)
-    (cond (n == 2) (Ok Call.Head)
-    (cond (n == 3) (Ok Call.Update)
-    (cond (n == 4) (Ok Call.IsEmpty)
-    (cond (n == 5) (Ok Call.Clear)
-    (cond (n == 6) (Ok Call.IsValid)
-    (Err (record {}))))))))
+    cond (n == 0) Call.Enqueue
+    (cond (n == 1) Call.Dequeue
+    (cond (n == 2) Call.Head
+    (cond (n == 3) Call.Update
+    (cond (n == 4) Call.IsEmpty
+    (cond (n == 5) Call.Clear
+    Call.IsValid)))))
 
 -- the answer of a kind and a value
 abbrev pub answer_of : ℕ → ℕ → Result Answer Unknown
@@ -35,10 +34,9 @@ answer_of kind value =
     (cond (kind == 4 && value == 1) (Ok (Answer.Test true))
     (Err (record {})))))))
 
-abbrev pub made_by : Result Call Unknown → ℕ → Result Answer Unknown → Result Made Unknown
-made_by (Ok call) node (Ok answer) = Ok (record { call = call; node = node; answer = answer })
-made_by (Ok call) node (Err e) = Err e
-made_by (Err e) node answer = Err e
+abbrev pub made_by : Call → ℕ → Result Answer Unknown → Result Made Unknown
+made_by call node (Ok answer) = Ok (record { call = call; node = node; answer = answer })
+made_by call node (Err e) = Err e
 
 -- the call of four words: its number, the node, and its answer's kind and value
 abbrev pub made_of : List ℕ → Result Made Unknown

@@ -7,7 +7,7 @@ ghost use Rattle.sheet.specs.Refusals.{number_of};
 use sheet::words::word;
 use state_order_queue::{Answered, Queue};
 
-// The calls, by their numbers.
+// The calls, by their numbers: each from the last one's on stands for it.
 #[derive(Clone, Copy)]
 pub enum Call {
     Enqueue,
@@ -30,30 +30,27 @@ pub enum Answer {
     Test(bool),
 }
 
-// A number that stands for no call, or a kind and a value that stand for no answer.
+// A kind and a value that stand for no answer.
 #[derive(Clone, Copy)]
 pub struct Unknown;
 
-impl TryFrom<u32> for Call {
-    type Error = Unknown;
-
+impl From<u32> for Call {
     ghost use Rattle.replay_queues.specs.Calls.{call_of};
 
-    ghost try_from_gives = { λ number r. r ≡ call_of number };
+    ghost from_gives = { λ number r. r ≡ call_of number };
 
-    fn try_from(number: u32) -> Result<Call, Unknown>
+    fn from(number: u32) -> Call
         ensures { result ≡ call_of number }
     {
-        Ok(match number {
+        match number {
             0 => Call::Enqueue,
             1 => Call::Dequeue,
             2 => Call::Head,
             3 => Call::Update,
             4 => Call::IsEmpty,
             5 => Call::Clear,
-            6 => Call::IsValid,
-            _ => return Err(Unknown),
-        })
+            _ => Call::IsValid,
+        }
     }
 }
 
@@ -143,7 +140,7 @@ impl Made {
         ensures { result ≡ made_of words.now }
     {
         Ok(Made {
-            call: Call::try_from(word(words, 0))?,
+            call: Call::from(word(words, 0)),
             node: word(words, 4),
             answer: Answer::try_from((word(words, 8), word(words, 12)))?,
         })

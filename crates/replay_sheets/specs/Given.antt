@@ -9,7 +9,7 @@ use Rattle.sheet.specs.Reading.{next_link, place_at}
 use Rattle.sheet.specs.Refusals.{number_in}
 use Rattle.sheet.specs.Answers.{tested}
 use Rattle.stored_cases.specs.Digits.{number_on}
-use Rattle.stored_cases.specs.Fields.{field_of}
+use Rattle.stored_cases.specs.Fields.{field_of, rest_of}
 use Rattle.stored_cases.specs.Parts.{bytes_told}
 
 -- a link with the four fields that stand at an index
@@ -25,6 +25,6 @@ Given None links at = length links ≡ at
 abbrev pub Reads : List ℕ → List ℕ → Type 0
 Reads sheet links = (k : ℕ) → link_length * k ≤ length links → Given (next_link sheet (place_at sheet k)) links (link_length * k)
 
--- the case of a line: reading the sheet in field 1 answers the number in field 0, and a link reader gives the links in field 2
+-- the case of a line: reading the sheet from field 1 on answers the number in field 0, and a link reader gives the links from field 2 on
 abbrev pub Holds : List ℕ → Type 0
-Holds line = let sheet = bytes_told (field_of line 1) 256 in (number_in (tested sheet) ≡ number_on 0 (field_of line 0)) × Reads sheet (bytes_told (field_of line 2) 256)
+Holds line = let sheet = bytes_told (rest_of line 1) 256 in (number_in (tested sheet) ≡ number_on 0 (field_of line 0)) × Reads sheet (bytes_told (rest_of line 2) 256)

@@ -3,7 +3,7 @@ use Rattle.std.proofs.Common.{◌≡◌, ℕ, zero, suc, ◌-◌, List, [], ◌�
 use Rattle.std.specs.Prelude.{Some, None}
 use Rattle.std.specs.List.{fold}
 use Rattle.stored_cases.specs.declared.bytes.Part.{Part}
-use Rattle.stored_cases.specs.declared.bytes.Part.TheVariants.{Byte, Again, Raised}
+use Rattle.stored_cases.specs.declared.bytes.Part.TheVariants.{Byte, Nothing, Again, Raised}
 use Rattle.stored_cases.specs.Parts.{part_at, size_of, led_by, parts_from, with_part, with_parts}
 
 -- those behind so many characters are those of what is left
@@ -15,6 +15,7 @@ skipped (suc k) (c ∷ text) = skipped k text
 
 cut : (part : Part) (c : ℕ) (text : List ℕ) → drop (size_of part - 1) text ≡ drop (size_of part) (c ∷ text)
 cut (Byte value) c text = refl
+cut Nothing c text = refl
 cut (Again back more) c text = refl
 cut (Raised back more) c text = refl
 

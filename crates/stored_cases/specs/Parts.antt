@@ -1,10 +1,9 @@
--- The bytes that a field of a stored case stands for, part by part. Definitions only.
-use Rattle.std.specs.Prelude.{List, [], ◌∷◌, ◌++◌, ℕ, zero, suc, ◌+◌, ◌-◌, ◌*◌, ◌/◌, ◌%◌, Option, None, Some, Bool, ◌&&◌, ◌||◌, ◌==◌, cond, leb, ltb, length, get_or, set, drop}
+-- The bytes that a line of a stored case has from a field on, part by part. Definitions only.
+use Rattle.std.specs.Prelude.{List, [], ◌∷◌, ◌++◌, ℕ, zero, suc, ◌+◌, ◌-◌, ◌*◌, ◌/◌, ◌%◌, Option, None, Some, unwrap_or, Bool, ◌&&◌, ◌||◌, ◌==◌, cond, leb, ltb, length, get_or, set, drop}
 use Rattle.std.specs.List.{fold}
-use Rattle.std.specs.Option.{option_map, option_and_then}
 use Rattle.stored_cases.specs.declared.bytes.Part.{Part}
-use Rattle.stored_cases.specs.declared.bytes.Part.TheVariants.{Byte, Again, Raised}
-use Rattle.stored_cases.specs.Digits.{byte_at}
+use Rattle.stored_cases.specs.declared.bytes.Part.TheVariants.{Byte, Nothing, Again, Raised}
+use Rattle.stored_cases.specs.Digits.{is_hex, byte_at}
 
 -- ---- the parts of a text
 
@@ -12,24 +11,31 @@ use Rattle.stored_cases.specs.Digits.{byte_at}
 abbrev pub is_mark : ℕ → Bool
 is_mark c = (c == 42) || (c == 43)
 
+-- the number of the two digits behind so many characters: 256, as no byte is, where they are none
+abbrev pub pair_behind : List ℕ → ℕ → ℕ
+pair_behind text at = unwrap_or (byte_at (drop at text)) 256
+
 -- what follows a mark: how far back, and how many more, which has three bytes, the highest first
-abbrev pub again_of : ℕ → List ℕ → Option Part
+abbrev pub again_of : ℕ → List ℕ → Part
 again_of mark text =
-    option_and_then (λ back.
-    option_and_then (λ high.
-    option_and_then (λ mid.
-    option_map (λ low.
-    let more = 65536 * high + 256 * mid + low in
-    cond (mark == 43) (Raised back more) (Again back more)) (byte_at (drop 6 text))) (byte_at (drop 4 text))) (byte_at (drop 2 text))) (byte_at text)
+    let back = pair_behind text 0 in
+    let more = 65536 * pair_behind text 2 + 256 * pair_behind text 4 + pair_behind text 6 in
+    cond (mark == 43) (Raised back more) (Again back more)
+
+-- what a digit begins: nothing where another is missing behind it
+abbrev pub byte_of : Option ℕ → Part
+byte_of None = Nothing
+byte_of (Some value) = Byte value
 
 -- the part that a text begins with
 abbrev pub part_at : List ℕ → Option Part
 part_at [] = None
-part_at (c ∷ text) = cond (is_mark c) (again_of c text) (option_map Byte (byte_at (c ∷ text)))
+part_at (c ∷ text) = cond (is_mark c) (Some (again_of c text)) (cond (is_hex c) (Some (byte_of (byte_at (c ∷ text)))) None)
 
 -- how many characters it has
 abbrev pub size_of : Part → ℕ
 size_of (Byte value) = 2
+size_of Nothing = 2
 size_of (Again back more) = 9
 size_of (Raised back more) = 9
 
@@ -46,7 +52,7 @@ parts_from zero (c ∷ text) = led_by (part_at (c ∷ text)) (λ skip. parts_fro
 
 -- ---- the bytes that they put behind those that are there
 
--- so many bytes more, each as the one that stands so many before it
+-- so many bytes more, each as the one that stands so many before it: 0, where that is itself
 unfoldable pub again : ℕ → ℕ → List ℕ → List ℕ
 again back zero bytes = bytes
 again back (suc more) bytes = again back more (bytes ++ get_or bytes (length bytes - back) 0 ∷ [])
@@ -67,11 +73,12 @@ raised_again back (suc times) bytes = raised_again back times (raised (again bac
 abbrev pub can_again : ℕ → ℕ → ℕ → ℕ → List ℕ → Bool
 can_again room least back more bytes = leb least back && leb back (length bytes) && leb (length bytes + more) room
 
--- the bytes with those of a part behind them, where there is room
+-- the bytes with those of a part behind them, where there is room: what follows whole raised parts is not raised
 abbrev pub with_part : ℕ → List ℕ → Part → List ℕ
 with_part room bytes (Byte value) = cond (ltb (length bytes) room) (bytes ++ value ∷ []) bytes
-with_part room bytes (Again back more) = cond (can_again room 1 back more bytes) (again back more bytes) bytes
-with_part room bytes (Raised back more) = cond (can_again room 4 back more bytes) (again back (more % back) (raised_again back (more / back) bytes)) bytes
+with_part room bytes Nothing = bytes
+with_part room bytes (Again back more) = cond (can_again room 0 back more bytes) (again back more bytes) bytes
+with_part room bytes (Raised back more) = cond (can_again room 4 back more bytes) (again (back * (more / back + 1)) (more % back) (raised_again back (more / back) bytes)) bytes
 
 -- the same for part after part
 unfoldable pub with_parts : ℕ → List ℕ → List Part → List ℕ

@@ -11,10 +11,18 @@ pub const RESULT_MARK: u8 = 0xa5;
 pub fn result_left(res: &[u8], bytes: &[u8]) -> bool
     ensures { result ≡ true → ResultLeft res.now bytes.now }
 {
-    match res.split_at_checked(bytes.len()) {
-        Some((used, rest)) => used == bytes && rest.iter().all(|byte| *byte == RESULT_MARK),
-        None => false,
+    // By places, and not by `all`: the compiler makes of this a loop that compares sixteen bytes at once.
+    for at in 0..res.len() {
+        let byte = if at < bytes.len() {
+            bytes[at]
+        } else {
+            RESULT_MARK
+        };
+        if res[at] != byte {
+            return false;
+        }
     }
+    bytes.len() <= res.len()
 }
 
 // Whether so many words of the work area are zero, and the others what they were before.

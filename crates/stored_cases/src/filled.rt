@@ -1,5 +1,5 @@
 // An area that is filled from its start on.
-ghost use Rattle.std.specs.Prelude.{◌≡◌, ◌+◌, ◌*◌, ◌≤◌, ◌<◌, ◌∷◌, ◌++◌, [], length};
+ghost use Rattle.std.specs.Prelude.{◌≡◌, ◌+◌, ◌*◌, ◌≤◌, ◌<◌, ◌∷◌, ◌++◌, ◌-◌, [], length, get_or};
 
 use crate::bytes::Part;
 
@@ -25,13 +25,24 @@ impl<'a> Filled<'a> {
         self.count += 1;
     }
 
+    // The byte that stands so many before the next: 0, where that is the next itself.
+    fn behind(&self, back: usize) -> u8
+        requires { back ≤ self.now.count }
+        ensures { result ≡ get_or (filled self.now) (length (filled self.now) - back) 0 }
+    {
+        if back == 0 {
+            return 0;
+        }
+        self.area[self.count - back]
+    }
+
     // Puts so many bytes more, each as the one that stands so many before it.
     fn put_again(&mut self, back: usize, more: usize)
-        requires { (0 < back) × (back ≤ self.old.count) × (self.old.count + more ≤ length self.old.area.now) }
+        requires { (back ≤ self.old.count) × (self.old.count + more ≤ length self.old.area.now) }
         ensures { Fills self.old self.new (again back more (filled self.old)) }
     {
         for turn in 0..more {
-            let value = self.area[self.count - back];
+            let value = self.behind(back);
             self.put(value);
         }
     }
@@ -76,15 +87,16 @@ impl<'a> Filled<'a> {
                     self.put(value);
                 }
             }
+            Part::Nothing => (),
             Part::Again { back, more } => {
-                if self.can_again(1, back, more) {
+                if self.can_again(0, back, more) {
                     self.put_again(back, more);
                 }
             }
             Part::Raised { back, more } => {
                 if self.can_again(4, back, more) {
                     self.put_raised(back, more / back);
-                    self.put_again(back, more % back);
+                    self.put_again(back * (more / back + 1), more % back);
                 }
             }
         }
@@ -97,7 +109,7 @@ impl<'a> Filled<'a> {
         // A while let: each part tells itself where the next begins.
         while let Some(part) = Part::of(rest) {
             self.put_part(part);
-            rest = &rest[part.size()..];
+            rest = rest.get(part.size()..).unwrap_or(&[]);
         }
     }
 }

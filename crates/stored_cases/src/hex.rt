@@ -1,6 +1,17 @@
 // Bytes in hexadecimal.
-ghost use Rattle.std.specs.Prelude.{◌≡◌, ◌≤◌, ◌<◌, length, IfSome};
-ghost use Rattle.stored_cases.specs.Digits.{byte_at};
+ghost use Rattle.std.specs.Prelude.{◌≡◌, ◌≤◌, ◌<◌, cond, Some, None, length, IfSome};
+ghost use Rattle.std.specs.Char.{digit_value};
+ghost use Rattle.stored_cases.specs.Digits.{is_hex, byte_at};
+
+// The value of a hexadecimal digit, in lower case alone: the library reads upper case too.
+pub fn digit_of(c: u8) -> Option<u32>
+    ensures { result ≡ cond (is_hex c) (Some (digit_value c)) None }
+{
+    if c.is_ascii_uppercase() {
+        return None;
+    }
+    char::from(c).to_digit(16)
+}
 
 // The byte that a text begins with, two digits. `as`, since two digits are a byte: TryFrom would have a case that
 // never comes.
@@ -10,7 +21,7 @@ pub fn byte_of(text: &[u8]) -> Option<u8>
 {
     let (high, rest) = text.split_first()?;
     let low = rest.first()?;
-    let high = char::from(*high).to_digit(16)?;
-    let low = char::from(*low).to_digit(16)?;
+    let high = digit_of(*high)?;
+    let low = digit_of(*low)?;
     Some((16 * high + low) as u8)
 }

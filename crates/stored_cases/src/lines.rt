@@ -1,7 +1,8 @@
 // The fields of a line, with a space between, and the decimal numbers in them.
 ghost use Rattle.std.specs.Prelude.{◌≡◌, ◌≤◌, length};
+ghost use Rattle.std.specs.List.{after_first};
 ghost use Rattle.stored_cases.specs.Digits.{number_on};
-ghost use Rattle.stored_cases.specs.Fields.{field_of};
+ghost use Rattle.stored_cases.specs.Fields.{is_space, field_of, rest_of};
 ghost use Rattle.stored_cases.specs.Parts.{bytes_told};
 
 use crate::bytes::bytes_of;
@@ -28,6 +29,16 @@ fn decimal(field: &[u8]) -> usize
     n
 }
 
+// What is behind a text's first space, nothing where it has none.
+fn behind_space(text: &[u8]) -> &[u8]
+    ensures { result.now ≡ after_first is_space text.now }
+{
+    match text.iter().position(|c| *c == b' ') {
+        Some(at) => &text[at + 1..],
+        None => &[],
+    }
+}
+
 impl<'a> Line<'a> {
     // The field behind so many spaces, none where there are fewer.
     pub fn field(&self, spaces: usize) -> &'a [u8]
@@ -44,11 +55,24 @@ impl<'a> Line<'a> {
         decimal(self.field(spaces))
     }
 
-    // The bytes in the field behind so many spaces, which are put into a buffer.
-    pub fn bytes<'b>(&self, spaces: usize, out: &'b mut [u8]) -> &'b [u8]
-        ensures { result.now ≡ bytes_told (field_of self.now.text.now spaces) (length out.old) }
+    // The line from that field on.
+    fn rest(&self, spaces: usize) -> &'a [u8]
+        ensures { result.now ≡ rest_of self.now.text.now spaces }
     {
-        let n = bytes_of(self.field(spaces), out);
+        let mut rest = self.text;
+        for _ in 0..spaces {
+            rest = behind_space(rest);
+        }
+        rest
+    }
+
+    // The bytes in the field behind so many spaces, which are put into a buffer. By the rest of the
+    // line: a digit alone takes the character behind it, which may be a space.
+    #[inline(always)]
+    pub fn bytes<'b>(&self, spaces: usize, out: &'b mut [u8]) -> &'b [u8]
+        ensures { result.now ≡ bytes_told (rest_of self.now.text.now spaces) (length out.old) }
+    {
+        let n = bytes_of(self.rest(spaces), out);
         &out[..n]
     }
 }

@@ -1,15 +1,29 @@
-use Rattle.std.proofs.Common.{rules, ◌≡◌, ◌↔◌, ℕ, List, get_or, ap}
-use Rattle.std.specs.Prelude.{EachIndex, IsTrue}
+use mathlib.Core.Path.{◌≡◌, sym, ap, ◌∙◌}
+use native.Mathlib.Omega.{arith}
+use borrow.Author.Count.{below_more}
+use borrow.Author.Tests.{lt-ltb, le-ltb, leb-true}
+use mathlib.Core.Bool.{Bool, cond}
+use Prim.Native.Nat.{ℕ}
+use lib.Dec.{ltb}
+use lib.ListN.{length, get_or}
 use Rattle.stored_cases.specs.Left.{result_mark}
-use Rattle.stored_cases.proofs.Parts.{each-place}
 use Rattle.stored_cases.proofs.areas.result_left.Goals as goal
+use Rattle.stored_cases.proofs.areas.result_left.Goals.{then-at-bytes, else-at-bytes}
 
-pub returns-then-eq : goal.returns-then-eq
-returns-then-eq c z =
-    let used = c.in-Some.used.now in
-    let rest = c.in-Some.rest.now in
-    let bytes = c.args.bytes.now in
-    let cut = c.in-Some.ensures.cases in
-    let same : used ≡ bytes = search rules in
-    let marked : IsTrue c.all.result ↔ EachIndex rest (λ k. get_or rest k 0 ≡ result_mark) = search rules in
-    (cut.0, each-place c.args.res.now used rest _ result_mark cut (marked.0 z) (λ i. get_or bytes i 0) (λ i l. ap (λ (xs : List ℕ). get_or xs i 0) same))
+pub loop-at-preserved : goal.loop-at-preserved
+loop-at-preserved c =
+    let a = c.args in
+    let turn = c.loop-at in
+    let joined : c.if-at-bytes.byte ≡ cond {A = ℕ} (ltb turn.at (length a.bytes.now)) (get_or a.bytes.now turn.at 0) result_mark =
+    elim c.if-at-bytes.branch [
+      | then-at-bytes w ↦ w.byte-is ∙ sym (ap {B = ℕ} (λ (b : Bool). cond b (get_or a.bytes.now turn.at 0) result_mark) (lt-ltb turn.at (length a.bytes.now) w.if-at-bytes.true))
+      | else-at-bytes w ↦ w.byte-is ∙ sym (ap {B = ℕ} (λ (b : Bool). cond b (get_or a.bytes.now turn.at 0) result_mark) (le-ltb turn.at (length a.bytes.now) w.if-at-bytes.false))
+    ] in
+    below_more (λ i. get_or a.res.now i 0 ≡ cond (ltb i (length a.bytes.now)) (get_or a.bytes.now i 0) result_mark) turn.at turn.invariant (c.if-res-at.false ∙ joined)
+
+pub returns : goal.returns
+returns c z =
+    let a = c.args in
+    let turn = c.loop-at in
+    let all : turn.at ≡ length a.res.now = omega arith in
+    (leb-true (length a.bytes.now) (length a.res.now) z, λ i b. turn.invariant i (omega (arith, all, b)))

@@ -1,26 +1,11 @@
-use Rattle.std.proofs.Common.{◌≡◌, ◌+◌, ℕ, ◌≤◌, Bool, true, false, cond, ltb, ltb-false, rules, refl, sym, ap, ◌∙◌, arith, take, drop}
-use Rattle.std.specs.Prelude.{Some, None}
+use Rattle.std.proofs.Common.{◌+◌, rules, sym, ap, ◌∙◌, arith, take, drop}
 use Rattle.std.proofs.lemmas.List.{take_all, take_rest, drop_all}
 use Rattle.std.proofs.lemmas.Iterator.{YieldsList-from_slice}
 use Rattle.std.proofs.lemmas.Iterator.Search.{position_from_yields_List}
 use Rattle.stored_cases.specs.Fields.{is_end}
+use Rattle.stored_cases.proofs.First.{found, missed}
 use borrow.Author.Tests.{tests}
 use Rattle.stored_cases.proofs.replay.split_line.Goals as goal
-
--- where the first stands that is found
-found : (p n end : ℕ) → cond (ltb p n) (Some p) None ≡ Some end → end ≡ p
-found p n end = go (ltb p n)
-  where
-    go : (b : Bool) → cond b (Some p) None ≡ Some end → end ≡ p
-    go true e = cc
-    go false e = absurd (cc)
-
-missed : (p n : ℕ) → cond (ltb p n) (Some p) None ≡ None → n ≤ p
-missed p n = go (ltb p n) refl
-  where
-    go : (b : Bool) → ltb p n ≡ b → cond b (Some p) None ≡ None → n ≤ p
-    go true h e = absurd (cc)
-    go false h e = ltb-false p n h
 
 pub returns-in-Some-clause-line : goal.returns-in-Some-clause-line
 returns-in-Some-clause-line c =

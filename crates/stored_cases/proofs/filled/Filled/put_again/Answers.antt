@@ -1,8 +1,7 @@
-use Rattle.std.proofs.Common.{◌≡◌, ◌+◌, ◌-◌, [], ◌∷◌, ◌++◌, get_or, length, sym, ap, ◌∙◌, arith}
-use Rattle.std.proofs.lemmas.List.{get_or-take}
+use Rattle.std.proofs.Common.{◌≡◌, ◌+◌, ◌-◌, [], ◌∷◌, ◌++◌, sym, ap, ◌∙◌, arith}
 use Rattle.stored_cases.specs.Parts.{again}
 use Rattle.stored_cases.specs.Filled.{filled}
-use Rattle.stored_cases.proofs.Filling.{again-more, again-end, count-filled, count-put}
+use Rattle.stored_cases.proofs.Filling.{again-more, again-end, count-put}
 use Rattle.stored_cases.proofs.filled.Filled.put_again.Goals as goal
 
 pub loop-turn-preserved : goal.loop-turn-preserved
@@ -11,10 +10,9 @@ loop-turn-preserved c =
     let back = c.args.back in
     let turn = c.loop-turn.turn in
     let inv = c.loop-turn.invariant in
-    let read : get_or s.area.now (s.count - back) 0 ≡ get_or (filled s) (length (filled s) - back) 0 = sym (get_or-take s.count s.area.now (s.count - back) 0 (omega arith)) ∙ ap (λ n. get_or (filled s) (n - back) 0) (count-filled s) in
     record {
       told =
-          ap (again back (c.args.more - (turn + 1))) (c.put.ensures.bytes_are ∙ ap (λ b. filled s ++ b ∷ []) read)
+          ap (again back (c.args.more - (turn + 1))) (c.put.ensures.bytes_are ∙ ap (λ b. filled s ++ b ∷ []) c.behind-value.ensures)
           ∙ sym (again-more back c.args.more turn (filled s) c.loop-turn-test.true)
           ∙ inv.told;
       count = omega (arith, count-put s c.put.new.self _ c.put.ensures, inv.count);

@@ -10,4 +10,5 @@ put_again-requires-then-can_again-2 c =
     let more = c.in-Raised.more in
     let count : n.count ≡ s.count + more / back * back = count-raised_again s n back (more / back) c.put_raised.ensures in
     let fits : (4 ≤ back) × (back ≤ s.count) × (s.count + more ≤ length s.area.now) = search rules in
-    (omega arith, omega arith, omega (arith, c.put_raised.ensures.room))
+    let before : back * (more / back + 1) ≡ more / back * back + back = grind arith in
+    (omega (arith, before), omega (arith, c.put_raised.ensures.room))
