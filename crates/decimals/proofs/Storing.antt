@@ -1,10 +1,11 @@
 -- A text stored in an area, and texts stored one after the other as one text. Assumes nothing.
 use mathlib.Core.Path.{◌≡◌, refl, sym, ap, ◌∙◌}
-use mathlib.Core.List.{List, ◌++◌, append_assoc}
-use Prim.Native.Nat.{ℕ, ◌+◌, ◌-◌, ◌≤◌}
+use mathlib.Core.List.{List, [], ◌∷◌, ◌++◌, append_assoc}
+use Prim.Native.Nat.{ℕ, ◌+◌, ◌-◌, ◌≤◌, ◌<◌}
+use native.Mathlib.Numerals.{add-one}
 use native.Mathlib.Omega.{arith}
-use lib.ListN.{length, take, drop, length-append}
-use lib.Seq.{sets, sets-eq, take_at, length-take-le}
+use lib.ListN.{length, take, drop, get_or, set, length-append}
+use lib.Seq.{sets, sets-eq, take_at, take-suc, length-take-le}
 use borrow.Rule.Slice.PartMut.{put_mid}
 use Rattle.std.proofs.lemmas.Slice.{put_mid-paste}
 use Rattle.std.proofs.lemmas.List.Edits.{paste_all}
@@ -25,6 +26,15 @@ puts_then {old} {a} {b} {at = at} p q = record {
   stored = q.stored ∙ (λ i. sets (p.stored i) (p.ends i) b) ∙ sym (sets-append old at a b);
   ends = omega (arith, p.ends, q.ends, length-append a b);
 }
+
+-- one byte more of a text
+pub sets_more : (old : List ℕ) (at : ℕ) (text : List ℕ) (i : ℕ) → i < length text
+    → set (sets old at (take i text)) (at + i) (get_or text i 0) ≡ sets old at (take (i + 1) text)
+sets_more old at text i h =
+    let front = take i text in
+    ap (λ (k : ℕ). set (sets old at front) (at + k) (get_or text i 0)) (sym (length-take-le i text (omega arith)))
+    ∙ sym (sets-append old at front (get_or text i 0 ∷ []))
+    ∙ ap (sets old at) (sym (ap (λ (k : ℕ). take k text) (add-one i) ∙ take-suc text i 0 h))
 
 -- copied into its place
 pub copied-sets : (old part text : List ℕ) (at : ℕ) → part ≡ text → at + length text ≤ length old → put_mid at (at + length text - at) old part ≡ sets old at text

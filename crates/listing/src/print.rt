@@ -1,6 +1,6 @@
 // The whole text that the listing program prints, in a byte area; the areas for the list are on the
 // stack.
-ghost use Rattle.std.specs.Prelude.{◌≡◌, ℕ, ◌≤◌, ◌<◌, [], length, get_or, IfOk};
+ghost use Rattle.std.specs.Prelude.{◌≡◌, ℕ, ◌≤◌, ◌<◌, [], length, get_or, MatchResult};
 ghost use Rattle.io.specs.Counts.{IsPrefixLen};
 ghost use Rattle.sheet.specs.Refusals.{number_of, number_in};
 ghost use Rattle.shortest_path.specs.Outcome.{tested_number};
@@ -8,7 +8,7 @@ ghost use Rattle.decimals.specs.Stored.{Puts};
 ghost use Rattle.read_back.specs.Promise.{IsAnswer};
 ghost use Rattle.listing.specs.Printed.{sheet_most, list_most, text_most, listing_number, listed_text, printing_number, printing_text, printed};
 
-use crate::text::{Page, put_first_line, put_line, refused_text};
+use crate::text::{Page, put_first_line, put_line, put_refused};
 use decimals::write;
 use list_answer::Listed;
 use machine::climbing::Machine;
@@ -70,28 +70,28 @@ impl<'a> List<'a> {
         }
     }
 
-    // The text of the list.
-    fn text(&self) -> Page
-        ensures { result ≡ first_line (length (list_for (machine_for self.now.sheet.now) self.now.n)) self.now.made.taken ++ reading_lines (machine_for self.now.sheet.now) 1 (list_for (machine_for self.now.sheet.now) self.now.n) }
+    // The text of the list, on an empty page.
+    fn put_text(&self, page: &mut Page)
+        requires empty { page.old ≡ [] }
+        ensures { page.new ≡ first_line (length (list_for (machine_for self.now.sheet.now) self.now.n)) self.now.made.taken ++ reading_lines (machine_for self.now.sheet.now) 1 (list_for (machine_for self.now.sheet.now) self.now.n) }
     {
-        let mut page = Page::new();
         let (nodes, links) = (self.made.nodes, self.made.links);
         // nor is it refused how many they are
         if let Ok(count) = count_readings(self.res, self.n, nodes, links) {
-            put_first_line(&mut page, count, self.made.taken);
+            put_first_line(page, count, self.made.taken);
             for k in 0..count {
-                self.put_reading(k, &mut page);
+                self.put_reading(k, page);
             }
         }
-        page
     }
 }
 
-// The text for a sheet and an n that the areas are long enough for, or 1, 14 and 2 to 7.
-fn list_few(sheet: &[u8], n: u32) -> Result<Page, Refusal>
-    requires { (n ≤ list_most) × (length sheet.now ≤ sheet_most) }
+// Puts the text for a sheet and an n that the areas are long enough for on an empty page, or tells 1, 14 and 2 to 7.
+fn list_few(sheet: &[u8], n: u32, page: &mut Page) -> Result<(), Refusal>
+    requires few { (n ≤ list_most) × (length sheet.now ≤ sheet_most) }
+    requires empty { page.old ≡ [] }
     ensures number { number_in result ≡ listing_number n sheet.now }
-    ensures text { IfOk result (λ page. page ≡ listed_text n sheet.now) }
+    ensures text { MatchResult result (λ _. page.new ≡ listed_text n sheet.now) (λ _. page.new ≡ []) }
 {
     let mut work = [0u32; WORK];
     let mut result = [0u8; RESULT];
@@ -102,7 +102,8 @@ fn list_few(sheet: &[u8], n: u32) -> Result<Page, Refusal>
         res: &result,
         made,
     };
-    Ok(list.text())
+    list.put_text(page);
+    Ok(())
 }
 
 // The refusal of an n that there are no areas for, after tests 1, 14 and 2 to 7.
@@ -121,10 +122,11 @@ fn refusal(sheet: &[u8], n: u32) -> Refusal
     }
 }
 
-// The list of all that was read, one byte n and then a sheet, or why it is refused.
-fn list_read(read: &[u8]) -> Result<Page, Refusal>
+// Puts the list of all that was read, one byte n and then a sheet, on an empty page, or tells why it is refused.
+fn list_read(read: &[u8], page: &mut Page) -> Result<(), Refusal>
+    requires { page.old ≡ [] }
     ensures number { number_in result ≡ printing_number read.now }
-    ensures text { IfOk result (λ page. page ≡ printing_text read.now) }
+    ensures text { MatchResult result (λ _. page.new ≡ printing_text read.now) (λ _. page.new ≡ []) }
 {
     let Some((first, sheet)) = read.split_first() else {
         return Err(Refusal::Layout);
@@ -136,15 +138,19 @@ fn list_read(read: &[u8]) -> Result<Page, Refusal>
     if LIST_MOST < n {
         return Err(refusal(sheet, n));
     }
-    list_few(sheet, n)
+    list_few(sheet, n, page)
 }
 
-// The text for all that was read, one byte n and then a sheet; answers its length.
+// The text for all that was read, one byte n and then a sheet; answers its length. One page for all of it: a page that
+// is handed on by value is copied whole.
 pub fn print(read: &[u8], out: &mut [u8]) -> usize
     requires { text_most ≤ length out.old }
     ensures puts { Puts out.old 0 (printed read.now) out.new result }
     ensures prefix_len { IsPrefixLen result out.new }
 {
-    let page = list_read(read).unwrap_or_else(refused_text);
+    let mut page = Page::new();
+    if let Err(refusal) = list_read(read, &mut page) {
+        put_refused(&mut page, refusal);
+    }
     write::put_text(out, 0, page.bytes())
 }

@@ -21,7 +21,7 @@ pub fn put_cost(page: &mut Page, cost: i32)
     ensures upper_bound { length page.new ≤ length page.old + 11 }
 {
     page.put_sign(cost);
-    page.put_decimal(cost.unsigned_abs());
+    page.put_decimal(tropical_weight::magnitude(cost));
 }
 
 // The first line: how many readings are listed, and how many entries were taken.
@@ -38,14 +38,14 @@ pub fn put_first_line(page: &mut Page, readings: u32, taken: u32)
 }
 
 // The text of a refusal, a line.
-pub fn refused_text(refusal: Refusal) -> Page
-    ensures { result ≡ refused_line (number_of refusal) }
+pub fn put_refused(page: &mut Page, refusal: Refusal)
+    requires { length page.old + 19 ≤ text_most }
+    ensures text { page.new ≡ page.old ++ refused_line (number_of refusal) }
+    ensures upper_bound { length page.new ≤ length page.old + 19 }
 {
-    let mut page = Page::new();
     page.put_text(b"refused ");
     page.put_decimal(u32::from(refusal));
     page.put_text(b"\n");
-    page
 }
 
 // A label of a reading, after a space. Apart from the rows' number: a space stands before it here, a

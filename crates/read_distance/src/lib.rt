@@ -18,7 +18,7 @@ fn reached_at(bits: u32, unit: Unit) -> Result<Option<i32>, Refusal>
     ensures { result ≡ pattern_tells (places unit) bits }
 {
     let units = tropical_weight::cost(unit, tropical_weight::from_bits(bits));
-    if SUM_LIMIT < units.unsigned_abs() {
+    if SUM_LIMIT < tropical_weight::magnitude(units) {
         return Err(Refusal::NoAnswer);
     }
     if tropical_weight::to_bits(tropical_weight::from_units(unit, units)) != bits {
@@ -41,6 +41,7 @@ fn distance_of(mark: u32, bits: u32, unit: Unit) -> Result<Option<i32>, Refusal>
 // The distance of a node, or none of an unreached one, from a result that is said to hold so many values:
 // refused where the result is shorter, where the node is not among them, and where its words are no
 // distance. The count is what a caller from C was told, and is tested.
+#[inline(always)]
 pub fn distance_at(res: &[u8], values: u32, node: u32, unit: Unit) -> Result<Option<i32>, Refusal>
     ensures value { result ≡ distance_told (places unit) res.now values node }
     ensures read_back { ReadBack (places unit) res.now values node result }

@@ -11,8 +11,8 @@ use lib.IntN.{pos}
 use lib.ListN.{length, drop, length-drop}
 use borrow.Author.Tests.{lt-ltb, le-ltb}
 use Rattle.std.specs.Option.{option_map}
-use Rattle.text_rows.specs.Fields.{finite, weight_of}
-use Rattle.text_rows.specs.Rows.{Row, row_by}
+use Rattle.text_rows.specs.Fields.{Weight, finite, number_of, weight_of}
+use Rattle.text_rows.specs.Rows.{Row, final_by, link_by, row_by}
 use Rattle.row_reader.specs.Runs.{not_newline}
 use Rattle.row_reader.specs.Places.{line_end, row_fields, FieldGiven}
 use Rattle.row_reader.specs.RowReading.{row_read, read_to, row_at}
@@ -55,10 +55,66 @@ pub six_row : (s t i o w x : List ℕ) (xs : List (List ℕ)) → row_for (s ∷
 unfolding row_by
 six_row s t i o w x xs = refl
 
--- an absent weight is 0
-pub no_weight : weight_of (48 ∷ []) ≡ Some (finite (pos 0))
-unfolding weight_of
-no_weight = refl
+-- a number that is not read, whatever fields follow it
+module _ (s : List ℕ) where
+  pub first_unread : (fs : List (List ℕ)) → number_of s ≡ None → row_for (s ∷ fs) ≡ None
+  unfolding row_by
+  first_unread [] e = ap (λ (n : Option ℕ). option_map row_read (final_by n (Some (finite (pos 0))))) e
+  first_unread (w ∷ []) e = ap (λ (n : Option ℕ). option_map row_read (final_by n (weight_of w))) e
+  first_unread (t ∷ i ∷ []) e = refl
+  first_unread (t ∷ i ∷ o ∷ []) e = ap (λ (n : Option ℕ). option_map row_read (link_by n (number_of t) (number_of i) (number_of o) (Some (finite (pos 0))))) e
+  first_unread (t ∷ i ∷ o ∷ w ∷ []) e = ap (λ (n : Option ℕ). option_map row_read (link_by n (number_of t) (number_of i) (number_of o) (weight_of w))) e
+  first_unread (t ∷ i ∷ o ∷ w ∷ x ∷ xs) e = refl
+
+without_second : (s i o : Option ℕ) (w : Option Weight) → link_by s None i o w ≡ None
+without_second None i o w = refl
+without_second (Some a) i o w = refl
+
+without_third : (s t o : Option ℕ) (w : Option Weight) → link_by s t None o w ≡ None
+without_third None t o w = refl
+without_third (Some a) None o w = refl
+without_third (Some a) (Some b) o w = refl
+
+without_fourth : (s t i : Option ℕ) (w : Option Weight) → link_by s t i None w ≡ None
+without_fourth None t i w = refl
+without_fourth (Some a) None i w = refl
+without_fourth (Some a) (Some b) None w = refl
+without_fourth (Some a) (Some b) (Some c) w = refl
+
+module _ (s t i : List ℕ) where
+  -- where the numbers of a link make no row, whatever the fourth is
+  later_unread : (fs : List (List ℕ)) → ((o : List ℕ) (w : Option Weight) → link_by (number_of s) (number_of t) (number_of i) (number_of o) w ≡ None) → row_for (s ∷ t ∷ i ∷ fs) ≡ None
+  unfolding row_by
+  later_unread [] h = refl
+  later_unread (o ∷ []) h = ap (option_map row_read) (h o (Some (finite (pos 0))))
+  later_unread (o ∷ w ∷ []) h = ap (option_map row_read) (h o (weight_of w))
+  later_unread (o ∷ w ∷ x ∷ xs) h = refl
+
+  pub second_unread : (fs : List (List ℕ)) → number_of t ≡ None → row_for (s ∷ t ∷ i ∷ fs) ≡ None
+  second_unread fs e =
+      later_unread fs (λ (o : List ℕ) (w : Option Weight). ap (λ (n : Option ℕ). link_by (number_of s) n (number_of i) (number_of o) w) e ∙ without_second (number_of s) (number_of i) (number_of o) w)
+
+  pub third_unread : (fs : List (List ℕ)) → number_of i ≡ None → row_for (s ∷ t ∷ i ∷ fs) ≡ None
+  third_unread fs e =
+      later_unread fs (λ (o : List ℕ) (w : Option Weight). ap (λ (n : Option ℕ). link_by (number_of s) (number_of t) n (number_of o) w) e ∙ without_third (number_of s) (number_of t) (number_of o) w)
+
+  pub fourth_unread : (o : List ℕ) (fs : List (List ℕ)) → number_of o ≡ None → row_for (s ∷ t ∷ i ∷ o ∷ fs) ≡ None
+  unfolding row_by
+  fourth_unread o [] e =
+      ap (λ (n : Option ℕ). option_map row_read (link_by (number_of s) (number_of t) (number_of i) n (Some (finite (pos 0))))) e
+      ∙ ap (option_map row_read) (without_fourth (number_of s) (number_of t) (number_of i) (Some (finite (pos 0))))
+  fourth_unread o (w ∷ []) e =
+      ap (λ (n : Option ℕ). option_map row_read (link_by (number_of s) (number_of t) (number_of i) n (weight_of w))) e
+      ∙ ap (option_map row_read) (without_fourth (number_of s) (number_of t) (number_of i) (weight_of w))
+  fourth_unread o (w ∷ x ∷ xs) e = refl
+
+-- the rows of numbers that are read; one without a weight computes to that of weight 0
+pub node_known : (v : List ℕ) {a : ℕ} (w : Option Weight) → number_of v ≡ Some a → option_map row_read (final_by (Some a) w) ≡ option_map row_read (final_by (number_of v) w)
+node_known v w e = ap (λ (n : Option ℕ). option_map row_read (final_by n w)) (sym e)
+
+pub numbers_known : (s t i o : List ℕ) {a b c d : ℕ} (w : Option Weight) → number_of s ≡ Some a → number_of t ≡ Some b → number_of i ≡ Some c → number_of o ≡ Some d
+    → option_map row_read (link_by (Some a) (Some b) (Some c) (Some d) w) ≡ option_map row_read (link_by (number_of s) (number_of t) (number_of i) (number_of o) w)
+numbers_known s t i o w p q r u = sym (λ j. option_map row_read (link_by (p j) (q j) (r j) (u j) w))
 
 -- ---- a row and its end
 pub line-most : (text : List ℕ) (at : ℕ) → at ≤ length text → line_end text at ≤ length text

@@ -1,11 +1,11 @@
--- A run at the front of a list is std's longest prefix that passes. Assumes nothing.
+-- A run at the front of a list is std's longest prefix that passes; a run at a place of it. Assumes nothing.
 use mathlib.Core.Path.{◌≡◌, refl, ap, ◌∙◌}
 use mathlib.Core.Bool.{Bool, true, false, cond}
 use mathlib.Core.List.{List, [], ◌∷◌}
-use Prim.Native.Nat.{ℕ, suc, ◌+◌, ◌-◌, ◌≤◌}
+use Prim.Native.Nat.{ℕ, suc, ◌+◌, ◌-◌, ◌≤◌, ◌<◌}
 use native.Mathlib.Omega.{arith}
-use lib.ListN.{length, take, drop, length-drop}
-use lib.Seq.{take_all}
+use lib.ListN.{length, get_or, take, drop, length-drop, drop_of_length-le}
+use lib.Seq.{take_all, drop-cons}
 use Rattle.std.specs.List.{prefix_len}
 use Rattle.text_rows.specs.Fields.{is_blank}
 use Rattle.row_reader.specs.Runs.{run_of, in_field}
@@ -36,15 +36,34 @@ run-most p (c ∷ cs) = go (p c) (run-most p cs)
     go true h = omega arith
     go false h = omega arith
 
--- a run at a place
-run_at : (p : ℕ → Bool) (text : List ℕ) (at n : ℕ) → n ≡ prefix_len p (rest_of at text) → n ≡ run_of p (drop at text)
-run_at p text at n e = e ∙ run-prefix p (rest_of at text) ∙ ap (run_of p) (rest-is at text)
+-- a run at a place of a list: one longer where the byte there passes, else at its end
+module _ (p : ℕ → Bool) (l : List ℕ) (i : ℕ) where
+  run_at : i < length l → run_of p (drop i l) ≡ cond (p (get_or l i 0)) (suc (run_of p (drop (suc i) l))) 0
+  unfolding run_of
+  run_at h = ap (run_of p) (drop-cons l i 0 h)
+
+  pub run_on : i < length l → p (get_or l i 0) ≡ true → i + run_of p (drop i l) ≡ i + 1 + run_of p (drop (i + 1) l)
+  run_on h e =
+      let more = run_at h ∙ ap (λ (b : Bool). cond b (suc (run_of p (drop (suc i) l))) 0) e in
+      let same : drop (suc i) l ≡ drop (i + 1) l = ap (λ (k : ℕ). drop k l) (let z : suc i ≡ i + 1 = omega arith in z) in
+      omega (arith, more, ap (run_of p) same)
+
+  pub run-stops : i < length l → p (get_or l i 0) ≡ false → i + run_of p (drop i l) ≡ i
+  run-stops h e = omega (arith, run_at h ∙ ap (λ (b : Bool). cond b (suc (run_of p (drop (suc i) l))) 0) e)
+
+  pub run_ends : length l ≤ i → i + run_of p (drop i l) ≡ i
+  unfolding run_of
+  run_ends h = omega (arith, ap (run_of p) (drop_of_length-le l h))
+
+-- a run at a place, by std's prefix of what is left
+run_left : (p : ℕ → Bool) (text : List ℕ) (at n : ℕ) → n ≡ prefix_len p (rest_of at text) → n ≡ run_of p (drop at text)
+run_left p text at n e = e ∙ run-prefix p (rest_of at text) ∙ ap (run_of p) (rest-is at text)
 
 -- the blanks at a place and the field behind them
 pub spans : (text : List ℕ) (at b f : ℕ) → at ≤ length text → b ≡ prefix_len is_blank (rest_of at text) → f ≡ prefix_len in_field (rest_of (at + b) text) → Spans text at (at + b) (at + b + f)
 spans text at b f h p q =
-    let blanks = run_at is_blank text at b p in
-    let field = run_at in_field text (at + b) f q in
+    let blanks = run_left is_blank text at b p in
+    let field = run_left in_field text (at + b) f q in
     record {
       begins = omega arith;
       ends = omega arith;

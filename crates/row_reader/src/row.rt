@@ -1,7 +1,7 @@
 // A row of a text.
-ghost use Rattle.std.specs.Prelude.{◌≡◌, ◌≤◌, length, IfSome};
+ghost use Rattle.std.specs.Prelude.{◌≡◌, ◌≤◌, length, Some, IfSome};
 ghost use Rattle.std.specs.Option.{option_map};
-ghost use Rattle.text_rows.specs.Fields.{number_of, weight_of};
+ghost use Rattle.text_rows.specs.Fields.{weight_of};
 ghost use Rattle.text_rows.specs.Rows.{final_by, link_by, row_by};
 ghost use Rattle.row_reader.specs.Places.{line_end, row_fields};
 ghost use Rattle.row_reader.specs.RowReading.{row_read, row_at};
@@ -33,26 +33,21 @@ pub struct Read {
     pub end: usize,
 }
 
-// An absent weight is 0.
-const NO_WEIGHT: [u8; 1] = [b'0'];
+// An absent weight is 0: the value, and no field that is read at each row without one.
+const NO_WEIGHT: Weight = Weight::Units(0);
 
-// A final row by its fields.
-fn final_of(node: &[u8], weight: &[u8]) -> Option<Row>
-    ensures { result ≡ option_map row_read (final_by (number_of node.now) (weight_of weight.now)) }
+// A final row by its node and its weight's field.
+fn final_of(node: u32, weight: &[u8]) -> Option<Row>
+    ensures { result ≡ option_map row_read (final_by (Some node) (weight_of weight.now)) }
 {
-    let node = number_in(node)?;
     let weight = weight_in(weight)?;
     Some(Row::Final { node, weight })
 }
 
-// A link by its fields.
-fn link_of(s: &[u8], t: &[u8], i: &[u8], o: &[u8], w: &[u8]) -> Option<Row>
-    ensures { result ≡ option_map row_read (link_by (number_of s.now) (number_of t.now) (number_of i.now) (number_of o.now) (weight_of w.now)) }
+// A link by its numbers and its weight's field.
+fn link_of(source: u32, next: u32, ilabel: u32, olabel: u32, w: &[u8]) -> Option<Row>
+    ensures { result ≡ option_map row_read (link_by (Some source) (Some next) (Some ilabel) (Some olabel) (weight_of w.now)) }
 {
-    let source = number_in(s)?;
-    let next = number_in(t)?;
-    let ilabel = number_in(i)?;
-    let olabel = number_in(o)?;
     let weight = weight_in(w)?;
     Some(Row::Link(Link {
         source,
@@ -63,25 +58,39 @@ fn link_of(s: &[u8], t: &[u8], i: &[u8], o: &[u8], w: &[u8]) -> Option<Row>
     }))
 }
 
-// The row of all fields that are left: `at` is its end then.
+// The row of all fields that are left: `at` is its end then. A number is read as soon as it is
+// known for one, so that four values are held until the row's end and not four slices.
 fn row_of(fields: &mut Fields) -> Option<Row>
     ensures row { result ≡ option_map row_read (row_by (row_fields fields.old.text.now fields.old.at)) }
     ensures end { IfSome result (λ _. fields.new.at ≡ line_end fields.old.text.now fields.old.at) }
 {
     let first = fields.next_field()?;
+    let node = number_in(first)?;
     let Some(second) = fields.next_field() else {
-        return final_of(first, &NO_WEIGHT);
+        return Some(Row::Final {
+            node,
+            weight: NO_WEIGHT,
+        });
     };
     let Some(third) = fields.next_field() else {
-        return final_of(first, second);
+        return final_of(node, second);
     };
+    let next = number_in(second)?;
+    let ilabel = number_in(third)?;
     let fourth = fields.next_field()?;
+    let olabel = number_in(fourth)?;
     let Some(fifth) = fields.next_field() else {
-        return link_of(first, second, third, fourth, &NO_WEIGHT);
+        return Some(Row::Link(Link {
+            source: node,
+            next,
+            ilabel,
+            olabel,
+            weight: NO_WEIGHT,
+        }));
     };
     match fields.next_field() {
         Some(_) => None,
-        None => link_of(first, second, third, fourth, fifth),
+        None => link_of(node, next, ilabel, olabel, fifth),
     }
 }
 

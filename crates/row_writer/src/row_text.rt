@@ -9,6 +9,7 @@ ghost use Rattle.row_writer.specs.Room.{part_most, magnitude_most, units_most, w
 ghost use Rattle.text_rows.specs.Written.{part_text, magnitude_text, weight_text, field_text, and_number, and_weight, link_row, final_row};
 
 use decimals::text::Text;
+use decimals::write::decimal_length;
 use sheet::accepted::Sheet;
 use sheet::tr::BARRED;
 use tropical_weight::UNITS;
@@ -62,7 +63,7 @@ fn put_units(row: &mut Row, units: i32)
     ensures upper_bound { length row.new ≤ length row.old + units_most }
 {
     row.put_sign(units);
-    put_magnitude(row, units.unsigned_abs());
+    put_magnitude(row, tropical_weight::magnitude(units));
 }
 
 // A weight, by its field.
@@ -124,6 +125,25 @@ pub fn link_row(sheet: &Sheet, v: u32, l: u32) -> Row
     row
 }
 
+// How long the row of link l of node v is. Of its text the weight alone is made: that of a number is not needed for its
+// length.
+pub fn link_length(sheet: &Sheet, v: u32, l: u32) -> usize
+    requires within { l < sheet.now.links }
+    requires short { sheet.now.form ≡ Form.Short }
+    ensures value { result ≡ length (link_row (parts_of sheet.now.bytes.now) v l) }
+    ensures upper_bound { result ≤ row_most }
+{
+    let k = sheet.link(l);
+    let mut weight = Row::new();
+    put_weight(&mut weight, sheet.link_bits(l));
+    let numbers = decimal_length(v)
+        + decimal_length(k.nextstate)
+        + decimal_length(k.ilabel)
+        + decimal_length(k.olabel);
+    // a tab before each number but the first, and the end of the row
+    numbers + 3 + weight.len() + 1
+}
+
 // The final row of node v; nothing where it has no mark.
 pub fn final_row(sheet: &Sheet, v: u32) -> Row
     requires within { v < sheet.now.nodes }
@@ -139,4 +159,19 @@ pub fn final_row(sheet: &Sheet, v: u32) -> Row
     put_weight(&mut row, bits);
     row.put_byte(b'\n');
     row
+}
+
+// How long the final row of node v is, of whose text the weight alone is made.
+pub fn final_length(sheet: &Sheet, v: u32) -> usize
+    requires within { v < sheet.now.nodes }
+    requires short { sheet.now.form ≡ Form.Short }
+    ensures value { result ≡ length (final_row (parts_of sheet.now.bytes.now) v) }
+    ensures upper_bound { result ≤ row_most }
+{
+    let Some(bits) = sheet.final_bits(v) else {
+        return 0;
+    };
+    let mut weight = Row::new();
+    put_weight(&mut weight, bits);
+    decimal_length(v) + weight.len() + 1
 }

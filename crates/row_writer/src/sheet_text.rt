@@ -9,7 +9,7 @@ ghost use Rattle.decimals.specs.Stored.{Puts};
 ghost use Rattle.text_rows.specs.Written.{node_rows, text_of, has_rows};
 ghost use Rattle.row_writer.specs.Room.{row_most};
 
-use crate::row_text::{final_row, link_row};
+use crate::row_text::{final_length, final_row, link_length, link_row};
 use decimals::write::put_text;
 use sheet::accepted::Sheet;
 use sheet::source::{Source, Sources};
@@ -20,9 +20,9 @@ fn length_of(source: &Source) -> usize
     ensures value { result ≡ length (node_rows (parts_of source.now.sheet.bytes.now) source.now.node) }
     ensures upper_bound { result ≤ row_most * count_at source.now.sheet.bytes.now source.now.sheet.links source.now.node + row_most }
 {
-    let mut size = final_row(&source.sheet, source.node).len();
+    let mut size = final_length(&source.sheet, source.node);
     for i in 0..source.count() {
-        size += link_row(&source.sheet, source.node, source.first + i).len();
+        size += link_length(&source.sheet, source.node, source.first + i);
     }
     size
 }

@@ -18,12 +18,12 @@ use Rattle.read_distance.proofs.reached_at.Goals as goal
 is-cost : (unit bits : ℕ) (x : Float) (z : ℤ) → SFits w32 z → x ≡ of_bits binary32 bits → Costs unit x z → Costs unit (of_bits binary32 bits) (to_z w32 (of_z w32 z))
 is-cost unit bits x z fits from costs = subst (λ (y : Float). Costs unit y (to_z w32 (of_z w32 z))) from (subst (λ (k : ℤ). Costs unit x k) (sym (to_z-of_z w32 z fits)) costs)
 
-pub returns-then-unsigned_abs-gt-SUM_LIMIT : goal.returns-then-unsigned_abs-gt-SUM_LIMIT
-returns-then-unsigned_abs-gt-SUM_LIMIT c =
+pub returns-then-magnitude-gt-SUM_LIMIT : goal.returns-then-magnitude-gt-SUM_LIMIT
+returns-then-magnitude-gt-SUM_LIMIT c =
     let bits = c.args.bits in
     let unit = places c.args.unit in
     let cost = c.cost-units in
-    too_many unit (covered c.args.unit) bits (omega arith) (to_z w32 (of_z w32 cost.result)) (is-cost unit bits c.from_bits.result cost.result (sfits_of cost.type_inv) c.from_bits.ensures cost.ensures) (subst (λ (n : ℕ). sum_limit < n) c.unsigned_abs.ensures.value c.if-unsigned_abs-gt-SUM_LIMIT.true)
+    too_many unit (covered c.args.unit) bits (omega arith) (to_z w32 (of_z w32 cost.result)) (is-cost unit bits c.from_bits.result cost.result (sfits_of cost.type_inv) c.from_bits.ensures cost.ensures) (subst (λ (n : ℕ). sum_limit < n) c.magnitude.ensures c.if-magnitude-gt-SUM_LIMIT.true)
 
 pub returns-then-to_bits-bits : goal.returns-then-to_bits-bits
 returns-then-to_bits-bits c =
@@ -38,5 +38,5 @@ returns c =
     let bits = c.args.bits in
     let unit = places c.args.unit in
     let pattern = c.to_bits.ensures ∙ ap (to_bits binary32) c.from_units.ensures in
-    let few = subst (λ (n : ℕ). n ≤ sum_limit) c.unsigned_abs.ensures.value c.if-unsigned_abs-gt-SUM_LIMIT.false in
+    let few = subst (λ (n : ℕ). n ≤ sum_limit) c.magnitude.ensures c.if-magnitude-gt-SUM_LIMIT.false in
     pattern-told unit (covered c.args.unit) bits (omega arith) (to_z w32 (of_z w32 c.cost-units.result)) few (sym pattern ∙ c.if-to_bits-bits.false)

@@ -14,6 +14,6 @@ returns-clause-text c =
     let cost = c.args.cost in
     let old = c.args.page.now in
     let read = to_z-of_z w32 cost c.ranges.cost in
-    let size : c.unsigned_abs.result ≡ nat_abs cost = c.unsigned_abs.ensures.value ∙ ap nat_abs read in
+    let size : c.magnitude.result ≡ nat_abs cost = c.magnitude.ensures ∙ ap nat_abs read in
     c.put_decimal.ensures.value ∙ (λ i. (c.put_sign.ensures.value ∙ ap (λ z. old ++ sign_text z) read) i ++ decimal (size i)) ∙ append_assoc old (sign_text cost) (decimal (nat_abs cost))
     ∙ ap (λ (t : List ℕ). old ++ t) (signed-is cost)

@@ -15,7 +15,7 @@ returns-clause-text c =
     let units = c.args.units in
     let row = c.args.row.now in
     let read = to_z-of_z w32 units c.ranges.units in
-    let size : c.unsigned_abs.result ≡ nat_abs units = c.unsigned_abs.ensures.value ∙ ap nat_abs read in
+    let size : c.magnitude.result ≡ nat_abs units = c.magnitude.ensures ∙ ap nat_abs read in
     c.put_magnitude.ensures.text
     ∙ (λ i. (c.put_sign.ensures.value ∙ ap (λ z. row ++ sign_text z) read) i ++ magnitude_text (size i))
     ∙ append_assoc row (sign_text units) (magnitude_text (nat_abs units))

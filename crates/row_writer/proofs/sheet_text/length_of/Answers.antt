@@ -10,8 +10,8 @@ pub loop-i-init : goal.loop-i-init
 loop-i-init c =
     let node = c.args.source.now in
     let row = row_from (parts_of node.sheet.bytes.now) node.node node.first in record {
-      value = omega (arith, c.len-size.ensures, ap length c.final_row.ensures.text, ap length (texts-none row));
-      most = omega (arith, c.len-size.ensures, c.final_row.ensures.upper_bound);
+      value = omega (arith, c.final_length-size.ensures.value, ap length (texts-none row));
+      most = omega (arith, c.final_length-size.ensures.upper_bound);
     }
 
 pub loop-i-preserved : goal.loop-i-preserved
@@ -19,8 +19,8 @@ loop-i-preserved c =
     let node = c.args.source.now in
     let turn = c.loop-i in
     let row = row_from (parts_of node.sheet.bytes.now) node.node node.first in record {
-      value = omega (arith, turn.invariant.value, c.len-size-in-loop-i.ensures, ap length c.link_row.ensures.text, ap length (texts-more row turn.i), length-append (texts row turn.i) (row turn.i));
-      most = omega (arith, turn.invariant.most, c.len-size-in-loop-i.ensures, c.link_row.ensures.upper_bound);
+      value = omega (arith, turn.invariant.value, c.link_length-size.ensures.value, ap length (texts-more row turn.i), length-append (texts row turn.i) (row turn.i));
+      most = omega (arith, turn.invariant.most, c.link_length-size.ensures.upper_bound);
     }
 
 pub returns-clause-value : goal.returns-clause-value

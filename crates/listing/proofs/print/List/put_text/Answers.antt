@@ -8,15 +8,15 @@ use Rattle.sheet.specs.Machine.{machine}
 use Rattle.listing.specs.Text.{first_line}
 use Rattle.listing.specs.Printed.{list_for, reading_line, reading_lines}
 use Rattle.listing.proofs.Listings.{told-count, held-few, lines_next}
-use Rattle.listing.proofs.print.List.text.Goals as goal
+use Rattle.listing.proofs.print.List.put_text.Goals as goal
 
 pub loop-k-init : goal.loop-k-init
 unfolding reading_lines
 loop-k-init c =
     let l = c.args.self.now in
     let count = told-count l.sheet.now l.bytes l.n l.res.now l.made.nodes l.made.links l.answer c.in-Ok.count c.in-Ok.ensures.counts_list in record {
-      text = c.put_first_line.ensures.text ∙ (λ i. c.new-page.ensures i ++ first_line (count i) l.made.taken) ∙ sym (append-nil (first_line (length (list_for (machine l.sheet.now) l.n)) l.made.taken));
-      bound = omega (arith, c.put_first_line.ensures.upper_bound, ap length c.new-page.ensures);
+      text = c.put_first_line.ensures.text ∙ (λ i. c.requires.empty i ++ first_line (count i) l.made.taken) ∙ sym (append-nil (first_line (length (list_for (machine l.sheet.now) l.n)) l.made.taken));
+      bound = omega (arith, c.put_first_line.ensures.upper_bound, ap length c.requires.empty);
     }
 
 pub put_reading-requires : goal.put_reading-requires

@@ -5,7 +5,7 @@ use lib.ListN.{length, take}
 use Rattle.sheet.specs.Machine.{machine}
 use Rattle.listing.specs.Text.{first_line}
 use Rattle.listing.specs.Printed.{line_most, list_for, reading_lines}
-use Rattle.listing.proofs.print.List.text.Given as goal
+use Rattle.listing.proofs.print.List.put_text.Given as goal
 
 abbrev pub invariant-loop-k : goal.invariant-loop-k
 invariant-loop-k l =
