@@ -12,15 +12,15 @@ use Rattle.std.specs.Prelude.{Result, Ok, Err}
 use Rattle.sheet.specs.declared.refusal.Refusal.{Refusal}
 use Rattle.sheet.specs.declared.refusal.Refusal.TheVariants as Refusal
 use Rattle.sheet.specs.Refusals.{number_of, number_in}
-use Rattle.sheet.proofs.Refusals.{number-positive, answer-ok, answer-none}
+use Rattle.sheet.proofs.Refusals.{number-positive, answer-ok, answer-none, answer-some}
 use Rattle.sheet.specs.Sheet.{Parts, parts_of, read_number, verdict, sizes_fit, nodes_fit, unit_fits, start_fits, nexts_fit, weights_fit, node_count}
 use Rattle.sheet.proofs.Round.{Below}
 use Rattle.text_rows.specs.Convert.{rows_number, sheet_of_rows}
 use Rattle.text_rows.specs.Written.{has_rows, text_of, text_number, text_over}
-use Rattle.rows.specs.Answers.{text_answer, Returned, NoText}
+use Rattle.rows.specs.Answers.{text_answer, text_measured, Returned, NoText}
 use Rattle.rows.proofs.Making as Making
 use Rattle.decimals.proofs.Storing.{sets-front}
-use Rattle.text_rows.proofs.RowsBack.{sheet-back, text-number}
+use Rattle.text_rows.proofs.RowsBack.{written-number, sheet-back, text-number}
 
 module _ (bytes : List ℕ) where
   abbrev p : Parts
@@ -70,6 +70,14 @@ module _ (bytes : List ℕ) where
       go true q false h c s = refl
       go true q true h true s = absurd (omega (arith, sym (number-has room (eqb-true (read_number bytes) 0 q) true h ∙ ap (λ (c : Bool). cond c 21 0) s) ∙ e))
       go true q true h false s = absurd (omega (arith, sym (number-has room (eqb-true (read_number bytes) 0 q) true h ∙ ap (λ (c : Bool). cond c 21 0) s) ∙ e))
+
+  -- ---- what a length that is told says of the sheet
+  pub passed : (n : ℕ) → text_measured bytes ≡ Ok n
+      → (read_number bytes ≡ 0) × (has_rows p ≡ true) × (n ≡ length (text_of p))
+  passed n e =
+      let told = answer-some (length (text_of p)) (text_number bytes (length (text_of p))) n (sym e) in
+      let r = written-number bytes (length (text_of p)) told.0 in
+      (r.0, r.1, told.1)
 
   -- ---- writing
   module _ (old : List ℕ) where

@@ -9,10 +9,11 @@ use Rattle.sheet.specs.declared.tr.Trailer.{Trailer}
 use Rattle.sheet.specs.declared.refusal.Refusal.{Refusal}
 use Rattle.sheet.specs.Refusals.{number_of}
 use Rattle.sheet.specs.Below.{list_below}
-use Rattle.sheet.specs.Records.{mark_at, final_at}
+use Rattle.sheet.specs.Records.{mark_at, final_at, trailer_at}
+use Rattle.sheet.specs.Answers.{tested}
 use Rattle.sheet.specs.Sheet.{unit_of, mark, final_bits, parts_of, read_number, stated_links, stated_nodes, trailer_field}
 use Rattle.sheet.specs.Machine.{machine_of, machine, unit_in, final_of, start_field}
-use Rattle.sheet.proofs.Refusals.{answer-ok, answer-none}
+use Rattle.sheet.proofs.Refusals.{answer-ok, answer-some, answer-none}
 use Rattle.sheet.proofs.Below.{list_below-same}
 use Rattle.sheet.proofs.Fields.{read-fields}
 use Rattle.machine.specs.Readings.{marked}
@@ -47,15 +48,20 @@ module _ (bytes : List ℕ) where
 pub counts-refused : (bytes : List ℕ) (r : Refusal) → number_of r ≡ read_number bytes → Err r ≡ counts_of bytes
 counts-refused bytes r e = answer-none (counts_in (machine bytes)) (read_number bytes) r e
 
-pub counts-told : (s : Sheet) (finals : ℕ) → finals ≡ final_count s.bytes.now s.links s.nodes → Ok (record { nodes = s.nodes; links = s.links; finals = finals; start = s.start }) ≡ counts_of s.bytes.now
-counts-told s finals f =
-    let bytes = s.bytes.now in
-    let nodes : s.nodes ≡ length (machine bytes).finals = ap (λ (t : Trailer). t.nodes) s.stated ∙ sym (nodes-stated bytes) in
-    let links : s.links ≡ length (machine bytes).links = ap (λ (t : Trailer). t.links) s.stated ∙ sym (links-stated bytes) in
-    let marks : finals ≡ marked (machine bytes).finals = f ∙ ap (λ (t : Trailer). final_count bytes t.links t.nodes) s.stated ∙ finals-stated bytes in
-    let start : s.start ≡ start_field (machine bytes).start = ap (λ (t : Trailer). t.start) s.stated ∙ start-stated bytes in
+-- of what reading accepts, by its trailer
+pub counts-of-trailer : (bytes : List ℕ) (t : Trailer) → read_number bytes ≡ 0 → t ≡ trailer_at bytes → (finals : ℕ) → finals ≡ final_count bytes t.links t.nodes → Ok (record { nodes = t.nodes; links = t.links; finals = finals; start = t.start }) ≡ counts_of bytes
+counts-of-trailer bytes t accepted stated finals f =
+    let nodes : t.nodes ≡ length (machine bytes).finals = ap (λ (t : Trailer). t.nodes) stated ∙ sym (nodes-stated bytes) in
+    let links : t.links ≡ length (machine bytes).links = ap (λ (t : Trailer). t.links) stated ∙ sym (links-stated bytes) in
+    let marks : finals ≡ marked (machine bytes).finals = f ∙ ap (λ (t : Trailer). final_count bytes t.links t.nodes) stated ∙ finals-stated bytes in
+    let start : t.start ≡ start_field (machine bytes).start = ap (λ (t : Trailer). t.start) stated ∙ start-stated bytes in
     let made : SheetCounts = counts_in (machine bytes) in
-    (λ i. Ok (record { nodes = nodes i; links = links i; finals = marks i; start = start i })) ∙ sym (answer-ok made (read_number bytes) s.accepted)
+    (λ i. Ok (record { nodes = nodes i; links = links i; finals = marks i; start = start i })) ∙ sym (answer-ok made (read_number bytes) accepted)
+
+pub counts-told : (bytes : List ℕ) (t : Trailer) → tested bytes ≡ Ok t → (finals : ℕ) → finals ≡ final_count bytes t.links t.nodes → Ok (record { nodes = t.nodes; links = t.links; finals = finals; start = t.start }) ≡ counts_of bytes
+counts-told bytes t e finals f =
+    let a = answer-some (trailer_at bytes) (read_number bytes) t (sym e) in
+    counts-of-trailer bytes t a.0 a.1 finals f
 
 -- ---- the unit
 pub unit-refused : (bytes : List ℕ) (r : Refusal) → number_of r ≡ read_number bytes → Err r ≡ unit_told bytes

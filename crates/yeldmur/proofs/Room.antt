@@ -1,13 +1,13 @@
 -- The areas are long enough for every list, and those for one reading for the distances. Assumes nothing.
 use mathlib.Core.Path.{◌≡◌, refl, sym, ap, ◌∙◌, subst}
-use mathlib.Core.Bool.{Bool, true, false, not, ◌&&◌, cond}
+use mathlib.Core.Bool.{Bool, true, false, not, ◌&&◌, cond, and-false}
 use mathlib.Core.List.{List}
 use Prim.Native.Nat.{ℕ, zero, suc, ◌+◌, ◌*◌, ◌/◌, ◌≤◌, ◌<◌}
 use native.Mathlib.Omega.{arith}
 use native.Mathlib.Nat.{le_of_eq, le_trans, mul-le-mul_left}
-use lib.Dec.{ltb}
+use lib.Dec.{leb, ltb}
 use lib.ListN.{length}
-use borrow.Author.Tests.{le-ltb, lt-ltb, le-leb, ltb-true, ltb-false}
+use borrow.Author.Tests.{le-ltb, lt-ltb, le-leb, lt-leb, ltb-true, ltb-false}
 use Rattle.tropical_weight.specs.Limits.{node_limit, link_limit, list_limit}
 use Rattle.sheet.specs.Sheet.{long_trailer, trailer_length}
 use Rattle.sheet.specs.Machine.{Machine, machine}
@@ -105,6 +105,12 @@ serves nodes links finals n slots bytes few s b sheet below ok hN hT hF =
 
 -- ---- the number by counts
 module _ (nodes links n : ℕ) where
+  pub counts-nodes : node_limit < nodes → counts_number nodes links n ≡ 5
+  counts-nodes h = ap {B = ℕ} (λ (b : Bool). cond (not (b && leb links link_limit)) 5 (cond (ltb list_limit n) 7 0)) (lt-leb nodes node_limit h)
+
+  pub counts-links : link_limit < links → counts_number nodes links n ≡ 5
+  counts-links h = ap {B = ℕ} (λ (b : Bool). cond (not b) 5 (cond (ltb list_limit n) 7 0)) (ap (λ (b : Bool). leb nodes node_limit && b) (lt-leb links link_limit h) ∙ and-false (leb nodes node_limit))
+
   module _ (few : nodes ≤ node_limit) (fewer : links ≤ link_limit) where
     counts-fit : counts_number nodes links n ≡ cond (ltb list_limit n) 7 0
     counts-fit = λ i. cond (not (le-leb nodes node_limit few i && le-leb links link_limit fewer i)) 5 (cond (ltb list_limit n) 7 0)

@@ -97,8 +97,8 @@ reading-known sheet n result states links k room =
 pub kept : (k new old : ℕ) → (k ≡ 0 → ⊥) → old ≡ cond (eqb k 0) new old
 kept k new old h = sym (ap (λ (b : Bool). cond b new old) (ne_eqb k 0 h))
 
--- first the number
-number-first : (a : Result ℕ Refusal) (old : ℕ) → (value_told a old).0 ≡ number_in a
+-- first the number, of any answer
+pub number-first : (a : Result ℕ Refusal) (old : ℕ) → (value_told a old).0 ≡ number_in a
 number-first (Ok value) old = refl
 number-first (Err r) old = refl
 
